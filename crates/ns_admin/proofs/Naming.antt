@@ -11,7 +11,7 @@ use Rattle.ns_types.specs.Asking.Admins.{with_namespace}
 use Rattle.ns_types.specs.State.Names.{Name, same_name}
 use Rattle.ns_types.specs.declared.allocation.Allocation.{Allocation}
 use Rattle.ns_types.specs.declared.resources.Resources.{Resources}
-use Rattle.ns_types.specs.State.Resources.{none}
+use Rattle.ns_types.specs.State.Resources.{each_resource, none, quantity}
 use Rattle.ns_types.specs.State.Rows.{Tenant, World, is_live}
 use Rattle.ns_types.specs.Working.Commit.{quota_named}
 use Rattle.ns_types.proofs.Named.{names, numbers, one_number, same_name_is}
@@ -20,6 +20,7 @@ use Rattle.ns_live.specs.declared.live.Live.{Live}
 use Rattle.ns_live.specs.Naming.{AreKept, AreNamed, HoldsSame, PutsQuota, use_in, with_quota, with_use}
 use Rattle.ns_live.proofs.QuotaLevels.{with_here}
 use Rattle.ns_live.proofs.Totals.{are_still_kept, free_moved}
+use Rattle.ns_world.proofs.Totals.{none_total}
 use Rattle.ns_world.specs.Allocations.{IsTotalOf, rows_use}
 use Rattle.ns_world.specs.Total.{IsTotal}
 use Rattle.ns_world.specs.declared.tables.Tables.{Tables}
@@ -60,7 +61,7 @@ module _ (name : Name) (w : World) where
   put_used namespace ns = ap use_of (get-insert names w.tenants name (with_namespace namespace (get w.tenants name)) ns) ∙ by (same_name ns name) refl
     where
       kept : (old : Option Tenant) → use_of (Some (with_namespace namespace old)) ≡ use_of old
-      kept None = λ i. record { cpu = ap (live_amount (λ r. r.cpu)) no_rows i; memory = ap (live_amount (λ r. r.memory)) no_rows i }
+      kept None = λ i. each_resource (λ r. ap (live_amount (quantity r)) no_rows i)
         where
           live_amount : (Resources → ℕ) → List (ℕ × Allocation) → ℕ
           live_amount amount es = sum_by (λ e. cond (is_live e.1) (amount e.1.size) 0) es
@@ -116,7 +117,7 @@ used_there t name x at total is = subst (IsTotal total) (sym (ap use_of (tenant_
 pub used_nowhere : (t : Tables) (name : Name) → row_at t.tenants name ≡ None → (total : Resources) → total ≡ none →
     IsTotal total (use_in (world_of t).tenants name)
 used_nowhere t name at total is = subst (λ r. IsTotal r (use_in (world_of t).tenants name)) (sym is)
-    (subst (IsTotal none) (sym (ap use_of (tenant_is t name None at))) (refl, refl))
+    (subst (IsTotal none) (sym (ap use_of (tenant_is t name None at))) none_total)
 
 -- a vacant slot at a quota is no name
 pub same_named : (w : World) (old new : Live) → HoldsSame old.quotas new.quotas → AreNamed w old → AreNamed w new

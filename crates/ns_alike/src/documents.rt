@@ -7,9 +7,9 @@ ghost use Rattle.ns_types.specs.Settling.Same.{same_constraint, same_document, s
 ghost use Rattle.ns_types.specs.Wire.Words.{operand_text, target_text};
 
 use crate::keys::same_number;
-use crate::offers::same_resources;
 use crate::rows::same_kind;
 use ns_types::job::{Constraint, Document, Group, Operand, Target, Task};
+use ns_types::resources::same_resources;
 use ns_types::text::same_text;
 
 fn same_operand(a: Operand, b: Operand) -> bool

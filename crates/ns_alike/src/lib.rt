@@ -13,6 +13,6 @@ pub use keys::{has_key, has_name, same_key, same_number};
 pub use limits::{changes_limits, limits_in};
 pub use ns_types::text::same_text;
 pub use offers::{
-    can_use, class_of, is_free, is_unique, same_attribute, same_class, same_offer, same_resources,
+    can_use, class_of, is_free, is_unique, same_attribute, same_class, same_offer,
 };
 pub use rows::{same_allocation, same_evaluation, same_job, same_with_status};

@@ -5,23 +5,14 @@ ghost use Rattle.std.specs.Cmp.Lexicographic.{pointwise};
 ghost use Rattle.std.specs.Ordering.{eq_by_cmp};
 ghost use Rattle.ns_types.specs.State.Names.{attribute_cmp, has_class, same_class};
 ghost use Rattle.ns_types.specs.Settling.Releases.{can_use, same_offer};
-ghost use Rattle.ns_types.specs.State.Resources.{same_resources};
 ghost use Rattle.ns_types.specs.State.Rows.{class_of, is_free, is_unique};
 
-use crate::keys::same_number;
 use ns_types::evaluation::Evaluation;
 use ns_types::node::{Attribute, Class, Node, NodeStatus, Offer};
-use ns_types::resources::Resources;
+use ns_types::resources::same_resources;
 use ns_types::rows::Rows;
 use ns_types::text::{Text, same_text};
 use std::alloc::{AllocError, Global};
-
-/// Whether the amounts are equal.
-pub fn same_resources(a: Resources, b: Resources) -> bool
-    ensures { result ≡ same_resources a b }
-{
-    same_number(a.cpu, b.cpu) && same_number(a.memory, b.memory)
-}
 
 /// Whether the attributes are equal.
 #[tactic(auto, using(crate::proofs::Equal::attribute_ties))]

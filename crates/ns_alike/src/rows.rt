@@ -10,10 +10,10 @@ ghost use Rattle.ns_types.specs.Wire.Words.{client_text, desired_text, kind_text
 
 use crate::documents::same_document;
 use crate::keys::same_number;
-use crate::offers::same_resources;
 use ns_types::allocation::{Allocation, ClientStatus, DesiredStatus};
 use ns_types::evaluation::{Evaluation, Status, Trigger};
 use ns_types::job::{Job, JobKind};
+use ns_types::resources::same_resources;
 use ns_types::text::{Text, same_text};
 
 pub fn same_kind(a: JobKind, b: JobKind) -> bool

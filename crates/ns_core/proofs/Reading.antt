@@ -15,7 +15,7 @@ use Rattle.ns_types.specs.State.Names.{Name}
 use Rattle.ns_types.specs.State.Rows.{State}
 use Rattle.ns_types.specs.State.Sums.{quota_use}
 use Rattle.ns_types.specs.Steps.{Makes, act}
-use Rattle.ns_types.proofs.LiveSums.{quota_small}
+use Rattle.ns_types.proofs.LiveSums.{quota_small, small_counted}
 use Rattle.ns_steps.specs.Answers.{answer_of}
 use Rattle.ns_steps.specs.Served.{only_reads, served_ask, served_node}
 use Rattle.ns_steps.proofs.Reading.{changes_lift, reads_make}
@@ -29,11 +29,7 @@ use Rattle.ns_core.proofs.Keeping.{within}
 -- ---- what is used of a quota
 
 pub usage_fits : (s : State) → IsValid s → (quota : Name) → IsCounted (quota_use s.world quota)
-usage_fits s valid quota =
-    let small = quota_small s.world quota valid.world in
-    let cpu = small.0 in
-    let memory = small.1 in
-    (omega (arith, cpu), omega (arith, memory))
+usage_fits s valid quota = small_counted (quota_use s.world quota) (quota_small s.world quota valid.world)
 
 pub uses_fit : (s : State) → IsValid s → (command : AskCommand) → UsageFits command s.world
 uses_fit s valid (AskCommand.QuotaUsage quota) = usage_fits s valid quota

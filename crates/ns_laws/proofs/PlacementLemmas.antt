@@ -7,6 +7,7 @@ use Rattle.std.specs.Cmp.{nat_cmp_is}
 use Rattle.std.specs.Ordering.{nat_cmp, ordering_then}
 use Rattle.std.proofs.lemmas.Bool.{leb-true, le-leb, eq-eqb, cases_lt}
 use Rattle.std.proofs.lemmas.Option.{none-some, same_Some}
+use Rattle.ns_types.proofs.Amounts.{every, within_at, within_from}
 use Rattle.ns_types.specs.declared.resources.Resources.{Resources}
 use Rattle.ns_types.specs.declared.snapshot.LiveAllocation.{LiveAllocation}
 use Rattle.ns_types.specs.Placing.Choice.{shortest_prefix}
@@ -25,7 +26,7 @@ use Rattle.std.specs.Option.{option_map_or, option_and_then}
 use Rattle.ns_types.specs.Placing.Planning.{Choice}
 use Rattle.ns_types.specs.State.Lists.{Each}
 use Rattle.std.specs.List.{list_any}
-use Rattle.ns_types.specs.State.Resources.{is_within}
+use Rattle.ns_types.specs.State.Resources.{Cpu, Memory, Resource, is_within, plus, quantity, total}
 
 -- ---- orders
 
@@ -48,33 +49,35 @@ second_less a b c d r h k = λ i. is_lt (ordering_then (equal_is a b h i) (order
 third_less : (a b c d : ℕ) (r : Ordering) → a ≡ b → c ≡ d → r ≡ Less → ranks a b c d r ≡ true
 third_less a b c d r h k e = λ i. is_lt (ordering_then (equal_is a b h i) (ordering_then (equal_is c d k i) (e i)))
 
+-- by two numbers, and then by a test
+abbrev left_ranks : ℕ → ℕ → ℕ → ℕ → Ordering → Bool
+left_ranks a b c d r = is_lt (ordering_then (ordering_then (nat_cmp a b) (nat_cmp c d)) r)
+
+first_left : (a b c d : ℕ) (r : Ordering) → a < b → left_ranks a b c d r ≡ true
+first_left a b c d r h = ap (λ o. is_lt (ordering_then (ordering_then o (nat_cmp c d)) r)) (less_is a b h)
+
+second_left : (a b c d : ℕ) (r : Ordering) → a ≡ b → c < d → left_ranks a b c d r ≡ true
+second_left a b c d r h k = λ i. is_lt (ordering_then (ordering_then (equal_is a b h i) (less_is c d k i)) r)
+
+third_left : (a b c d : ℕ) (r : Ordering) → a ≡ b → c ≡ d → r ≡ Less → left_ranks a b c d r ≡ true
+third_left a b c d r h k e = λ i. is_lt (ordering_then (ordering_then (equal_is a b h i) (equal_is c d k i)) (e i))
+
 -- ---- what the tests say
 
-cpu_fits : (size : Resources) (c : Candidate) → fits size c ≡ true → size.cpu ≤ c.left.cpu
-cpu_fits size c e = leb-true size.cpu c.left.cpu (first_of_both _ _ (second_of_both c.feasible _ e))
-
-memory_fits : (size : Resources) (c : Candidate) → fits size c ≡ true → size.memory ≤ c.left.memory
-memory_fits size c e = leb-true size.memory c.left.memory (second_of_both _ _ (second_of_both c.feasible _ e))
-
-two : (a b c d : ℕ) → (a ≤ b) × (c ≤ d) → (nat_le a b && nat_le c d) ≡ true
-two a b c d h = λ i. le-leb a b h.0 i && le-leb c d h.1 i
+fits_at : (size : Resources) (c : Candidate) → fits size c ≡ true → (r : Resource) → quantity r size ≤ quantity r c.left
+fits_at size c e = within_at size c.left (second_of_both c.feasible _ e)
 
 pub fits_where_room : law.FitsWhereRoom
 fits_where_room size node = (
-  (λ e. (first_of_both node.feasible (is_within size node.left) e, cpu_fits size node e, memory_fits size node e)),
-  (λ h. λ i. h.0 i && two size.cpu node.left.cpu size.memory node.left.memory (h.1, h.2) i),
+  (λ e. (first_of_both node.feasible (is_within size node.left) e, every (λ r. quantity r size ≤ quantity r node.left) (fits_at size node e))),
+  (λ h. λ i. h.0 i && within_from size node.left h.1 i),
 )
 
 pub room_is_made : law.RoomIsMade
 room_is_made size node gone =
-    let cpu = node.left.cpu + sum_by (λ a. a.size.cpu) gone in
-    let memory = node.left.memory + sum_by (λ a. a.size.memory) gone in (
-      (λ e. (
-        leb-true size.cpu cpu (first_of_both (nat_le size.cpu cpu) (nat_le size.memory memory) e),
-        leb-true size.memory memory
-            (second_of_both (nat_le size.cpu cpu) (nat_le size.memory memory) e),
-      )),
-      (λ h. two size.cpu cpu size.memory memory h),
+    let room = plus node.left (total (λ a. a.size) gone) in (
+      (λ e. every (λ r. quantity r size ≤ quantity r room) (within_at size room e)),
+      (λ h. within_from size room h),
     )
 
 -- from a start, the highest is at least the start and each, and it is the start or one of them
@@ -119,15 +122,15 @@ highest_is_highest first others =
 better_with_less : (size : Resources) (a b : Candidate) → fits size a ≡ true → fits size b ≡ true → HasLessLeft a b → better size a b ≡ true
 better_with_less size a b f g less = by less
   where
-    by : HasLessLeft a b → ranks (a.left.cpu - size.cpu) (b.left.cpu - size.cpu) (a.left.memory - size.memory) (b.left.memory - size.memory)
+    by : HasLessLeft a b → left_ranks (a.left.cpu - size.cpu) (b.left.cpu - size.cpu) (a.left.memory - size.memory) (b.left.memory - size.memory)
         (name_cmp a.name b.name) ≡ true
-    by (less_cpu h) = first_less (a.left.cpu - size.cpu) (b.left.cpu - size.cpu) (a.left.memory - size.memory) (b.left.memory - size.memory)
+    by (less_cpu h) = first_left (a.left.cpu - size.cpu) (b.left.cpu - size.cpu) (a.left.memory - size.memory) (b.left.memory - size.memory)
         (name_cmp a.name b.name)
-        (omega (arith, cpu_fits size a f, cpu_fits size b g, h))
-    by (less_memory e h) = second_less (a.left.cpu - size.cpu) (b.left.cpu - size.cpu) (a.left.memory - size.memory) (b.left.memory - size.memory)
+        (omega (arith, fits_at size a f Cpu, fits_at size b g Cpu, h))
+    by (less_memory e h) = second_left (a.left.cpu - size.cpu) (b.left.cpu - size.cpu) (a.left.memory - size.memory) (b.left.memory - size.memory)
         (name_cmp a.name b.name)
-        (ap (λ n. n - size.cpu) e) (omega (arith, memory_fits size a f, memory_fits size b g, h))
-    by (less_name e h n) = third_less (a.left.cpu - size.cpu) (b.left.cpu - size.cpu) (a.left.memory - size.memory) (b.left.memory - size.memory)
+        (ap (λ n. n - size.cpu) e) (omega (arith, fits_at size a f Memory, fits_at size b g Memory, h))
+    by (less_name e h n) = third_left (a.left.cpu - size.cpu) (b.left.cpu - size.cpu) (a.left.memory - size.memory) (b.left.memory - size.memory)
         (name_cmp a.name b.name)
         (ap (λ n. n - size.cpu) e) (ap (λ n. n - size.memory) h) n
 

@@ -1,9 +1,11 @@
 -- What live allocations take together stays small.
-use Rattle.std.specs.Prelude.{◌≡◌, ℕ}
+use Rattle.std.specs.Prelude.{◌≡◌, ◌<◌, ◌^◌, ℕ}
 use Rattle.std.proofs.Common.{arith}
+use Rattle.ns_types.proofs.Amounts.{every}
+use Rattle.ns_types.specs.State.Resources.{quantity}
 use Rattle.ns_types.specs.declared.resources.Resources.{Resources}
 use Rattle.ns_types.specs.State.Rows.{World}
-use Rattle.ns_types.proofs.LiveSums.{all_live, cpu_small, live_by_tenant, load_small, memory_small, quota_small}
+use Rattle.ns_types.proofs.LiveSums.{all_live, all_small, live_by_tenant, load_small, quota_small}
 use Rattle.ns_laws.specs.Sums as law
 use Rattle.ns_laws.specs.Sums.{live_sum}
 
@@ -12,10 +14,9 @@ unfolding live_sum
 live_rows w amount = live_by_tenant w amount
 
 pub live_use_is_small : law.LiveUseIsSmall
-live_use_is_small s valid =
-    let cpu = live_rows s.world (λ r. r.cpu) in
-    let memory = live_rows s.world (λ r. r.memory) in
-    (omega (arith, cpu, cpu_small s.world valid.world), omega (arith, memory, memory_small s.world valid.world))
+live_use_is_small s valid = every (λ r. live_sum s.world (quantity r) < 2 ^ 55) (λ r.
+    let rows = live_rows s.world (quantity r) in
+    omega (arith, rows, all_small s.world valid.world r))
 
 pub quota_use_is_small : law.QuotaUseIsSmall
 quota_use_is_small s quota valid = quota_small s.world quota valid.world

@@ -3,6 +3,7 @@ use Rattle.std.specs.Prelude.{◌≡◌, ℕ, ◌+◌, ◌<◌, ◌≤◌, ◌==
 use Rattle.std.specs.Prelude.{take, IsTrue, IsFalse, [], ◌↔◌, ◌∷◌, sum_by}
 use Rattle.std.specs.List.{AllPairs, list_any}
 use Rattle.std.specs.declared.cmp.Ordering.TheVariants.{Less}
+use Rattle.ns_types.specs.State.Resources.{InEach, quantity}
 use Rattle.ns_types.specs.declared.resources.Resources.{Resources}
 use Rattle.ns_types.specs.declared.snapshot.LiveAllocation.{LiveAllocation}
 use Rattle.ns_types.specs.State.Lists.{Each}
@@ -16,13 +17,12 @@ use Rattle.ns_types.specs.Placing.Planning.{Choice, choice}
 -- a node fits where the job may use it and no more is asked than is left
 abbrev pub FitsWhereRoom : Type 0
 FitsWhereRoom = (size : Resources) (node : Candidate)
-    → IsTrue (fits size node) ↔ (IsTrue node.feasible × (size.cpu ≤ node.left.cpu) × (size.memory ≤ node.left.memory))
+    → IsTrue (fits size node) ↔ (IsTrue node.feasible × InEach (λ r. quantity r size ≤ quantity r node.left))
 
 -- some make room where no more is asked than is left together with what they take
 abbrev pub RoomIsMade : Type 0
 RoomIsMade = (size : Resources) (node : Candidate) (gone : List LiveAllocation) → IsTrue (makes_room size node gone)
-    ↔ ((size.cpu ≤ node.left.cpu + sum_by (λ a. a.size.cpu) gone) ×
-    (size.memory ≤ node.left.memory + sum_by (λ a. a.size.memory) gone))
+    ↔ InEach (λ r. quantity r size ≤ quantity r node.left + sum_by (λ a. quantity r a.size) gone)
 
 -- the highest priority is one of theirs, and none of them has a higher one
 abbrev pub HighestIsHighest : Type 0

@@ -1,6 +1,7 @@
 -- Laws of sums: what live allocations take together stays small.
 use Rattle.std.specs.Prelude.{ℕ, sum_by}
 use Rattle.std.specs.FinMap.{entries}
+use Rattle.ns_types.specs.State.Resources.{each_resource, quantity}
 use Rattle.ns_types.specs.declared.resources.Resources.{Resources}
 use Rattle.ns_types.specs.State.Names.{Name}
 use Rattle.ns_types.specs.State.Rows.{State, World, is_live}
@@ -12,7 +13,7 @@ unfoldable pub live_sum : World → (Resources → ℕ) → ℕ
 live_sum w amount = sum_by (λ e. tenant_sum is_live amount e.1) (entries w.tenants)
 
 abbrev pub live_use : World → Resources
-live_use w = record { cpu = live_sum w (λ r. r.cpu); memory = live_sum w (λ r. r.memory) }
+live_use w = each_resource (λ r. live_sum w (quantity r))
 
 -- in a valid state all live allocations together take little
 abbrev pub LiveUseIsSmall : Type 0

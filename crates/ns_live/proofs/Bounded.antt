@@ -1,7 +1,6 @@
 -- Which loads fit 64 bits.
-use Rattle.std.specs.Prelude.{◌≡◌, ℕ, ◌<◌, ◌^◌, Bool, true, false, ◌&&◌, IsTrue, Option, Some, None, is_some, nat_le}
+use Rattle.std.specs.Prelude.{◌≡◌, ℕ, ◌<◌, ◌^◌, Bool, true, false, ◌&&◌, IsTrue, Option, Some, None, is_some}
 use Rattle.std.proofs.Common.{refl, sym, ap, arith, subst, ◌∙◌}
-use Rattle.std.proofs.lemmas.Bool.{leb-true}
 use Rattle.std.specs.FinMap.{get}
 use Rattle.std.specs.Option.{option_and_then, option_map_or}
 use Rattle.ns_types.specs.declared.allocation.Allocation.{Allocation}
@@ -9,29 +8,23 @@ use Rattle.ns_types.specs.declared.node.Node.{Node}
 use Rattle.ns_types.specs.declared.resources.Resources.{Resources}
 use Rattle.ns_types.specs.State.Limits.{is_amount}
 use Rattle.ns_types.specs.State.Names.{Name, Key, same_name}
-use Rattle.ns_types.specs.State.Resources.{IsCounted, is_within}
+use Rattle.ns_types.specs.State.Resources.{IsCounted, is_within, quantity}
 use Rattle.ns_types.specs.State.Rows.{World, Tenant, PoolRows, allocation_at, is_live, is_live_on, node_at}
-use Rattle.ns_types.specs.State.Sums.{node_load}
+use Rattle.ns_types.specs.State.Sums.{node_load, node_sum}
 use Rattle.ns_types.specs.Validity.{IsSound}
+use Rattle.ns_types.proofs.Amounts.{every, within_at}
+use Rattle.ns_types.proofs.LiveSums.{most_at}
 use Rattle.ns_types.proofs.Named.{first_of_both, same_name_is, second_of_both}
 use Rattle.ns_types.proofs.Tests.{not_Some}
 use Rattle.ns_live.specs.Loads.{IsWithinNodes}
 use Rattle.keyed.proofs.Levels.{not_true}
 use Rattle.ns_live.proofs.Loaded.{nothing_there}
 
-counted_by : (a most : ℕ) → nat_le a most ≡ true → nat_le most 2147483647 ≡ true → a < 2 ^ 64
-counted_by a most h k =
-    let first = leb-true a most h in
-    let last = leb-true most 2147483647 k in
-    omega (arith, first, last)
-
 below : (load most : Resources) → IsTrue (is_within load most) → IsTrue (is_amount most) → IsCounted load
-below load most h k = (
-  counted_by load.cpu most.cpu (first_of_both (nat_le load.cpu most.cpu) _ h)
-      (second_of_both (nat_le 1 most.cpu) _ (first_of_both (nat_le 1 most.cpu && nat_le most.cpu 2147483647) _ k)),
-  counted_by load.memory most.memory (second_of_both (nat_le load.cpu most.cpu) _ h)
-      (second_of_both (nat_le 1 most.memory) _ (second_of_both (nat_le 1 most.cpu && nat_le most.cpu 2147483647) _ k)),
-)
+below load most h k = every (λ r. quantity r load < 2 ^ 64) (λ r.
+    let less = within_at load most h r in
+    let few = most_at most k r in
+    omega (arith, less, few))
 
 module _ (w : World) (good : IsWithinNodes w) (pool node : Name) where
   nowhere : node_at w pool node ≡ None → (key : Key) → option_map_or (is_live_on pool node) (allocation_at w key) false ≡ false
@@ -55,9 +48,9 @@ module _ (w : World) (good : IsWithinNodes w) (pool node : Name) where
     where
       by : (r : Option Node) → node_at w pool node ≡ r → IsCounted (node_load w pool node)
       by None at =
-          let cpu = nothing_there w pool node (λ r. r.cpu) (nowhere at) in
-          let memory = nothing_there w pool node (λ r. r.memory) (nowhere at) in
-          (omega (arith, cpu), omega (arith, memory))
+          every (λ r. node_sum w pool node (quantity r) < 2 ^ 64) (λ r.
+          let nothing = nothing_there w pool node (quantity r) (nowhere at) in
+          omega (arith, nothing))
       by (Some row) at = below (node_load w pool node) row.offer.capacity (good.within pool node row at) (good.offers pool node row at)
 
 pub sound_within : (w : World) → IsSound w → IsWithinNodes w

@@ -1,5 +1,5 @@
 -- Loads and keys of nodes, level by level.
-use Rattle.std.specs.Prelude.{◌≡◌, false, Option, Some, None, is_some}
+use Rattle.std.specs.Prelude.{◌≡◌, ◌+◌, false, Option, Some, None, is_some}
 use Rattle.std.proofs.Common.{refl, sym}
 use Rattle.std.specs.Option.{option_map_or}
 use Rattle.keyed.specs.Levels.{Adds, Drops, Keeps, has_key_room, holds_key, holds_number}
@@ -8,7 +8,9 @@ use Rattle.keyed.specs.declared.key_set.KeySet.{KeySet}
 use Rattle.keyed.proofs.Levels.{not_true, says_nothing}
 use Rattle.ns_types.specs.declared.resources.Resources.{Resources}
 use Rattle.ns_types.specs.State.Names.{Key, Name, same_key}
-use Rattle.ns_types.specs.State.Resources.{none}
+use Rattle.ns_types.specs.State.Resources.{none, quantity}
+use Rattle.ns_types.proofs.Amounts.{every}
+use Rattle.ns_world.specs.Total.{IsAlike}
 use Rattle.ns_live.specs.declared.live.Live.{Live}
 use Rattle.ns_live.specs.declared.pool_keys.NodeKeys.{NodeKeys}
 use Rattle.ns_live.specs.declared.pool_keys.PoolKeys.{PoolKeys}
@@ -66,4 +68,4 @@ module _ (live : Live) (pool node : Name) where
 -- ---- what a change leaves of a load
 
 pub moves_none : (load : Resources) → MovesLoad none none load load
-moves_none load = (λ h. h, (refl, refl))
+moves_none load = (λ h. h, every (λ r. IsAlike (quantity r load + 0) (quantity r load + 0)) (λ r. refl))

@@ -12,7 +12,7 @@ use Rattle.keyed.proofs.RowSums.{sums_alike}
 use Rattle.ns_types.specs.declared.allocation.Allocation.{Allocation}
 use Rattle.ns_types.specs.declared.resources.Resources.{Resources}
 use Rattle.ns_types.specs.State.Names.{Name, Key, ByNumber}
-use Rattle.ns_types.specs.State.Resources.{IsCounted}
+use Rattle.ns_types.specs.State.Resources.{IsCounted, each_resource, quantity}
 use Rattle.ns_types.specs.State.Rows.{World, Tenant, allocation_at, is_live_on}
 use Rattle.ns_types.specs.State.Sums.{node_load, node_sum, tenant_sum}
 use Rattle.ns_types.proofs.Named.{names, numbers, one_name, one_number}
@@ -85,15 +85,12 @@ module _ (w : World) (pool node : Name) (amount : Resources → ℕ) where
   nothing_there none = loaded no_keys (λ key. says_nothing (λ (s : KeySet). s.numbers) holds_number no_keys refl key ∙ sym (none key))
       ∙ no_use row_of amount
 
--- ---- both resources
+-- ---- all resources
 
 module _ (w : World) (pool node : Name) where
   pub load_is : (keys : KeySet) → ((key : Key) → holds_key keys key ≡ option_map_or (is_live_on pool node) (allocation_at w key) false) →
       node_load w pool node ≡ keys_use (allocation_at w) keys
-  load_is keys right = λ i. record {
-    cpu = loaded w pool node (λ r. r.cpu) keys right i;
-    memory = loaded w pool node (λ r. r.memory) keys right i;
-  }
+  load_is keys right = λ i. each_resource (λ r. loaded w pool node (quantity r) keys right i)
 
   -- the load that is kept is the node's, where that fits
   pub kept_load : (live : Live) → IsRight w live → IsCounted (node_load w pool node) → load_at live pool node ≡ node_load w pool node

@@ -11,7 +11,8 @@ use Rattle.keyed.proofs.Tables.{entries-rows, get-rows}
 use Rattle.ns_types.specs.declared.resources.Resources.{Resources}
 use Rattle.ns_types.specs.State.Lists.{Each}
 use Rattle.ns_types.specs.State.Names.{ByName, Name}
-use Rattle.ns_types.specs.State.Resources.{IsCounted, none}
+use Rattle.ns_types.specs.State.Resources.{IsCounted, each_resource, none, quantity}
+use Rattle.ns_types.proofs.Amounts.{quantity_none, quantity_of}
 use Rattle.ns_types.specs.State.Rows.{Tenant, World, is_live}
 use Rattle.ns_types.specs.State.Sums.{names_quota, quota_sum, quota_use, tenant_sum}
 use Rattle.ns_types.specs.State.Tables.{any_row}
@@ -22,7 +23,7 @@ use Rattle.ns_types.proofs.Named.{names, one_name}
 use Rattle.ns_types.proofs.Sums.{sum_same}
 use Rattle.ns_types.proofs.Tables.{each_row}
 use Rattle.ns_types.proofs.Tests.{not_Some}
-use Rattle.ns_world.specs.Allocations.{rows_use}
+use Rattle.ns_world.specs.Allocations.{live_sum, rows_use}
 use Rattle.ns_world.specs.Total.{IsTotal}
 use Rattle.ns_world.proofs.Totals.{total_exact}
 use Rattle.ns_live.specs.declared.live.Live.{Live}
@@ -155,10 +156,8 @@ module _ (w : World) (live : Live) (named : AreNamed w live) (quota : Name) wher
       by (Some held) e = absurd (not_Some _ e)
 
   use_held : quota_use w quota ≡ names_use (use_in w.tenants) (names_at live.quotas quota)
-  use_held = λ i. record {
-    cpu = taken w quota (λ r. r.cpu) (λ t. refl) refl (names_at live.quotas quota) there_held i;
-    memory = taken w quota (λ r. r.memory) (λ t. refl) refl (names_at live.quotas quota) there_held i;
-  }
+  use_held = λ i. each_resource (λ r.
+      taken w quota (quantity r) (λ t. quantity_of (λ r. live_sum (quantity r) t.allocations) r) (quantity_none r) (names_at live.quotas quota) there_held i)
     where
       there_held : (ns : Name) → is_some (get (names_at live.quotas quota) ns) ≡ is_quota (quota_named w ns) quota
       there_held ns = held_get live.quotas quota ns ∙ named.names quota ns

@@ -10,11 +10,12 @@ use Rattle.keyed.proofs.Levels.{not_true, says_nothing}
 use Rattle.ns_types.specs.declared.allocation.Allocation.{Allocation}
 use Rattle.ns_types.specs.declared.resources.Resources.{Resources}
 use Rattle.ns_types.specs.State.Names.{Name, Key, same_name}
-use Rattle.ns_types.specs.State.Resources.{none}
+use Rattle.ns_types.specs.State.Resources.{none, quantity}
+use Rattle.ns_types.proofs.Amounts.{at, counted_at, every, quantity_none}
 use Rattle.ns_types.specs.State.Rows.{is_live, is_live_on}
 use Rattle.ns_types.proofs.Named.{first_of_both, same_key_refl, same_name_is, second_of_both}
 use Rattle.ns_world.specs.Total.{IsAlike, IsTotal}
-use Rattle.ns_world.proofs.Totals.{total_counted}
+use Rattle.ns_world.proofs.Totals.{moves_at, total_counted}
 use Rattle.ns_live.specs.declared.live.Live.{Live}
 use Rattle.ns_live.specs.Index.{Indexes, holds, with_row}
 use Rattle.ns_live.specs.Levels.{keys_at, load_at, no_keys, stands_at}
@@ -65,10 +66,10 @@ pub still_loaded : (row_of rows : RowOf) (old new : Live) → Indexes row_of old
     ((pool node : Name) (key : Key) → live_row pool node (rows key) ≡ live_row pool node (row_of key)) → Indexes rows new
 still_loaded row_of rows old new right keys loads same = record {
   keys = keys;
-  loads = λ pool node. (
-    ap (λ r. r.cpu) (loads pool node) ∙ (right.loads pool node).0 ∙ sym (ap (λ n. n % 2 ^ 64) (sums (λ r. r.cpu) refl pool node)),
-    ap (λ r. r.memory) (loads pool node) ∙ (right.loads pool node).1 ∙ sym (ap (λ n. n % 2 ^ 64) (sums (λ r. r.memory) refl pool node)),
-  );
+  loads = λ pool node. every (λ r. quantity r (load_at new pool node) ≡ keys_amount rows (keys_at new pool node) (quantity r) % 2 ^ 64) (λ r.
+      ap (quantity r) (loads pool node)
+      ∙ at (λ r. quantity r (load_at old pool node) ≡ keys_amount row_of (keys_at old pool node) (quantity r) % 2 ^ 64) (right.loads pool node) r
+      ∙ sym (ap (λ n. n % 2 ^ 64) (sums (quantity r) (quantity_none r) pool node)));
 }
   where
     sums : (amount : Resources → ℕ) → amount none ≡ 0 → (pool node : Name) →
@@ -84,10 +85,8 @@ pub empty_indexes : (rows : RowOf) (live : Live) → KeysRight rows live → ((p
     ((pool node : Name) (key : Key) → live_row pool node (rows key) ≡ None) → Indexes rows live
 empty_indexes rows live right loads dead = record {
   keys = right;
-  loads = λ pool node. (
-    ap (λ r. r.cpu) (loads pool node) ∙ sym (ap (λ n. n % 2 ^ 64) (nothing (λ r. r.cpu) refl pool node)),
-    ap (λ r. r.memory) (loads pool node) ∙ sym (ap (λ n. n % 2 ^ 64) (nothing (λ r. r.memory) refl pool node)),
-  );
+  loads = λ pool node. every (λ r. quantity r (load_at live pool node) ≡ keys_amount rows (keys_at live pool node) (quantity r) % 2 ^ 64) (λ r.
+      ap (quantity r) (loads pool node) ∙ quantity_none r ∙ sym (ap (λ n. n % 2 ^ 64) (nothing (quantity r) (quantity_none r) pool node)));
 }
   where
     nothing : (amount : Resources → ℕ) → amount none ≡ 0 → (pool node : Name) → keys_amount rows (keys_at live pool node) amount ≡ 0
@@ -130,17 +129,18 @@ module _ (row_of : RowOf) (key : Key) (before after : Option Allocation) (old ne
         by pool node true t =
             let m = moves pool node t in
             let total = right.loads pool node in
-            let counted = m.0 (total_counted _ _ total) in (
-              total_at _ _ _ _ _ _ total.0 counted.0 m.1.0 (sums_moved (λ r. r.cpu) refl pool node),
-              total_at _ _ _ _ _ _ total.1 counted.1 m.1.1 (sums_moved (λ r. r.memory) refl pool node),
-            )
+            let counted = m.0 (total_counted _ _ total) in
+            every (λ r. quantity r (load_at new pool node) ≡ keys_amount rows (keys_at new pool node) (quantity r) % 2 ^ 64) (λ r.
+            total_at _ _ _ _ _ _
+            (at (λ r. quantity r (load_at old pool node) ≡ keys_amount row_of (keys_at old pool node) (quantity r) % 2 ^ 64) total r)
+            (counted_at (load_at new pool node) counted r)
+            (moves_at (taken pool node before) (taken pool node after) (load_at old pool node) (load_at new pool node) m.1 r)
+            (sums_moved (quantity r) (quantity_none r) pool node))
         by pool node false t =
-            let bare = nothing_stands new pool node t in (
-              ap (λ r. r.cpu) bare.0
-                  ∙ sym (ap (λ n. n % 2 ^ 64) (ap (λ ks. keys_amount rows ks (λ r. r.cpu)) bare.1 ∙ no_use rows (λ r. r.cpu))),
-              ap (λ r. r.memory) bare.0
-                  ∙ sym (ap (λ n. n % 2 ^ 64) (ap (λ ks. keys_amount rows ks (λ r. r.memory)) bare.1 ∙ no_use rows (λ r. r.memory))),
-            )
+            let bare = nothing_stands new pool node t in
+            every (λ r. quantity r (load_at new pool node) ≡ keys_amount rows (keys_at new pool node) (quantity r) % 2 ^ 64) (λ r.
+            ap (quantity r) bare.0 ∙ quantity_none r
+            ∙ sym (ap (λ n. n % 2 ^ 64) (ap (λ ks. keys_amount rows ks (quantity r)) bare.1 ∙ no_use rows (quantity r))))
 
 -- ---- the row comes
 
@@ -232,12 +232,16 @@ module _ (before after : Option Allocation) (old made : Live) (adds : AddsLoad b
       went_from pool node still =
           let first = adds pool node in
           let later = leaves pool node still in
-          let cpu_is = gone_is (λ r. r.cpu) refl pool node in
-          let memory_is = gone_is (λ r. r.memory) refl pool node in
-          let cpu_first = first.1.0 in
-          let cpu_later = later.1.0 in
-          let memory_first = first.1.1 in
-          let memory_later = later.1.1 in (
+          let here : Resources = if lives pool node then taken pool node before else none in
+          let there = part_at row.pool row.node pool node (taken row.pool row.node before) in
+          let kept = load_at old pool node in
+          let mid = load_at made pool node in
+          let now = load_at new pool node in (
             λ counted. later.0 (first.0 counted),
-            (omega (arith, cpu_is, cpu_first, cpu_later), omega (arith, memory_is, memory_first, memory_later)),
+            every (λ r. IsAlike (quantity r now + quantity r (taken pool node before)) (quantity r kept + quantity r (taken pool node after))) (λ r.
+                let is = gone_is (quantity r) (quantity_none r) pool node in
+                let came = moves_at here (taken pool node after) kept mid first.1 r in
+                let went = moves_at there none mid now later.1 r in
+                let nothing = quantity_none r in
+                omega (arith, is, came, went, nothing)),
           )

@@ -10,12 +10,14 @@ use Rattle.keyed.proofs.Tables.{get-rows}
 use Rattle.keyed.proofs.Values.{begun_value, put_apart, same_value, slot_value}
 use Rattle.ns_types.specs.declared.resources.Resources.{Resources}
 use Rattle.ns_types.specs.State.Names.{ByName, Name, name_cmp, same_name}
-use Rattle.ns_types.specs.State.Resources.{IsCounted, none}
+use Rattle.ns_types.specs.State.Resources.{InEach, IsCounted, each_resource, none, quantity}
+use Rattle.ns_types.proofs.Amounts.{at, counted_at, every}
 use Rattle.ns_types.proofs.Named.{names, one_name, same_name_is, same_name_refl}
 use Rattle.ns_types.proofs.Sums.{sum_same}
 use Rattle.ns_types.proofs.TableRows.{entries_empty}
 use Rattle.ns_types.proofs.Tables.{each_row}
 use Rattle.ns_types.proofs.Taken.{at_row, sum_set, sum_split}
+use Rattle.ns_world.proofs.Totals.{moves_at, none_total, total_in_each}
 use Rattle.ns_world.specs.Total.{IsAlike, IsTotal, Moves}
 use Rattle.ns_live.specs.declared.naming.QuotaNames.{QuotaNames}
 use Rattle.ns_live.specs.declared.naming.QuotaUse.{QuotaUse}
@@ -115,21 +117,18 @@ shifted : (old new sum now before after b a : ℕ) → old ≡ sum % 2 ^ 64 → 
 shifted old new sum now before after b a was gone come moved small exact = omega (arith, was, gone, come, moved, small, exact)
 
 total_shifted : (old new before after b a sum now : Resources) → Moves before after old new → IsCounted new → IsTotal before b → IsTotal after a →
-    IsTotal old sum → now.cpu + b.cpu ≡ sum.cpu + a.cpu → now.memory + b.memory ≡ sum.memory + a.memory → IsTotal new now
-total_shifted old new before after b a sum now moved counted gone come was cpu memory = (
-  shifted old.cpu new.cpu sum.cpu now.cpu before.cpu after.cpu b.cpu a.cpu was.0 gone.0 come.0 moved.0 counted.0 cpu,
-  shifted old.memory new.memory sum.memory now.memory before.memory after.memory b.memory a.memory was.1 gone.1 come.1 moved.1 counted.1 memory,
-)
+    IsTotal old sum → InEach (λ r. quantity r now + quantity r b ≡ quantity r sum + quantity r a) → IsTotal new now
+total_shifted old new before after b a sum now moved counted gone come was exact = every (λ r. quantity r new ≡ quantity r now % 2 ^ 64) (λ r.
+    shifted (quantity r old) (quantity r new) (quantity r sum) (quantity r now) (quantity r before) (quantity r after) (quantity r b) (quantity r a)
+    (total_in_each old sum was r) (total_in_each before b gone r) (total_in_each after a come r) (moves_at before after old new moved r)
+    (counted_at new counted r) (at (λ r. quantity r now + quantity r b ≡ quantity r sum + quantity r a) exact r))
 
 abbrev pub IsTotalAt : (Name → Resources) → QuotaNames → Name → Type 0
 IsTotalAt use_of held q = IsTotal (total_at held q) (names_use use_of (names_at held q))
 
 -- where no namespace is held, there is none
 total_nothing : (use_of : Name → Resources) → IsTotal none (names_use use_of empty)
-total_nothing use_of = (
-  ap (λ n. n % 2 ^ 64) (sym (sum_nothing use_of (λ r. r.cpu))),
-  ap (λ n. n % 2 ^ 64) (sym (sum_nothing use_of (λ r. r.memory))),
-)
+total_nothing use_of = every (λ r. 0 ≡ sum_of use_of (quantity r) empty % 2 ^ 64) (λ r. ap (λ n. n % 2 ^ 64) (sym (sum_nothing use_of (quantity r))))
 
 pub total_gone : (use_of : Name → Resources) (held : QuotaNames) (q : Name) → row_at held.quotas q ≡ None → IsTotalAt use_of held q
 total_gone use_of held q is = subst (λ r. IsTotal (option_map_or (λ (u : QuotaUse). u.total) r none)
@@ -153,9 +152,10 @@ module _ (use_of : Name → Resources) (old new : QuotaNames) (q : Name) (right 
         let free_there = held_get old q ns ∙ free in
         subst (λ m. IsTotal (total_at new q) (names_use use_of m)) (sym (added_there old new q ns held))
         (total_shifted (total_at old q) (total_at new q) none used none (use_of ns) (names_use use_of (names_at old q))
-        (names_use use_of (insert (names_at old q) ns tt)) moved counted (refl, refl) is right
-        (plain _ _ (sum_added use_of (λ r. r.cpu) (names_at old q) ns free_there))
-        (plain _ _ (sum_added use_of (λ r. r.memory) (names_at old q) ns free_there)))
+        (names_use use_of (insert (names_at old q) ns tt)) moved counted none_total is right
+        (every
+        (λ r. sum_of use_of (quantity r) (insert (names_at old q) ns tt) + 0 ≡ sum_of use_of (quantity r) (names_at old q) + quantity r (use_of ns)) (λ r.
+        plain _ _ (sum_added use_of (quantity r) (names_at old q) ns free_there))))
       where
         plain : (a b : ℕ) → a ≡ b → a + 0 ≡ b
         plain a b e = omega (arith, e)
@@ -166,9 +166,10 @@ module _ (use_of : Name → Resources) (old new : QuotaNames) (q : Name) (right 
         let here = held_get old q ns ∙ there in
         subst (λ m. IsTotal (total_at new q) (names_use use_of m)) (sym (dropped_there old new q ns held))
         (total_shifted (total_at old q) (total_at new q) used none (use_of ns) none (names_use use_of (names_at old q))
-        (names_use use_of (remove (names_at old q) ns)) moved counted is (refl, refl) right
-        (turned _ (use_of ns).cpu _ (sum_dropped use_of (λ r. r.cpu) (names_at old q) ns here))
-        (turned _ (use_of ns).memory _ (sum_dropped use_of (λ r. r.memory) (names_at old q) ns here)))
+        (names_use use_of (remove (names_at old q) ns)) moved counted is none_total right
+        (every
+        (λ r. sum_of use_of (quantity r) (remove (names_at old q) ns) + quantity r (use_of ns) ≡ sum_of use_of (quantity r) (names_at old q) + 0) (λ r.
+        turned _ (quantity r (use_of ns)) _ (sum_dropped use_of (quantity r) (names_at old q) ns here))))
       where
         turned : (a b c : ℕ) → a ≡ b + c → c + b ≡ a + 0
         turned a b c e = omega (arith, e)
@@ -177,10 +178,8 @@ module _ (use_of : Name → Resources) (old new : QuotaNames) (q : Name) (right 
     -- another namespace's quota
     pub total_apart : holds_at old (q, ns) ≡ false → total_at new q ≡ total_at old q → IsTotalAt (with_use ns used use_of) new q
     total_apart free is =
-        let apart : names_use (with_use ns used use_of) (names_at old q) ≡ names_use use_of (names_at old q) = λ i. record {
-          cpu = sum_apart use_of ns used (λ r. r.cpu) (names_at old q) (held_get old q ns ∙ free) i;
-          memory = sum_apart use_of ns used (λ r. r.memory) (names_at old q) (held_get old q ns ∙ free) i;
-        } in
+        let apart : names_use (with_use ns used use_of) (names_at old q) ≡ names_use use_of (names_at old q) =
+        λ i. each_resource (λ r. sum_apart use_of ns used (quantity r) (names_at old q) (held_get old q ns ∙ free) i) in
         subst (λ t. IsTotal t (names_use (with_use ns used use_of) (names_at new q))) (sym is)
         (subst (λ m. IsTotal (total_at old q) (names_use (with_use ns used use_of) m)) (sym (same_there old new q held))
         (subst (IsTotal (total_at old q)) (sym apart) right))
@@ -191,8 +190,10 @@ module _ (use_of : Name → Resources) (old new : QuotaNames) (q : Name) (right 
         subst (λ m. IsTotal (total_at new q) (names_use (with_use ns used use_of) m)) (sym (same_there old new q held))
         (total_shifted (total_at old q) (total_at new q) before after (use_of ns) used (names_use use_of (names_at old q))
         (names_use (with_use ns used use_of) (names_at old q)) moved counted was is right
-        (sum_changed use_of ns used (λ r. r.cpu) (names_at old q) (held_get old q ns ∙ there))
-        (sum_changed use_of ns used (λ r. r.memory) (names_at old q) (held_get old q ns ∙ there)))
+        (every
+        (λ r. sum_of (with_use ns used use_of) (quantity r) (names_at old q) + quantity r (use_of ns)
+        ≡ sum_of use_of (quantity r) (names_at old q) + quantity r used) (λ r.
+        sum_changed use_of ns used (quantity r) (names_at old q) (held_get old q ns ∙ there))))
 
 -- ---- one quota's total, where the rest stays
 

@@ -7,13 +7,10 @@ use Rattle.ns_types.specs.declared.resources.Resources.{Resources}
 use Rattle.ns_types.specs.declared.node.Node.{Node}
 use Rattle.ns_types.specs.State.Limits.{is_amount}
 use Rattle.ns_types.specs.State.Names.{Name, Key, ByNumber}
-use Rattle.ns_types.specs.State.Resources.{is_within}
+use Rattle.ns_types.specs.State.Resources.{each_resource, is_within, quantity}
 use Rattle.ns_types.specs.State.Rows.{World, allocation_at, is_live, node_at}
 use Rattle.ns_types.specs.State.Sums.{node_load}
 use Rattle.keyed.specs.declared.key_set.KeySet.{KeySet}
-
-abbrev pub each_resource : ((Resources → ℕ) → ℕ) → Resources
-each_resource sum = record { cpu = sum (λ r. r.cpu); memory = sum (λ r. r.memory) }
 
 -- what of a valid world keeps each node's load from passing 64 bits: live allocations are on nodes that are there, and
 -- these have room for them and offer no more than they may
@@ -47,4 +44,4 @@ abbrev pub keys_amount : (Key → Option Allocation) → KeySet → (Resources �
 keys_amount row_of keys amount = sum_by (namespace_amount row_of amount) (entries keys.numbers)
 
 abbrev pub keys_use : (Key → Option Allocation) → KeySet → Resources
-keys_use row_of keys = each_resource (keys_amount row_of keys)
+keys_use row_of keys = each_resource (λ r. keys_amount row_of keys (quantity r))

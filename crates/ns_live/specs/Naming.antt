@@ -7,14 +7,13 @@ use Rattle.keyed.specs.Levels.{at_name}
 use Rattle.keyed.specs.Table.{has_slot, row_at, rows}
 use Rattle.ns_types.specs.declared.resources.Resources.{Resources}
 use Rattle.ns_types.specs.State.Names.{ByName, Name, same_name}
-use Rattle.ns_types.specs.State.Resources.{none}
+use Rattle.ns_types.specs.State.Resources.{each_resource, none, quantity}
 use Rattle.ns_types.specs.State.Rows.{Tenant, World}
 use Rattle.ns_world.specs.Allocations.{rows_use}
 use Rattle.ns_world.specs.Total.{IsTotal}
 use Rattle.ns_live.specs.declared.live.Live.{Live}
 use Rattle.ns_live.specs.declared.naming.QuotaNames.{QuotaNames}
 use Rattle.ns_live.specs.declared.naming.QuotaUse.{QuotaUse}
-use Rattle.ns_live.specs.Loads.{each_resource}
 
 -- ---- the levels: a quota, and the names of its namespaces
 
@@ -56,7 +55,7 @@ AreNames quota_of names = (quota ns : Name) → holds_at names (quota, ns) ≡ i
 
 -- what the namespaces use together
 abbrev pub names_use : (Name → Resources) → ByName Unit → Resources
-names_use use_of names = each_resource (λ amount. sum_by (λ e. amount (use_of e.0)) (entries names))
+names_use use_of names = each_resource (λ r. sum_by (λ e. quantity r (use_of e.0)) (entries names))
 
 -- for each quota the total of what the namespaces that are held at it use
 abbrev pub AreTotals : (Name → Resources) → QuotaNames → Type 0

@@ -18,7 +18,8 @@ use Rattle.std.proofs.Math.Seq.{get_or-append_seam}
 use Rattle.ns_types.specs.declared.resources.Resources.{Resources}
 use Rattle.ns_types.specs.Placing.Placement.{Candidate, fits, better, compare_left}
 use Rattle.ns_types.specs.State.Names.{name_cmp}
-use Rattle.ns_types.specs.State.Resources.{minus}
+use Rattle.ns_types.specs.State.Resources.{by_each, minus, quantity}
+use Rattle.ns_types.proofs.Amounts.{by_each_total}
 use Rattle.ns_types.proofs.Choosing.{left_total}
 use Rattle.ns_types.proofs.Named.{names}
 use Rattle.ns_place.specs.declared.order.Rank.{Rank}
@@ -26,9 +27,8 @@ use Rattle.ns_place.specs.Order.{walk, Precedes, IsOrder, compare_ranks, nodes, 
 
 ranks_total : IsTotalOrder compare_ranks
 ranks_total =
-    then_total (on_total (λ (r : Rank). r.left.cpu) nat_cmp_total)
-    (then_total (on_total (λ (r : Rank). r.left.memory) nat_cmp_total)
-    (then_total (on_total (λ (r : Rank). r.name.now) names) (on_total (λ (r : Rank). r.node) nat_cmp_total)))
+    then_total (by_each_total (λ q (r : Rank). quantity q r.left))
+    (then_total (on_total (λ (r : Rank). r.name.now) names) (on_total (λ (r : Rank). r.node) nat_cmp_total))
 
 abbrev pub ranks_before : Rank → Rank → Bool
 ranks_before x y = is_lt (compare_ranks x y)
@@ -107,27 +107,25 @@ module _ (size : Resources) (cs : List Candidate) where
               (rising_push (nodes rs) r.node h.rising (subst (λ (n : ℕ). All (λ m. m < n) (nodes rs)) (sym at_i) (nodes_below i rs h)));
         }
 
--- a test of four parts, and the test of the first three
-first_three : (a b c k : Ordering) → is_lt (ordering_then a (ordering_then b (ordering_then c k))) ≡ false
-    → (is_lt (ordering_then a (ordering_then b c)) ≡ false) × (k ≡ Less → is_lt (ordering_reverse (ordering_then a (ordering_then b c))) ≡ true)
-first_three Less b c k e = absurd (true≢false e)
-first_three Greater b c k e = (refl, λ _. refl)
-first_three Equal Less c k e = absurd (true≢false e)
-first_three Equal Greater c k e = (refl, λ _. refl)
-first_three Equal Equal Less k e = absurd (true≢false e)
-first_three Equal Equal Greater k e = (refl, λ _. refl)
-first_three Equal Equal Equal k e = (refl, λ l. absurd (false≢true (sym e ∙ ap is_lt l)))
+-- a test of three parts, and the test of the first two
+first_two : (a b k : Ordering) → is_lt (ordering_then a (ordering_then b k)) ≡ false
+    → (is_lt (ordering_then a b) ≡ false) × (k ≡ Less → is_lt (ordering_reverse (ordering_then a b)) ≡ true)
+first_two Less b k e = absurd (true≢false e)
+first_two Greater b k e = (refl, λ _. refl)
+first_two Equal Less k e = absurd (true≢false e)
+first_two Equal Greater k e = (refl, λ _. refl)
+first_two Equal Equal Less e = absurd (true≢false e)
+first_two Equal Equal Greater e = (refl, λ l. absurd (false≢true (ap is_lt l)))
+first_two Equal Equal Equal e = (refl, λ l. absurd (false≢true (sym e ∙ ap is_lt l)))
 
 module _ (size : Resources) (x y : Rank) (c e : Candidate) (x_left : x.left ≡ minus c.left size) (x_name : x.name.now ≡ c.name)
     (y_left : y.left ≡ minus e.left size) (y_name : y.name.now ≡ e.name) where
-  left_is : ordering_then (nat_cmp y.left.cpu x.left.cpu) (ordering_then (nat_cmp y.left.memory x.left.memory) (name_cmp y.name.now x.name.now))
-      ≡ compare_left size e c
+  left_is : ordering_then (by_each quantity y.left x.left) (name_cmp y.name.now x.name.now) ≡ compare_left size e c
   left_is = rw (x_left, x_name, y_left, y_name) refl
 
   ranked : ranks_before y x ≡ false → (better size e c ≡ false) × (y.node < x.node → better size c e ≡ true)
   ranked h =
-      let p = first_three (nat_cmp y.left.cpu x.left.cpu) (nat_cmp y.left.memory x.left.memory) (name_cmp y.name.now x.name.now)
-      (nat_cmp y.node x.node) h in (
+      let p = first_two (by_each quantity y.left x.left) (name_cmp y.name.now x.name.now) (nat_cmp y.node x.node) h in (
         ap is_lt (sym left_is) ∙ p.0,
         λ lt. ap is_lt ((left_total size).antisymm c e ∙ ap ordering_reverse (sym left_is))
             ∙ p.1 (cond-true _ Less (cond (eqb y.node x.node) Equal Greater) (lt-ltb y.node x.node lt)),

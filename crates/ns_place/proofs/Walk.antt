@@ -13,6 +13,8 @@ use Rattle.std.proofs.lemmas.List.Elements.{All-head, All-tail, All-cons, All-ni
 use Rattle.ns_types.specs.declared.resources.Resources.{Resources}
 use Rattle.ns_types.specs.Placing.Placement.{Candidate, fits, better, best_fit}
 use Rattle.ns_types.specs.Placing.Planning.{placed_on, update}
+use Rattle.ns_types.specs.State.Resources.{Resource, none, quantity}
+use Rattle.ns_types.proofs.Amounts.{not_before}
 use Rattle.ns_types.proofs.Choosing.{better_order}
 use Rattle.ns_types.proofs.Named.{names}
 use Rattle.ns_place.specs.Laws.{ChangedAloneIsOrder, NextKeepsOrder}
@@ -23,22 +25,13 @@ itself : (size : Resources) (c : Candidate) → better size c c ≡ false
 itself size c = irreflexive (better size) (better_order size) c
 
 nobody : Candidate
-nobody = record { name = []; feasible = false; left = record { cpu = 0; memory = 0 }; evictable = [] }
-
--- what fell is not above what it was
-not_above : (a b : ℕ) (p : Ordering) → b ≤ a → is_lt p ≡ false → is_lt (ordering_then (nat_cmp a b) p) ≡ false
-not_above a b p le e =
-    elim (cases_eq a b) [
-      | inl same ↦ ap (λ (r : Ordering). is_lt (ordering_then r p)) (cond-false _ _ _ (le-ltb a b le) ∙ cond-true _ _ _ (eq-eqb a b same)) ∙ e
-      | inr apart ↦ ap (λ (r : Ordering). is_lt (ordering_then r p)) (cond-false _ _ _ (le-ltb a b le) ∙ cond-false _ _ _ (ne_eqb a b apart))
-    ]
+nobody = record { name = []; feasible = false; left = none; evictable = [] }
 
 -- a node that took the size is no worse than it was
 no_worse : (size : Resources) (c : Candidate) → better size c (placed_on size [] c) ≡ false
 no_worse size c =
-    not_above (c.left.cpu - size.cpu) ((placed_on size [] c).left.cpu - size.cpu) _ (omega arith)
-    (not_above (c.left.memory - size.memory) ((placed_on size [] c).left.memory - size.memory) _ (omega arith)
-    (ap is_lt (tied_itself names c.name)))
+    not_before (λ r (left : Resource → ℕ). left r - quantity r size) (λ r. quantity r c.left) (λ r. (quantity r c.left + 0) - quantity r size) _
+    (λ r. omega arith) (ap is_lt (tied_itself names c.name))
 
 not_bettered : (size : Resources) (c x : Candidate) → better size x c ≡ false → better size x (placed_on size [] c) ≡ false
 not_bettered size c x e = (better_order size).chain x c (placed_on size [] c) e (no_worse size c)

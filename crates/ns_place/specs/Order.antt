@@ -7,7 +7,7 @@ use Rattle.ns_place.specs.declared.order.Rank.{Rank}
 use Rattle.ns_types.specs.declared.resources.Resources.{Resources}
 use Rattle.ns_types.specs.Placing.Placement.{Candidate, fits, better}
 use Rattle.ns_types.specs.State.Names.{name_cmp}
-use Rattle.ns_types.specs.State.Resources.{minus}
+use Rattle.ns_types.specs.State.Resources.{by_each, minus, quantity}
 
 -- the places that are left to try for a size
 pub record Walk : Type 0 where
@@ -39,9 +39,8 @@ pub record IsNextNode (w : Walk) (cs : List Candidate) (k : ℕ) : Type 0 where
 -- what would be left of the node, then its name, then its place
 abbrev pub compare_ranks : Rank → Rank → Ordering
 compare_ranks =
-    then_cmp (on (λ r. r.left.cpu) nat_cmp)
-    (then_cmp (on (λ r. r.left.memory) nat_cmp)
-    (then_cmp (on (λ r. r.name.now) name_cmp) (on (λ r. r.node) nat_cmp)))
+    then_cmp (by_each (λ q r. quantity q r.left))
+    (then_cmp (on (λ r. r.name.now) name_cmp) (on (λ r. r.node) nat_cmp))
 
 abbrev pub nodes : List Rank → List ℕ
 nodes ranks = map (λ r. r.node) ranks

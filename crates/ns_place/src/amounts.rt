@@ -1,7 +1,7 @@
-//! What allocations take together, and what is left of an amount.
+//! What allocations take together.
 
 ghost use Rattle.std.specs.Prelude.{◌≡◌, map};
-ghost use Rattle.ns_types.specs.State.Resources.{IsCounted, minus, total};
+ghost use Rattle.ns_types.specs.State.Resources.{IsCounted, total};
 
 use ns_types::resources::{Resources, none, plus};
 use ns_types::snapshot::LiveAllocation;
@@ -16,14 +16,4 @@ pub(crate) fn total(allocations: &[&LiveAllocation]) -> Resources
         sum = plus(sum, allocation.size);
     }
     sum
-}
-
-/// What is left of `a` without `b`, of each resource nothing where `b` has more.
-pub fn less(a: Resources, b: Resources) -> Resources
-    ensures { result ≡ minus a b }
-{
-    Resources {
-        cpu: a.cpu.saturating_sub(b.cpu),
-        memory: a.memory.saturating_sub(b.memory),
-    }
 }

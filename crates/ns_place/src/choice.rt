@@ -4,7 +4,7 @@ ghost use Rattle.std.specs.Prelude.{◌≡◌, IsTrue};
 ghost use Rattle.ns_types.specs.Placing.Placement.{best_fit, better, fits};
 
 use crate::candidate::Candidate;
-use ns_types::resources::{Resources, is_within, minus};
+use ns_types::resources::{Resources, compare, is_within, minus};
 
 /// Whether the job may use the node, and the size has room there.
 pub(crate) fn fits(candidate: &Candidate<'_>, size: Resources) -> bool
@@ -20,9 +20,7 @@ fn is_better(candidate: &Candidate<'_>, other: &Candidate<'_>, size: Resources) 
 {
     let mine = minus(candidate.left(), size);
     let others = minus(other.left(), size);
-    mine.cpu
-        .cmp(&others.cpu)
-        .then(mine.memory.cmp(&others.memory))
+    compare(mine, others)
         .then(candidate.name().cmp(other.name()))
         .is_lt()
 }

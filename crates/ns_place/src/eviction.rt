@@ -5,10 +5,9 @@ ghost use Rattle.ns_types.specs.Placing.Planning.{counts_for, eviction_of, place
 ghost use Rattle.ns_types.specs.Placing.Preemption.{makes_room};
 ghost use Rattle.ns_types.specs.State.Resources.{IsCounted, minus, plus, total};
 
-use crate::amounts::less;
 use crate::candidate::Candidate;
 use ns_types::plan::Eviction;
-use ns_types::resources::{Resources, plus};
+use ns_types::resources::{Resources, less, plus};
 use ns_types::rows::Rows;
 use ns_types::snapshot::{LiveAllocation, QuotaSeen};
 use std::alloc::{AllocError, Global};

@@ -9,7 +9,6 @@ mod eviction;
 pub mod laws;
 mod order;
 
-pub use amounts::less;
 pub use candidate::Candidate;
 pub use choice::best_node;
 pub use constraints::{feasible, holds};

@@ -9,7 +9,7 @@ ghost use Rattle.ns_place.specs.Order.{AreRanks, IsNextNode, IsOrder, compare_ra
 
 use crate::candidate::Candidate;
 use crate::choice::fits;
-use ns_types::resources::{Resources, minus};
+use ns_types::resources::{self, Resources, minus};
 use ns_types::text::Text;
 use std::alloc::{AllocError, Global};
 use std::cmp::Ordering;
@@ -26,12 +26,9 @@ struct Rank<'a> {
 fn compare(a: &Rank<'_>, b: &Rank<'_>) -> Ordering
     ensures { result ≡ compare_ranks a.now b.now }
 {
-    match a.left.cpu.cmp(&b.left.cpu) {
-        Ordering::Equal => match a.left.memory.cmp(&b.left.memory) {
-            Ordering::Equal => a.name.cmp(b.name).then(a.node.cmp(&b.node)),
-            by_memory => by_memory,
-        },
-        by_cpu => by_cpu,
+    match resources::compare(a.left, b.left) {
+        Ordering::Equal => a.name.cmp(b.name).then(a.node.cmp(&b.node)),
+        by_left => by_left,
     }
 }
 

@@ -1,5 +1,5 @@
 -- The state after the stops, row by row and sum by sum.
-use Rattle.std.specs.Prelude.{◌≡◌, ℕ, ◌+◌, ◌++◌, Bool, true, false, cond, List, [], ◌∷◌, Option, Some, None, ◌&&◌, ◌||◌, filter, is_some, not, option_map}
+use Rattle.std.specs.Prelude.{◌≡◌, ◌-◌, ℕ, ◌+◌, ◌++◌, Bool, true, false, cond, List, [], ◌∷◌, Option, Some, None, ◌&&◌, ◌||◌, filter, is_some, not, option_map}
 use Rattle.std.specs.Prelude.{sum_by}
 use Rattle.std.proofs.Common.{◌<◌, append_assoc, get_or, length, take, add-one, refl, sym, ap, ◌∙◌, arith}
 use Rattle.std.proofs.Math.Seq.{take-suc}
@@ -12,7 +12,7 @@ use Rattle.ns_types.specs.declared.allocation.Allocation.{Allocation}
 use Rattle.ns_types.specs.declared.plan.Eviction.{Eviction}
 use Rattle.ns_types.specs.declared.resources.Resources.{Resources}
 use Rattle.ns_types.specs.State.Names.{Key, Name, has_key, has_number, same_key, same_name, same_number}
-use Rattle.ns_types.specs.State.Resources.{minus, none, same_resources}
+use Rattle.ns_types.specs.State.Resources.{Resource, each_resource, minus, none, quantity, same_resources}
 use Rattle.ns_types.specs.State.Rows.{Tenant, World, allocation_at, is_live, is_live_on, node_at}
 use Rattle.ns_types.specs.State.Sums.{names_quota, node_load, quota_use}
 use Rattle.ns_types.specs.Working.Commit.{counts, quota_named, stop_all, victim_key}
@@ -30,7 +30,7 @@ use Rattle.ns_types.proofs.Tests.{or_none}
 use Rattle.ns_plan.specs.After.{after_stops, counted, counted_stops, names, part_of_quota, part_on, shares, stop_keys}
 use Rattle.ns_plan.specs.Looks.{if_live, live_at}
 use Rattle.ns_plan.specs.Reader.{load_left, quota_left, use_left}
-use Rattle.ns_place.proofs.Sums.{same_amounts}
+use Rattle.ns_types.proofs.Amounts.{minus_none, quantity_none, same_of_each, true_at}
 
 -- ---- rows
 
@@ -105,36 +105,34 @@ counted_some w pool node e = by (allocation_at w (victim_key e))
 
 -- ---- sums
 
-module _ (f g : Key → ℕ) where
+module _ (f : Resource → Key → ℕ) where
   abbrev sums : List Key → Resources
-  sums keys = record { cpu = sum_by f keys; memory = sum_by g keys }
+  sums keys = each_resource (λ r. sum_by (f r) keys)
 
   -- one key more takes its part
-  one_less : (whole part : Resources) (keys : List Key) (k : Key) → f k ≡ part.cpu → g k ≡ part.memory →
+  one_less : (whole part : Resources) (keys : List Key) (k : Key) → ((r : Resource) → f r k ≡ quantity r part) →
       minus whole (sums (keys ++ k ∷ [])) ≡ minus (minus whole (sums keys)) part
-  one_less whole part keys k cpu memory =
-      let first = sum_by-append f keys (k ∷ []) in
-      let second = sum_by-append g keys (k ∷ []) in
-      let one = sum_by-cons f k [] in
-      let other = sum_by-cons g k [] in
-      same_amounts _ _ (omega (arith, first, one, cpu)) (omega (arith, second, other, memory))
+  one_less whole part keys k takes =
+      same_of_each (λ r. quantity r whole - sum_by (f r) (keys ++ k ∷ [])) (λ r. (quantity r whole - sum_by (f r) keys) - quantity r part) (λ r.
+      let all = sum_by-append (f r) keys (k ∷ []) in
+      let one = sum_by-cons (f r) k [] in
+      omega (arith, all, one, takes r))
 
   -- or nothing, where it is among them
-  next_less : (whole part : Resources) (keys : List Key) (k : Key) → f k ≡ part.cpu → g k ≡ part.memory →
+  next_less : (whole part : Resources) (keys : List Key) (k : Key) → ((r : Resource) → f r k ≡ quantity r part) →
       minus whole (sums (once (keys ++ k ∷ []))) ≡ cond (has_key keys k) (minus whole (sums (once keys))) (minus (minus whole (sums (once keys))) part)
-  next_less whole part keys k cpu memory = ap (λ l. minus whole (sums l)) (once_push keys k) ∙ by (has_key keys k)
+  next_less whole part keys k takes = ap (λ l. minus whole (sums l)) (once_push keys k) ∙ by (has_key keys k)
     where
       by : (b : Bool) → minus whole (sums (cond b (once keys) (once keys ++ k ∷ []))) ≡ cond b (minus whole (sums (once keys)))
           (minus (minus whole (sums (once keys))) part)
       by true = refl
-      by false = one_less whole part (once keys) k cpu memory
+      by false = one_less whole part (once keys) k takes
 
 -- who takes nothing off changes nothing
-nothing_less : (r s : Resources) → same_resources s none ≡ true → minus r s ≡ r
-nothing_less r s e =
-    let cpu = tied one_number s.cpu 0 (first_of_both (same_number s.cpu 0) (same_number s.memory 0) e) in
-    let memory = tied one_number s.memory 0 (second_of_both (same_number s.cpu 0) (same_number s.memory 0) e) in
-    same_amounts _ _ (omega (arith, cpu)) (omega (arith, memory))
+nothing_less : (a b : Resources) → same_resources b none ≡ true → minus a b ≡ a
+nothing_less a b e = same_of_each (λ r. quantity r a - quantity r b) (λ r. quantity r a) (λ r.
+    let nothing = tied one_number (quantity r b) 0 (true_at (λ r. same_number (quantity r b) 0) e r) in
+    omega (arith, nothing))
 
 pub first_less : (whole part : Resources) (b : Bool) →
     cond (not (same_resources part none) && not b) (minus whole part) whole ≡ cond b whole (minus whole part)
@@ -199,17 +197,17 @@ module _ (w : World) (pool node : Name) where
   -- over the stops, of which one may come twice
   pub load_next : (keys : List Key) (k : Key) → load_left w pool node (once (keys ++ k ∷ [])) ≡
       cond (has_key keys k) (load_left w pool node (once keys)) (minus (load_left w pool node (once keys)) (part_on pool node (allocation_at w k)))
-  load_next keys k = next_less (node_part w pool node (λ r. r.cpu)) (node_part w pool node (λ r. r.memory)) (node_load w pool node)
-      (part_on pool node (allocation_at w k)) keys k (on_node (λ r. r.cpu) refl w pool node k) (on_node (λ r. r.memory) refl w pool node k)
+  load_next keys k = next_less (λ r. node_part w pool node (quantity r)) (node_load w pool node) (part_on pool node (allocation_at w k)) keys k
+      (λ r. on_node (quantity r) (quantity_none r) w pool node k)
 
 module _ (w : World) (quota : Name) where
   pub use_next : (keys : List Key) (k : Key) → use_left w quota (once (keys ++ k ∷ [])) ≡
       cond (has_key keys k) (use_left w quota (once keys)) (minus (use_left w quota (once keys)) (part_of_quota (names w quota k.0) (allocation_at w k)))
-  use_next keys k = next_less (quota_part w quota (λ r. r.cpu)) (quota_part w quota (λ r. r.memory)) (quota_use w quota)
-      (part_of_quota (names w quota k.0) (allocation_at w k)) keys k (of_quota (λ r. r.cpu) refl w quota k) (of_quota (λ r. r.memory) refl w quota k)
+  use_next keys k = next_less (λ r. quota_part w quota (quantity r)) (quota_use w quota) (part_of_quota (names w quota k.0) (allocation_at w k)) keys k
+      (λ r. of_quota (quantity r) (quantity_none r) w quota k)
 
   pub use_all : use_left w quota [] ≡ quota_use w quota
-  use_all = same_amounts _ _ (omega arith) (omega arith)
+  use_all = minus_none (quota_use w quota)
 
 -- the same with the quota that may be there
 pub quota_next : (w : World) (quota : Option Name) (keys : List Key) (k : Key) → quota_left w quota (once (keys ++ k ∷ [])) ≡
@@ -219,7 +217,7 @@ quota_next w None keys k = by (has_key keys k)
   where
     by : (b : Bool) → none ≡ cond b none (minus none (part_of_quota false (allocation_at w k)))
     by true = refl
-    by false = same_amounts _ _ (omega arith) (omega arith)
+    by false = same_of_each (λ r. 0) (λ r. 0 - quantity r (part_of_quota false (allocation_at w k))) (λ r. omega arith)
 quota_next w (Some quota) keys k = use_next w quota keys k
 
 -- ---- keys of which only some take something
@@ -237,7 +235,7 @@ module _ (left : List Key → Resources) (part : Key → Resources) (next : (key
     where
       idle : (b : Bool) → part k ≡ none → cond b (left (once xs)) (minus (left (once xs)) (part k)) ≡ left (once xs)
       idle true e = refl
-      idle false e = ap (minus (left (once xs))) e ∙ same_amounts _ _ (omega arith) (omega arith)
+      idle false e = ap (minus (left (once xs))) e ∙ minus_none (left (once xs))
 
       other : takes k ≡ false → (q : Key) → takes q ≡ true → (b : Bool) → same_key q k ≡ b → (same_key q k || false) ≡ false
       other e q t true f = not_both t (ap takes (key_is q k f) ∙ e)

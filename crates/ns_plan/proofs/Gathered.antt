@@ -9,7 +9,7 @@ use Rattle.std.proofs.lemmas.List.Sums.{sum_by-append, sum_by-cons}
 use Rattle.ns_types.specs.declared.plan.Eviction.{Eviction}
 use Rattle.ns_types.specs.declared.plan.Placement.{Placement}
 use Rattle.ns_types.specs.State.Names.{same_number}
-use Rattle.ns_types.specs.State.Resources.{plus}
+use Rattle.ns_types.specs.State.Resources.{each_resource, plus, quantity}
 use Rattle.ns_types.specs.Working.Commit.{part_of, size_of}
 use Rattle.ns_types.proofs.Lists.{filter-append, not_both}
 use Rattle.ns_types.proofs.Named.{one_number, same_number_refl}
@@ -58,10 +58,7 @@ module _ (before : List Placement) (p : Placement) where
   size_more : size_of (part_of p.node more) ≡ plus (size_of (part_of p.node before)) p.size
   size_more = ap size_of (filter-append (λ q. same_number q.node p.node) before (p ∷ [])
       ∙ ap (λ b. part_of p.node before ++ cond b (p ∷ []) []) (same_number_refl p.node))
-      ∙ (λ i. record {
-        cpu = last (λ q. q.size.cpu) i;
-        memory = last (λ q. q.size.memory) i;
-      })
+      ∙ (λ i. each_resource (λ r. last (λ q. quantity r q.size) i))
     where
       last : (f : Placement → ℕ) → sum_by f (part_of p.node before ++ p ∷ []) ≡ sum_by f (part_of p.node before) + f p
       last f =

@@ -1,5 +1,5 @@
 -- What a node's victims leave, one eviction after another.
-use Rattle.std.specs.Prelude.{◌≡◌, ℕ, ◌+◌, ◌++◌, Bool, true, false, cond, List, [], ◌∷◌, Option, Some, None, ◌&&◌, ◌||◌, filter, sum_by}
+use Rattle.std.specs.Prelude.{◌≡◌, ◌-◌, ℕ, ◌+◌, ◌++◌, Bool, true, false, cond, List, [], ◌∷◌, Option, Some, None, ◌&&◌, ◌||◌, filter, sum_by}
 use Rattle.std.proofs.Common.{◌<◌, append_assoc, get_or, length, take, refl, sym, ap, ◌∙◌, arith}
 use Rattle.std.proofs.lemmas.Grind.{flat_map-append}
 use Rattle.std.proofs.lemmas.List.{append-nil, map-append}
@@ -14,9 +14,9 @@ use Rattle.ns_types.specs.declared.plan.Placement.{Placement}
 use Rattle.ns_types.specs.declared.resources.Resources.{Resources}
 use Rattle.ns_types.specs.declared.snapshot.Snapshot.{Snapshot}
 use Rattle.ns_types.specs.State.Names.{Key, Name, has_key, same_key, same_name, same_number}
-use Rattle.ns_types.specs.State.Resources.{minus, none}
+use Rattle.ns_types.specs.State.Resources.{minus, none, quantity}
 use Rattle.ns_types.specs.State.Rows.{World, allocation_at, is_live, is_live_on}
-use Rattle.ns_types.specs.State.Sums.{node_load}
+use Rattle.ns_types.specs.State.Sums.{node_load, node_sum}
 use Rattle.ns_types.specs.Working.Commit.{counts, node_name, part_of, victim_key, victims_of}
 use Rattle.ns_types.proofs.Elements.{any_flat, any_map, any_same}
 use Rattle.ns_types.proofs.Lists.{filter-append, not_both}
@@ -30,7 +30,7 @@ use Rattle.ns_plan.specs.Reader.{AreElsewhere, counted_keys, evictions_of, is_on
 use Rattle.ns_plan.specs.declared.leaving.Left.{Left}
 use Rattle.ns_plan.proofs.Afterwards.{load_next, on_node, quota_next}
 use Rattle.ns_plan.proofs.Holding.{filter_next, take_next}
-use Rattle.ns_place.proofs.Sums.{same_amounts}
+use Rattle.ns_types.proofs.Amounts.{minus_none, quantity_none, same_of_each}
 
 -- ---- what stands earlier
 
@@ -176,7 +176,7 @@ module _ (w : World) (pool node : Name) (quota : Option Name) (keys : List Key) 
 
         share : (b : Bool) → minus left (cond (b && is_live a) a.size none) ≡ cond b (minus left a.size) left
         share true = ap (λ l. minus left (cond l a.size none)) live
-        share false = same_amounts _ _ (omega arith) (omega arith)
+        share false = minus_none left
 
 -- ---- the loops' steps
 
@@ -251,10 +251,11 @@ module _ (w : World) (pool node : Name) where
       record { load = node_load w pool node; used = used } ≡ left_by w pool node quota keys []
   nothing_left_out quota keys used elsewhere is =
       let apart : AreElsewhere w pool node (once keys) = λ k on. once_has keys k ∙ elsewhere k on in
-      let cpu = none_on (λ r. r.cpu) refl (once keys) apart in
-      let memory = none_on (λ r. r.memory) refl (once keys) apart in
       (λ i. record {
-        load = same_amounts (node_load w pool node) (load_left w pool node (once keys)) (omega (arith, cpu)) (omega (arith, memory)) i;
+        load = same_of_each (λ r. node_sum w pool node (quantity r))
+            (λ r. node_sum w pool node (quantity r) - sum_by (node_part w pool node (quantity r)) (once keys)) (λ r.
+            let none = none_on (quantity r) (quantity_none r) (once keys) apart in
+            omega (arith, none)) i;
         used = is i;
       })
       ∙ ap (left_without w pool node quota) (sym (append-nil keys))

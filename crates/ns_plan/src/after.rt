@@ -10,14 +10,10 @@ ghost use Rattle.ns_plan.specs.Looks.{AreCounted, if_live, live_at};
 ghost use Rattle.ns_plan.specs.Reader.{quota_left};
 
 use crate::view::View;
-use ns_alike::same_resources;
-use ns_place::less;
 use ns_types::allocation::Allocation;
 use ns_types::plan::Eviction;
-use ns_types::resources::Resources;
+use ns_types::resources::{Resources, less, none, same_resources};
 use ns_types::text::{Text, same_text};
-
-const NONE: Resources = Resources { cpu: 0, memory: 0 };
 
 /// Whether the number is among them.
 #[tactic(auto, using(ns_types::proofs::Named::number_ties))]
@@ -99,7 +95,7 @@ fn part_on(row: Option<&Allocation>, pool: &Text, node: &Text) -> Resources
 {
     match row {
         Some(row) if is_live_on(row, pool, node) => row.size,
-        _ => NONE,
+        _ => none(),
     }
 }
 
@@ -108,7 +104,7 @@ fn part_of_quota(named: bool, row: Option<&Allocation>) -> Resources
 {
     match row {
         Some(row) if named && row.is_live() => row.size,
-        _ => NONE,
+        _ => none(),
     }
 }
 
@@ -137,7 +133,7 @@ fn takes_first(part: Resources, numbers: &[u64], place: usize) -> bool
     ensures { (d : ℕ) → result ≡ (not (same_resources part none)
         && not (has_number (take place numbers.now) (slice_index_or numbers.now place d))) }
 {
-    !same_resources(part, NONE) && !stands_earlier(numbers, place)
+    !same_resources(part, none()) && !stands_earlier(numbers, place)
 }
 
 /// The node's load after the stops. It costs a look-up for each of them.
@@ -194,7 +190,7 @@ pub(crate) fn use_of<V: View>(
 {
     match quota {
         Some(quota) => used(view, namespace, stops, quota),
-        None => NONE,
+        None => none(),
     }
 }
 

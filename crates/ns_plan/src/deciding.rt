@@ -17,7 +17,7 @@ use crate::view::View;
 use arrayvec::ArrayVec;
 use ns_marks::Flags;
 use ns_types::plan::Plan;
-use ns_types::resources::Resources;
+use ns_types::resources::{Resources, none};
 use ns_types::snapshot::Snapshot;
 use ns_types::text::Text;
 
@@ -74,8 +74,8 @@ pub(crate) fn undecided() -> SoFar
     ensures { IsUndecided result }
 {
     SoFar {
-        used: Resources { cpu: 0, memory: 0 },
-        placed: amount_of(Resources { cpu: 0, memory: 0 }),
+        used: none(),
+        placed: amount_of(none()),
         committed: ArrayVec::new(),
         dropped: ArrayVec::new(),
     }

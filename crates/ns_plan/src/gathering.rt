@@ -9,7 +9,7 @@ ghost use Rattle.ns_plan.specs.Reader.{evictions_of};
 
 use crate::amounts::{Amount, add, amount_of};
 use ns_types::plan::{Placement, Plan};
-use ns_types::resources::Resources;
+use ns_types::resources::none;
 use ns_types::snapshot::Snapshot;
 
 /// The placements on one node.
@@ -27,7 +27,7 @@ fn no_part() -> Part
     ensures { (k : ℕ) → IsPart k [] result }
 {
     Part {
-        size: amount_of(Resources { cpu: 0, memory: 0 }),
+        size: amount_of(none()),
         start: 0,
         end: 0,
     }

@@ -13,10 +13,9 @@ ghost use Rattle.ns_plan.specs.Reader.{same_eviction, with_gone};
 
 use crate::after::{counted, load, shares};
 use crate::view::View;
-use ns_place::less;
 use ns_types::allocation::Allocation;
 use ns_types::plan::{Eviction, Placement};
-use ns_types::resources::Resources;
+use ns_types::resources::{Resources, less};
 use ns_types::snapshot::Snapshot;
 use ns_types::text::{Text, same_text};
 

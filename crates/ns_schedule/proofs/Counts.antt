@@ -1,8 +1,8 @@
 -- Sums that are checked as they are made.
 use Rattle.std.specs.Prelude.{◌≡◌, ℕ, zero, suc, ◌+◌, ◌*◌, ◌^◌, ◌<◌, ◌≤◌, true, List, ◌∷◌, length, drop}
-use Rattle.std.specs.Prelude.{get_or, replicate, sum_by}
-use Rattle.std.proofs.Common.{refl, ap, ◌∙◌, arith}
-use Rattle.std.proofs.lemmas.Bool.{and_from, lt-ltb}
+use Rattle.std.specs.Prelude.{get_or, nat_lt, replicate, sum_by}
+use Rattle.std.proofs.Common.{refl, sym, ap, subst, ◌∙◌, arith}
+use Rattle.std.proofs.lemmas.Bool.{lt-ltb}
 use Rattle.std.proofs.lemmas.List.Folds.{sum_by-replicate}
 use Rattle.std.proofs.lemmas.List.Sums.{sum_by-append}
 use Rattle.std.proofs.Math.Nat.{suc-mul}
@@ -12,13 +12,13 @@ use Rattle.ns_types.specs.declared.plan.Demand.{Demand}
 use Rattle.ns_types.specs.declared.resources.Resources.{Resources}
 use Rattle.ns_types.specs.declared.snapshot.OwnAllocation.{OwnAllocation}
 use Rattle.ns_types.specs.Placing.Wanted.{demands_from, group_size, missing}
-use Rattle.ns_types.specs.State.Resources.{IsCounted, plus, total}
+use Rattle.ns_types.specs.State.Resources.{IsCounted, plus, quantity, total}
 use Rattle.ns_schedule.specs.Fits.{is_counted, times}
 use Rattle.ns_schedule.proofs.Wants.{first_of_rest}
-use Rattle.ns_place.proofs.Sums.{same_amounts}
+use Rattle.ns_types.proofs.Amounts.{at, counted_at, every, every_true, same_of_each}
 
-pub counted_true : (r : Resources) → IsCounted r → is_counted r ≡ true
-counted_true r h = and_from _ _ (lt-ltb r.cpu (2 ^ 64) h.0) (lt-ltb r.memory (2 ^ 64) h.1)
+pub counted_true : (a : Resources) → IsCounted a → is_counted a ≡ true
+counted_true a h = every_true (λ r. nat_lt (quantity r a) (2 ^ 64)) (λ r. lt-ltb (quantity r a) (2 ^ 64) (counted_at a h r))
 
 -- one of several is within all of them
 one_within : (n x : ℕ) → (n ≡ 0 → ⊥) → x ≤ n * x
@@ -27,9 +27,10 @@ one_within (suc n) x some = let more = suc-mul n x in omega (arith, more)
 
 pub one_counted : (sum size : Resources) (n : ℕ) → (n ≡ 0 → ⊥) → IsCounted (plus sum (times n size)) → IsCounted size
 one_counted sum size n some h =
-    let cpu = one_within n size.cpu some in
-    let memory = one_within n size.memory some in
-    (omega (arith, cpu, h.0), omega (arith, memory, h.1))
+    every (λ r. quantity r size < 2 ^ 64) (λ r.
+    let one = one_within n (quantity r size) some in
+    let all = at (λ r. quantity r sum + n * quantity r size < 2 ^ 64) h r in
+    omega (arith, one, all))
 
 -- what the missing ones of a group take, and of those after it
 pub demanded : (f : Resources → ℕ) (i : ℕ) (j : Job) (own : List OwnAllocation) (g : Group) (gs : List Group)
@@ -52,9 +53,12 @@ module _ (j : Job) (own : List OwnAllocation) (gs : List Group) (i : ℕ) (g : G
   same_whole : (sum : Resources) → plus (with_group sum) (total (λ d. d.size) (demands_from (i + 1) j own (drop (i + 1) gs)))
       ≡ plus sum (total (λ d. d.size) (demands_from i j own (drop i gs)))
   same_whole sum =
-      let cpu = rest_is (λ r. r.cpu) in
-      let memory = rest_is (λ r. r.memory) in
-      same_amounts _ _ (omega (arith, cpu)) (omega (arith, memory))
+      same_of_each
+      (λ r. (quantity r sum + missing j own g * quantity r (group_size g))
+      + sum_by (λ d. quantity r d.size) (demands_from (i + 1) j own (drop (i + 1) gs)))
+      (λ r. quantity r sum + sum_by (λ d. quantity r d.size) (demands_from i j own (drop i gs))) (λ r.
+      let rest = rest_is (quantity r) in
+      omega (arith, rest))
 
   pub one_more : (sum new all : Resources) → new ≡ with_group sum → plus sum (total (λ d. d.size) (demands_from i j own (drop i gs))) ≡ all
       → plus new (total (λ d. d.size) (demands_from (i + 1) j own (drop (i + 1) gs))) ≡ all
@@ -64,7 +68,8 @@ module _ (j : Job) (own : List OwnAllocation) (gs : List Group) (i : ℕ) (g : G
   pub too_much : (sum all : Resources) → (IsCounted (with_group sum) → ⊥) → plus sum (total (λ d. d.size) (demands_from i j own (drop i gs))) ≡ all
       → IsCounted all → ⊥
   too_much sum all over h counted =
-      let whole = same_whole sum ∙ h in
-      let cpu = ap (λ (r : Resources). r.cpu) whole in
-      let memory = ap (λ (r : Resources). r.memory) whole in
-      over (omega (arith, cpu, counted.0), omega (arith, memory, counted.1))
+      let rest = demands_from (i + 1) j own (drop (i + 1) gs) in
+      let whole = subst IsCounted (sym (same_whole sum ∙ h)) counted in
+      over (every (λ r. quantity r sum + missing j own g * quantity r (group_size g) < 2 ^ 64) (λ r.
+      let all = at (λ r. (quantity r sum + missing j own g * quantity r (group_size g)) + sum_by (λ d. quantity r d.size) rest < 2 ^ 64) whole r in
+      omega (arith, all)))

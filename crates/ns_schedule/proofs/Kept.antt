@@ -20,21 +20,16 @@ use Rattle.ns_types.specs.Placing.Plan.{no_quota, quota_of}
 use Rattle.ns_types.specs.Placing.Wanted.{demands, demands_from, group_size, missing}
 use Rattle.ns_types.specs.State.Limits.{is_amount, is_between, is_good_document, is_good_group, is_good_offer, is_good_task}
 use Rattle.ns_types.specs.State.Name.{is_name}
-use Rattle.ns_types.specs.State.Resources.{is_within, plus, total}
+use Rattle.ns_types.specs.State.Resources.{Resource, is_within, plus, quantity, total}
 use Rattle.ns_types.specs.Validity.{IsCountable, IsSmall, seen_load}
 use Rattle.ns_types.proofs.Documents.{few_groups, few_missing, few_tasks, good_groups, good_tasks}
 use Rattle.ns_types.proofs.Elements.{all_from, each_from_all, each_of}
-use Rattle.ns_types.proofs.LiveSums.{most_of}
+use Rattle.ns_types.proofs.Amounts.{at, every, quantity_of, within_at}
+use Rattle.ns_types.proofs.LiveSums.{most_at}
 use Rattle.ns_types.proofs.Named.{first_of_both, second_of_both}
 use Rattle.ns_schedule.specs.Fits.{fits, node_fits}
 use Rattle.ns_schedule.specs.Laws.{KeptFits}
 use Rattle.ns_schedule.proofs.Counts.{counted_true, demanded}
-
-cpu_of : (r : Resources) → is_amount r ≡ true → r.cpu ≤ 2147483647
-cpu_of r e = most_of r.cpu (first_of_both (is_between 1 2147483647 r.cpu) (is_between 1 2147483647 r.memory) e)
-
-memory_of : (r : Resources) → is_amount r ≡ true → r.memory ≤ 2147483647
-memory_of r e = most_of r.memory (second_of_both (is_between 1 2147483647 r.cpu) (is_between 1 2147483647 r.memory) e)
 
 -- ---- nodes
 
@@ -43,11 +38,10 @@ node_small n good within =
     let capacity = n.row.offer.capacity in
     let load = seen_load n in
     let amount : is_amount capacity ≡ true = second_of_both _ (is_amount capacity) good in
-    let cpu = cpu_of capacity amount in
-    let memory = memory_of capacity amount in
-    let cpu_within = leb-true load.cpu capacity.cpu (first_of_both (nat_le load.cpu capacity.cpu) (nat_le load.memory capacity.memory) within) in
-    let memory_within = leb-true load.memory capacity.memory (second_of_both (nat_le load.cpu capacity.cpu) (nat_le load.memory capacity.memory) within) in
-    counted_true (plus capacity load) (omega (arith, cpu, cpu_within), omega (arith, memory, memory_within))
+    counted_true (plus capacity load) (every (λ r. quantity r capacity + quantity r load < 2 ^ 64) (λ r.
+    let most = most_at capacity amount r in
+    let less = within_at load capacity within r in
+    omega (arith, most, less)))
 
 nodes_small : (ns : List PoolNode) → list_all (λ n. is_good_offer n.row.offer) ns ≡ true
     → list_all (λ n. is_within (seen_load n) n.row.offer.capacity) ns ≡ true → list_all node_fits ns ≡ true
@@ -59,16 +53,16 @@ nodes_small (n ∷ ns) good within =
 
 -- ---- groups
 
-size_small : (g : Group) → is_good_group g ≡ true → (f : Resources → ℕ) → ((r : Resources) → is_amount r ≡ true → f r ≤ 2147483647)
-    → sum_by (λ t. f t.resources) g.tasks ≤ 34359738352
-size_small g good f small =
+size_small : (g : Group) → is_good_group g ≡ true → (r : Resource) → quantity r (group_size g) ≤ 34359738352
+size_small g good r =
     let few = few_tasks g good in
-    let each_small = sum_by-le (λ (t : Task). f t.resources) 2147483647 g.tasks
-    (all_from (λ (t : Task). f t.resources ≤ 2147483647) g.tasks
-    (each_of (λ (t : Task). is_good_task t ≡ true) (λ (t : Task). f t.resources ≤ 2147483647)
-    (λ t e. small t.resources (second_of_both (is_name NameKind.Task t.name) (is_amount t.resources) e)) g.tasks
+    let is = quantity_of (λ r. sum_by (λ t. quantity r t.resources) g.tasks) r in
+    let each_small = sum_by-le (λ (t : Task). quantity r t.resources) 2147483647 g.tasks
+    (all_from (λ (t : Task). quantity r t.resources ≤ 2147483647) g.tasks
+    (each_of (λ (t : Task). is_good_task t ≡ true) (λ (t : Task). quantity r t.resources ≤ 2147483647)
+    (λ t e. most_at t.resources (second_of_both (is_name NameKind.Task t.name) (is_amount t.resources) e) r) g.tasks
     (each_from_all is_good_task g.tasks (good_tasks g good)))) in
-    omega (arith, few, each_small)
+    omega (arith, few, is, each_small)
 
 -- ---- all that is missing
 
@@ -99,16 +93,18 @@ demands_small f small None own good = omega arith
 demands_small f small (Some j) own good = job_small f small j own (good j refl)
 
 used_small : (o : Option QuotaSeen) → ((q : QuotaSeen) → o ≡ Some q → IsSmall q.used) → IsSmall (unwrap_or o no_quota).used
-used_small None small = (omega arith, omega arith)
+used_small None small = every (λ r. 0 < 2 ^ 55) (λ r. omega arith)
 used_small (Some q) small = small q refl
 
 countable_fits : (kept : Snapshot) → IsCountable kept → ((j : Job) → kept.job ≡ Some j → is_good_document j.document ≡ true) → fits kept ≡ true
 countable_fits kept countable good =
     let used = used_small kept.quota countable.used in
-    let cpu = demands_small (λ r. r.cpu) (λ g e. size_small g e (λ r. r.cpu) cpu_of) kept.job kept.own good in
-    let memory = demands_small (λ r. r.memory) (λ g e. size_small g e (λ r. r.memory) memory_of) kept.job kept.own good in
     and_from _ _ (nodes_small kept.nodes countable.good countable.within)
-    (counted_true (plus (quota_of kept).used (total (λ d. d.size) (demands kept.job kept.own))) (omega (arith, cpu, used.0), omega (arith, memory, used.1)))
+    (counted_true (plus (quota_of kept).used (total (λ d. d.size) (demands kept.job kept.own))) (every
+    (λ r. quantity r (quota_of kept).used + sum_by (λ d. quantity r d.size) (demands kept.job kept.own) < 2 ^ 64) (λ r.
+    let some = at (λ r. quantity r (quota_of kept).used < 2 ^ 55) used r in
+    let all = demands_small (quantity r) (λ g e. size_small g e r) kept.job kept.own good in
+    omega (arith, some, all))))
 
 pub kept_fits : KeptFits
 kept_fits s ns t number worker kept valid is_tenant is_worker is_kept =

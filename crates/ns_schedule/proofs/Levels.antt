@@ -1,5 +1,5 @@
 -- Those whom a job may evict take no more than all that is live on the node.
-use Rattle.std.proofs.Common.{◌≡◌, ℕ, zero, suc, ◌+◌, ◌-◌, ◌≤◌, ◌∷◌, ◌++◌, [], Bool, cond, List, sum_by, reverse, ap, arith, inl, inr}
+use Rattle.std.proofs.Common.{◌≡◌, ℕ, zero, suc, ◌+◌, ◌-◌, ◌≤◌, ◌<◌, ◌^◌, ◌∷◌, ◌++◌, [], Bool, cond, List, sum_by, reverse, ap, arith, inl, inr}
 use Rattle.std.specs.Prelude.{◌==◌, nat_le, filter}
 use Rattle.std.specs.List.{flat_map, range_with_len}
 use Rattle.std.proofs.lemmas.Bool.{cond-true, cond-false, cases_order, eq-eqb, ne_eqb, le-leb, lt-leb}
@@ -8,7 +8,8 @@ use Rattle.std.proofs.lemmas.List.Sums.{sum_by-append, sum_by-cons, sum_by-le-su
 use Rattle.ns_types.specs.declared.snapshot.LiveAllocation.{LiveAllocation}
 use Rattle.ns_types.specs.declared.resources.Resources.{Resources}
 use Rattle.ns_types.specs.Placing.Preemption.{evictable}
-use Rattle.ns_types.specs.State.Resources.{IsCounted, minus, plus, total}
+use Rattle.ns_types.specs.State.Resources.{IsCounted, minus, plus, quantity, total}
+use Rattle.ns_types.proofs.Amounts.{at, every}
 use Rattle.ns_types.proofs.Sums.{sum_add, sum_filter, sum_kept}
 
 -- what is of the level a, and what is above it
@@ -69,6 +70,7 @@ pub opened_counted : (capacity load : Resources) (p : LiveAllocation → Bool) (
     → IsCounted (plus capacity (total (λ a. a.size) live))
     → IsCounted (plus (minus capacity load) (total (λ a. a.size) (filter p (evictable priority live))))
 opened_counted capacity load p priority live h =
-    let cpu = some_within (λ (a : LiveAllocation). a.size.cpu) (λ a. a.priority) p (priority - 9) live in
-    let memory = some_within (λ (a : LiveAllocation). a.size.memory) (λ a. a.priority) p (priority - 9) live in
-    (omega (arith, h.0, cpu), omega (arith, h.1, memory))
+    every (λ r. (quantity r capacity - quantity r load) + sum_by (λ a. quantity r a.size) (filter p (evictable priority live)) < 2 ^ 64) (λ r.
+    let some = some_within (λ (a : LiveAllocation). quantity r a.size) (λ a. a.priority) p (priority - 9) live in
+    let all = at (λ r. quantity r capacity + sum_by (λ a. quantity r a.size) live < 2 ^ 64) h r in
+    omega (arith, some, all))

@@ -14,10 +14,7 @@ use Rattle.ns_types.specs.Placing.Preemption.{victims, cheaper, best_victims}
 use Rattle.ns_types.specs.State.Resources.{plus, is_within, none}
 use Rattle.ns_preempt.specs.Fewest.{IsFewest}
 use Rattle.ns_schedule.specs.Chosen.{IsChosen}
-use Rattle.ns_place.proofs.Sums.{same_amounts}
-
-plus_none : (a : Resources) → plus a none ≡ a
-plus_none a = same_amounts (plus a none) a (omega arith) (omega arith)
+use Rattle.ns_types.proofs.Amounts.{plus_none}
 
 -- the best passes
 best_passes : {X : Type 0} (passes : X → Bool) (beats : X → X → Bool) (xs : List X) (k : ℕ) → best passes beats xs ≡ Some k

@@ -1,5 +1,5 @@
 -- One more group: its surplus, and what it lacks.
-use Rattle.std.proofs.Common.{◌≡◌, ◌<◌, ◌≤◌, ◌+◌, ◌++◌, ◌∷◌, [], zero, suc, ap, sym, ◌∙◌, refl, arith, subst, take, drop, length, get_or, List, ℕ}
+use Rattle.std.proofs.Common.{◌≡◌, ◌<◌, ◌≤◌, ◌^◌, ◌+◌, ◌++◌, ◌∷◌, [], zero, suc, ap, sym, ◌∙◌, refl, arith, subst, take, drop, length, get_or, List, ℕ}
 use Rattle.std.proofs.Common.{replicate, append_assoc, sum_by}
 use Rattle.std.specs.List.{flat_map}
 use Rattle.std.proofs.lemmas.List.{flat_map_more, take_more, drop_more}
@@ -10,7 +10,8 @@ use Rattle.ns_types.specs.declared.snapshot.OwnAllocation.{OwnAllocation}
 use Rattle.ns_types.specs.declared.plan.Demand.{Demand}
 use Rattle.ns_types.specs.declared.resources.Resources.{Resources}
 use Rattle.ns_types.specs.Placing.Wanted.{demands_from, group_size, missing}
-use Rattle.ns_types.specs.State.Resources.{IsCounted, total}
+use Rattle.ns_types.specs.State.Resources.{IsCounted, quantity, total}
+use Rattle.ns_types.proofs.Amounts.{at, every}
 
 -- what is repeated is within the whole
 repeated_within : (f : Resources → ℕ) (old rest : List Demand) (d : Demand) (m : ℕ)
@@ -50,9 +51,10 @@ module _ (gs : List Group) (i : ℕ) (g : Group) (inside : i < length gs) (reads
       let whole_is : old ++ (replicate n d ++ rest) ≡ whole =
       ap (λ k. old ++ (replicate k d ++ rest)) lacks ∙ (ap (λ zs. old ++ demands_from i j own zs) (sym first_of_rest) ∙ h) in
       let is_exact : (m : ℕ) → n ≡ suc m → size ≡ exact = λ m some.
-      let at : old ++ (replicate (suc m) d ++ rest) ≡ whole = ap (λ k. old ++ (replicate k d ++ rest)) (sym some) ∙ whole_is in
-      let cpu = subst (λ (ys : List Demand). exact.cpu ≤ sum_by (λ x. x.size.cpu) ys) at (repeated_within (λ r. r.cpu) old rest d m) in
-      let memory = subst (λ (ys : List Demand). exact.memory ≤ sum_by (λ x. x.size.memory) ys) at (repeated_within (λ r. r.memory) old rest d m) in
-      right (omega (arith, cpu, counted.0), omega (arith, memory, counted.1)) in
+      let there : old ++ (replicate (suc m) d ++ rest) ≡ whole = ap (λ k. old ++ (replicate k d ++ rest)) (sym some) ∙ whole_is in
+      right (every (λ r. quantity r exact < 2 ^ 64) (λ r.
+      let some = subst (λ (ys : List Demand). quantity r exact ≤ sum_by (λ x. quantity r x.size) ys) there (repeated_within (quantity r) old rest d m) in
+      let all = at (λ r. sum_by (λ x. quantity r x.size) whole < 2 ^ 64) counted r in
+      omega (arith, some, all))) in
       ap (λ ys. ys ++ rest) (e ∙ ap (λ ys. old ++ ys) (same_repeated i n size exact is_exact))
       ∙ (append_assoc old (replicate n d) rest ∙ whole_is)

@@ -6,6 +6,7 @@ use Rattle.ns_types.specs.declared.resources.Resources.{Resources}
 use Rattle.ns_types.specs.declared.snapshot.QuotaSeen.{QuotaSeen}
 use Rattle.ns_types.specs.Placing.Placement.{Candidate}
 use Rattle.ns_types.specs.Placing.Planning.{Site, choice, placed_one}
+use Rattle.ns_types.specs.State.Resources.{InEach, quantity}
 use Rattle.ns_types.specs.Placing.Preemption.{makes_room}
 
 abbrev pub site : List Candidate → Resources → Site
@@ -29,4 +30,4 @@ IsRefused (Some size) cs = choice size cs ≡ None
 
 -- no resource of a is over that of b
 abbrev pub IsWithin : Resources → Resources → Type 0
-IsWithin a b = (a.cpu ≤ b.cpu) × (a.memory ≤ b.memory)
+IsWithin a b = InEach (λ r. quantity r a ≤ quantity r b)

@@ -6,15 +6,15 @@ use Rattle.ns_types.specs.declared.snapshot.PoolNode.{PoolNode}
 use Rattle.ns_types.specs.declared.snapshot.Snapshot.{Snapshot}
 use Rattle.ns_types.specs.Placing.Plan.{quota_of}
 use Rattle.ns_types.specs.Placing.Wanted.{demands}
-use Rattle.ns_types.specs.State.Resources.{plus, total}
+use Rattle.ns_types.specs.State.Resources.{each_resource, in_each, plus, quantity, total}
 use Rattle.ns_types.specs.Validity.{seen_load}
 
 -- so many of a size
 abbrev pub times : ℕ → Resources → Resources
-times n size = record { cpu = n * size.cpu; memory = n * size.memory }
+times n size = each_resource (λ r. n * quantity r size)
 
 abbrev pub is_counted : Resources → Bool
-is_counted r = nat_lt r.cpu (2 ^ 64) && nat_lt r.memory (2 ^ 64)
+is_counted a = in_each (λ r. nat_lt (quantity r a) (2 ^ 64))
 
 -- what the node offers, with all that was live on it
 abbrev pub node_fits : PoolNode → Bool

@@ -1,10 +1,10 @@
-//! Sums that may be past 64 bits, and what limits allow.
+//! Sums that may be past 64 bits.
 
 ghost use Rattle.std.specs.Prelude.{◌≡◌, ◌+◌, ◌*◌, ◌<◌, ◌^◌, SomeIff};
-ghost use Rattle.ns_types.specs.State.Resources.{IsCounted, limit_allows, limits_allow, plus};
+ghost use Rattle.ns_types.specs.State.Resources.{IsCounted, plus};
 ghost use Rattle.ns_schedule.specs.Fits.{times};
 
-use ns_types::resources::{Limit, Limits, Resources};
+use ns_types::resources::Resources;
 
 /// Both together. None: they are past 64 bits.
 pub(crate) fn checked_plus(a: Resources, b: Resources) -> Option<Resources>
@@ -30,21 +30,4 @@ pub(crate) fn checked_more(amount: Resources, count: u64, each: Resources) -> Op
     let cpu = checked_product(amount.cpu, count, each.cpu)?;
     let memory = checked_product(amount.memory, count, each.memory)?;
     Some(Resources { cpu, memory })
-}
-
-fn limit_allows(limit: Limit, amount: u64) -> bool
-    ensures { result ≡ limit_allows limit amount }
-{
-    match limit {
-        Limit::Unlimited => true,
-        Limit::AtMost(most) => amount <= most,
-        Limit::Nothing => false,
-    }
-}
-
-/// Whether the limits of a quota allow that much in use.
-pub(crate) fn limits_allow(limits: Limits, used: Resources) -> bool
-    ensures { result ≡ limits_allow limits used }
-{
-    limit_allows(limits.cpu, used.cpu) && limit_allows(limits.memory, used.memory)
 }

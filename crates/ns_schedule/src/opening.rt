@@ -6,10 +6,10 @@ ghost use Rattle.ns_types.specs.Placing.Plan.{candidate_of, is_among, staying, s
 ghost use Rattle.ns_types.specs.State.Resources.{IsCounted, minus, plus, total};
 ghost use Rattle.ns_types.specs.Validity.{seen_load};
 
-use ns_place::{Candidate, feasible, less};
+use ns_place::{Candidate, feasible};
 use ns_preempt::evictable;
 use ns_types::job::Job;
-use ns_types::resources::Resources;
+use ns_types::resources::{Resources, less};
 use ns_types::shared::Shared;
 use ns_types::snapshot::{LiveAllocation, OwnAllocation, PoolNode};
 use ns_types::text::Text;

@@ -7,11 +7,10 @@ ghost use Rattle.ns_types.specs.State.Resources.{IsCounted, plus, total};
 ghost use Rattle.ns_place.specs.Order.{IsOrder};
 ghost use Rattle.ns_schedule.specs.Chosen.{IsChosen, IsNext, IsRefused, IsWithin, site};
 
-use crate::amounts::limits_allow;
 use crate::choice::{Chosen, choose_with_victims};
 use ns_place::{Candidate, Order, give_way};
 use ns_types::plan::{Demand, Placement, Placing};
-use ns_types::resources::{Resources, plus};
+use ns_types::resources::{Resources, limits_allow, plus, same_resources};
 use ns_types::rows::Rows;
 use ns_types::snapshot::QuotaSeen;
 use std::alloc::{AllocError, Global};
@@ -83,7 +82,7 @@ fn is_for(refused: Option<Resources>, size: Resources) -> bool
     ensures { IsTrue result ↔ refused ≡ Some size }
 {
     match refused {
-        Some(other) => other.cpu == size.cpu && other.memory == size.memory,
+        Some(other) => same_resources(other, size),
         None => false,
     }
 }

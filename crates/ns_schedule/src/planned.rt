@@ -16,7 +16,7 @@ use ns_types::job::Job;
 use ns_types::plan::{Placing, Plan};
 use ns_types::planned::Planned;
 use ns_types::refusal::Refusal;
-use ns_types::resources::{Limit, Limits, Resources};
+use ns_types::resources::{none, unlimited};
 use ns_types::rows::Rows;
 use ns_types::shared::Shared;
 use ns_types::snapshot::{OwnAllocation, QuotaSeen, Snapshot};
@@ -49,11 +49,8 @@ fn no_quota(alloc: Global) -> QuotaSeen
 {
     QuotaSeen {
         name: Text::from_string(String::new(alloc)),
-        limits: Limits {
-            cpu: Limit::Unlimited,
-            memory: Limit::Unlimited,
-        },
-        used: Resources { cpu: 0, memory: 0 },
+        limits: unlimited(),
+        used: none(),
         release: 0,
         namespaces: Rows::new(alloc),
     }

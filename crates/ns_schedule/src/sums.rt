@@ -10,11 +10,9 @@ ghost use Rattle.ns_schedule.specs.Fits.{fits, node_fits, quota_fits, times};
 use crate::amounts::{checked_more, checked_plus};
 use crate::wanted::missing;
 use ns_types::job::{Group, Job, Task};
-use ns_types::resources::Resources;
+use ns_types::resources::{Resources, none};
 use ns_types::shared::Shared;
 use ns_types::snapshot::{LiveAllocation, OwnAllocation, PoolNode, QuotaSeen, Snapshot};
-
-const NONE: Resources = Resources { cpu: 0, memory: 0 };
 
 fn checked_load(capacity: Resources, live: &[LiveAllocation]) -> Option<Resources>
     ensures { let both = plus capacity (total (λ a. a.size) live.now) in
@@ -44,7 +42,7 @@ fn checked_size(tasks: &[Task]) -> Option<Resources>
     ensures { let size = total (λ t. t.resources) tasks.now in
         SomeIff result (IsCounted size) size }
 {
-    let mut sum = NONE;
+    let mut sum = none();
     for t in tasks {
         sum = checked_plus(sum, t.resources)?;
     }
@@ -87,7 +85,7 @@ fn used_of(quota: &Option<QuotaSeen>) -> Resources
 {
     match quota {
         Some(quota) => quota.used,
-        None => NONE,
+        None => none(),
     }
 }
 

@@ -21,9 +21,10 @@ use Rattle.ns_types.specs.declared.resources.Limits.{Limits}
 use Rattle.ns_types.specs.declared.resources.Resources.{Resources}
 use Rattle.ns_types.specs.State.Names.{attribute_cmp, name_cmp, same_name, same_number}
 use Rattle.ns_types.specs.Settling.Releases.{same_offer}
-use Rattle.ns_types.specs.State.Resources.{same_resources, same_limit, same_limits}
+use Rattle.ns_types.specs.State.Resources.{limit_on, quantity, same_resources, same_limit, same_limits}
 use Rattle.ns_types.specs.Settling.Same.{same_flag, same_constraint, same_task, same_group, same_document, same_job, same_evaluation, same_allocation}
 use Rattle.ns_types.specs.Wire.Words.{kind_text, operand_text, target_text, status_text, trigger_text, desired_text, client_text}
+use Rattle.ns_types.proofs.Amounts.{every_true}
 use Rattle.ns_types.proofs.Named.{names, same_name_refl, same_number_refl}
 
 -- ---- tests of lists and of what may be absent
@@ -42,8 +43,8 @@ same_flag_refl false = refl
 
 -- ---- parts of rows
 
-pub same_resources_refl : (r : Resources) → same_resources r r ≡ true
-same_resources_refl r = both_true (same_number_refl r.cpu) (same_number_refl r.memory)
+pub same_resources_refl : (a : Resources) → same_resources a a ≡ true
+same_resources_refl a = every_true (λ r. same_number (quantity r a) (quantity r a)) (λ r. same_number_refl (quantity r a))
 
 pub same_constraint_refl : (c : Constraint) → same_constraint c c ≡ true
 same_constraint_refl c = both_true (both_true (same_name_refl (target_text c.target)) (same_name_refl (operand_text c.operand))) (same_name_refl c.value)
@@ -95,4 +96,4 @@ same_limit_refl (AtMost n) = same_number_refl n
 same_limit_refl Nothing = refl
 
 pub same_limits_refl : (l : Limits) → same_limits l l ≡ true
-same_limits_refl l = both_true (same_limit_refl l.cpu) (same_limit_refl l.memory)
+same_limits_refl l = every_true (λ r. same_limit (limit_on r l) (limit_on r l)) (λ r. same_limit_refl (limit_on r l))

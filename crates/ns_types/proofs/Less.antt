@@ -9,7 +9,7 @@ use Rattle.ns_types.specs.declared.resources.Resources.{Resources}
 use Rattle.ns_types.specs.Settling.Gone.{gone_in, gone_row, rows_gone}
 use Rattle.ns_types.specs.Working.Commit.{counts, quota_named, victim_key}
 use Rattle.ns_types.specs.State.Names.{Name, Key, has_key, same_name, same_number}
-use Rattle.ns_types.specs.State.Resources.{minus}
+use Rattle.ns_types.specs.State.Resources.{each_resource, minus, quantity}
 use Rattle.ns_types.specs.State.Rows.{World, Tenant, is_live, is_live_on, allocation_at, node_at}
 use Rattle.ns_types.specs.State.Sums.{node_load, node_sum, quota_sum, quota_use}
 use Rattle.ns_types.specs.State.Tables.{map_rows}
@@ -21,16 +21,10 @@ use Rattle.ns_types.proofs.Taken.{node_part, quota_part}
 
 -- what the allocations at the keys take
 abbrev pub node_parts : World → Name → Name → List Key → Resources
-node_parts w pool node keys = record {
-  cpu = sum_by (node_part w pool node (λ r. r.cpu)) keys;
-  memory = sum_by (node_part w pool node (λ r. r.memory)) keys;
-}
+node_parts w pool node keys = each_resource (λ r. sum_by (node_part w pool node (quantity r)) keys)
 
 abbrev pub quota_parts : World → Name → List Key → Resources
-quota_parts w quota keys = record {
-  cpu = sum_by (quota_part w quota (λ r. r.cpu)) keys;
-  memory = sum_by (quota_part w quota (λ r. r.memory)) keys;
-}
+quota_parts w quota keys = each_resource (λ r. sum_by (quota_part w quota (quantity r)) keys)
 
 -- ---- what stays where allocations go
 
@@ -73,7 +67,7 @@ less_is a b c e = omega (arith, e)
 
 module _ (g : Allocation → Allocation) (ended : (a : Allocation) → is_live (g a) ≡ false) (w : World) (keys : List Key) (apart : AllApart keys) where
   pub load_less : (pool node : Name) → node_load (rows_gone g w keys) pool node ≡ minus (node_load w pool node) (node_parts w pool node keys)
-  load_less pool node = λ i. record { cpu = by (λ r. r.cpu) i; memory = by (λ r. r.memory) i }
+  load_less pool node = λ i. each_resource (λ r. by (quantity r) i)
     where
       by : (amount : Resources → ℕ) → node_sum (rows_gone g w keys) pool node amount ≡ node_sum w pool node amount - sum_by (node_part w pool node amount) keys
       by amount = less_is _ _ _
@@ -82,7 +76,7 @@ module _ (g : Allocation → Allocation) (ended : (a : Allocation) → is_live (
           ∙ node_gone amount g ended pool node keys w)
 
   pub use_less : (quota : Name) → quota_use (rows_gone g w keys) quota ≡ minus (quota_use w quota) (quota_parts w quota keys)
-  use_less quota = λ i. record { cpu = by (λ r. r.cpu) i; memory = by (λ r. r.memory) i }
+  use_less quota = λ i. each_resource (λ r. by (quantity r) i)
     where
       by : (amount : Resources → ℕ) → quota_sum (rows_gone g w keys) quota amount ≡ quota_sum w quota amount - sum_by (quota_part w quota amount) keys
       by amount = less_is _ _ _

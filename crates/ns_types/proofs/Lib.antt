@@ -1,4 +1,5 @@
 pub mod Alike
+pub mod Amounts
 pub mod Bounds
 pub mod Choosing
 pub mod Classes

@@ -14,14 +14,15 @@ use Rattle.ns_types.specs.declared.resources.Resources.{Resources}
 use Rattle.ns_types.specs.State.Limits.{is_amount, is_between}
 use Rattle.ns_types.specs.State.Lists.{Each}
 use Rattle.ns_types.specs.State.Names.{Name, ByName, same_name}
-use Rattle.ns_types.specs.State.Resources.{is_within}
+use Rattle.ns_types.specs.State.Resources.{IsCounted, Resource, quantity}
 use Rattle.ns_types.specs.State.Rows.{World, Tenant, PoolRows, is_live, is_live_on, node_at}
 use Rattle.ns_types.specs.State.Sums.{names_quota, tenant_sum, quota_sum, quota_use, node_sum, node_load}
 use Rattle.ns_types.specs.State.Tables.{any_row}
 use Rattle.ns_types.specs.Validity.{IsSmall, IsSound, IsSoundNode, IsSoundAllocation}
 use Rattle.ns_types.proofs.Elements.{all_from, any_flat, any_map, each_flat}
 use Rattle.ns_types.proofs.Lists.{not_both, each, any_alike}
-use Rattle.ns_types.proofs.Named.{names, one_name, numbers, one_number, same_name_refl, first_of_both, second_of_both}
+use Rattle.ns_types.proofs.Named.{first_of_both, names, numbers, one_name, one_number, same_name_refl, second_of_both}
+use Rattle.ns_types.proofs.Amounts.{at, every, quantity_of, true_at, within_at}
 use Rattle.ns_types.proofs.Sums.{at_most, sum_by_classes, sum_flat, sum_map, sum_same}
 use Rattle.ns_types.proofs.Tables.{each_row, none_of_any}
 
@@ -165,47 +166,42 @@ module _ (w : World) (amount : Resources → ℕ) (within : (pool name : Name) (
       let long = len-entries w.pools in
       omega (arith, all, parts, each_pool, few, long)
 
-cpu_of_within : (a b : Resources) → is_within a b ≡ true → a.cpu ≤ b.cpu
-cpu_of_within a b e = leb-true a.cpu b.cpu (first_of_both (nat_le a.cpu b.cpu) (nat_le a.memory b.memory) e)
-
-memory_of_within : (a b : Resources) → is_within a b ≡ true → a.memory ≤ b.memory
-memory_of_within a b e = leb-true a.memory b.memory (second_of_both (nat_le a.cpu b.cpu) (nat_le a.memory b.memory) e)
-
 pub most_of : (n : ℕ) → is_between 1 2147483647 n ≡ true → n ≤ 2147483647
 most_of n e = leb-true n 2147483647 (second_of_both (nat_le 1 n) (nat_le n 2147483647) e)
 
-cpu_within : (w : World) (pool name : Name) (node : Node) → IsSoundNode w pool name node → node_sum w pool name (λ r. r.cpu) ≤ 2147483647
-cpu_within w pool name node sound =
+pub most_at : (a : Resources) → is_amount a ≡ true → (r : Resource) → quantity r a ≤ 2147483647
+most_at a h r = most_of (quantity r a) (true_at (λ r. is_between 1 2147483647 (quantity r a)) h r)
+
+pub least_of : (n : ℕ) → is_between 1 2147483647 n ≡ true → 1 ≤ n
+least_of n e = leb-true 1 n (first_of_both (nat_le 1 n) (nat_le n 2147483647) e)
+
+pub least_at : (a : Resources) → is_amount a ≡ true → (r : Resource) → 1 ≤ quantity r a
+least_at a h r = least_of (quantity r a) (true_at (λ r. is_between 1 2147483647 (quantity r a)) h r)
+
+load_within : (r : Resource) (w : World) (pool name : Name) (node : Node) → IsSoundNode w pool name node → node_sum w pool name (quantity r) ≤ 2147483647
+load_within r w pool name node sound =
     let capacity = node.offer.capacity in
-    let load : node_sum w pool name (λ r. r.cpu) ≤ capacity.cpu = cpu_of_within (node_load w pool name) capacity sound.within in
-    let amount : is_amount capacity ≡ true = second_of_both _ (is_amount capacity) sound.good in
-    let most : capacity.cpu ≤ 2147483647 = most_of capacity.cpu
-    (first_of_both (is_between 1 2147483647 capacity.cpu) (is_between 1 2147483647 capacity.memory) amount) in
-    omega (arith, load, most)
+    let is = quantity_of (λ r. node_sum w pool name (quantity r)) r in
+    let load = within_at (node_load w pool name) capacity sound.within r in
+    let most = most_at capacity (second_of_both _ (is_amount capacity) sound.good) r in
+    omega (arith, is, load, most)
 
-memory_within : (w : World) (pool name : Name) (node : Node) → IsSoundNode w pool name node → node_sum w pool name (λ r. r.memory) ≤ 2147483647
-memory_within w pool name node sound =
-    let capacity = node.offer.capacity in
-    let load : node_sum w pool name (λ r. r.memory) ≤ capacity.memory = memory_of_within (node_load w pool name) capacity sound.within in
-    let amount : is_amount capacity ≡ true = second_of_both _ (is_amount capacity) sound.good in
-    let most : capacity.memory ≤ 2147483647 = most_of capacity.memory
-    (second_of_both (is_between 1 2147483647 capacity.cpu) (is_between 1 2147483647 capacity.memory) amount) in
-    omega (arith, load, most)
+pub all_small : (w : World) → IsSound w → (r : Resource) → all_live w (quantity r) < 2 ^ 55
+all_small w sound r = live_small w (quantity r) (load_within r w) sound
 
-pub cpu_small : (w : World) → IsSound w → all_live w (λ r. r.cpu) < 2 ^ 55
-cpu_small w sound = live_small w (λ r. r.cpu) (cpu_within w) sound
-
-pub memory_small : (w : World) → IsSound w → all_live w (λ r. r.memory) < 2 ^ 55
-memory_small w sound = live_small w (λ r. r.memory) (memory_within w) sound
+pub small_counted : (a : Resources) → IsSmall a → IsCounted a
+small_counted a small = every (λ r. quantity r a < 2 ^ 64) (λ r.
+    let some = at (λ r. quantity r a < 2 ^ 55) small r in
+    omega (arith, some))
 
 pub quota_small : (w : World) (quota : Name) → IsSound w → IsSmall (quota_use w quota)
-quota_small w quota sound =
-    let cpu = quota_within w quota (λ r. r.cpu) in
-    let memory = quota_within w quota (λ r. r.memory) in
-    (omega (arith, cpu, cpu_small w sound), omega (arith, memory, memory_small w sound))
+quota_small w quota sound = every (λ r. quantity r (quota_use w quota) < 2 ^ 55) (λ r.
+    let is = quantity_of (λ r. quota_sum w quota (quantity r)) r in
+    let part = quota_within w quota (quantity r) in
+    omega (arith, is, part, all_small w sound r))
 
 pub load_small : (w : World) (pool node : Name) → IsSound w → IsSmall (node_load w pool node)
-load_small w pool node sound =
-    let cpu = node_within w pool node (λ r. r.cpu) in
-    let memory = node_within w pool node (λ r. r.memory) in
-    (omega (arith, cpu, cpu_small w sound), omega (arith, memory, memory_small w sound))
+load_small w pool node sound = every (λ r. quantity r (node_load w pool node) < 2 ^ 55) (λ r.
+    let is = quantity_of (λ r. node_sum w pool node (quantity r)) r in
+    let part = node_within w pool node (quantity r) in
+    omega (arith, is, part, all_small w sound r))

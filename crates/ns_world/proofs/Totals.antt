@@ -1,6 +1,6 @@
 -- What live allocations take together, and the total of it that follows changed rows.
 use Rattle.std.specs.Prelude.{◌≡◌, ℕ, ◌+◌, ◌<◌, ◌≤◌, ◌%◌, ◌^◌, cond, List, Option, length, sum_by}
-use Rattle.std.proofs.Common.{sym, ap, subst, ◌∙◌, arith, get_or, take}
+use Rattle.std.proofs.Common.{refl, sym, ap, subst, ◌∙◌, arith, get_or, take}
 use Rattle.std.proofs.Math.Nat.{mod-eq_of_lt}
 use Rattle.std.proofs.lemmas.List.{take_all}
 use Rattle.std.proofs.lemmas.List.Sums.{sum_by_more}
@@ -11,32 +11,41 @@ use Rattle.keyed.specs.Levels.{holds_key}
 use Rattle.keyed.specs.Over.{over}
 use Rattle.keyed.specs.Table.{row_at, rows}
 use Rattle.keyed.specs.declared.key_set.KeySet.{KeySet}
+use Rattle.ns_types.proofs.Amounts.{at, counted_at, every, quantity_none, quantity_of, same_amounts}
 use Rattle.ns_types.proofs.Named.{numbers, one_number}
 use Rattle.ns_types.proofs.TableRows.{entries_empty}
 use Rattle.ns_types.specs.State.Names.{ByNumber, Key}
-use Rattle.ns_types.specs.State.Resources.{IsCounted, none}
+use Rattle.ns_types.specs.State.Resources.{InEach, IsCounted, Resource, none, quantity}
 use Rattle.ns_types.specs.State.Rows.{is_live}
 use Rattle.ns_types.specs.declared.allocation.Allocation.{Allocation}
 use Rattle.ns_types.specs.declared.resources.Resources.{Resources}
-use Rattle.ns_world.specs.Allocations.{IsKept, IsMoved, IsTotalOf, live_sum, row_amount, rows_use, use_after, use_before}
+use Rattle.ns_world.specs.Allocations.{IsKept, IsMoved, IsTotalOf, live_sum, row_amount, row_use, rows_use, use_after, use_before}
 use Rattle.ns_world.specs.Filing.{IsIndexOf, allocation_job}
-use Rattle.ns_world.specs.Total.{IsAlike, IsTotal}
+use Rattle.ns_world.specs.Total.{IsAlike, IsTotal, Moves}
+
+pub total_in_each : (total sums : Resources) → IsTotal total sums → (r : Resource) → quantity r total ≡ quantity r sums % 2 ^ 64
+total_in_each total sums = at (λ r. quantity r total ≡ quantity r sums % 2 ^ 64)
 
 -- where the sums fit, nothing was past 64 bits
 pub total_exact : (total sums : Resources) → IsTotal total sums → IsCounted sums → total ≡ sums
-total_exact total sums h counted = λ i. record {
-  cpu = (h.0 ∙ mod-eq_of_lt counted.0) i;
-  memory = (h.1 ∙ mod-eq_of_lt counted.1) i;
-}
+total_exact total sums h counted = same_amounts total sums (λ r.
+    total_in_each total sums h r ∙ mod-eq_of_lt (counted_at sums counted r))
 
 pub total_counted : (total sums : Resources) → IsTotal total sums → IsCounted total
-total_counted total sums h = (omega (arith, h.0), omega (arith, h.1))
+total_counted total sums h = every (λ r. quantity r total < 2 ^ 64) (λ r.
+    let is = total_in_each total sums h r in
+    omega (arith, is))
+
+pub moves_at : (before after old new : Resources) → Moves before after old new → (r : Resource) →
+    IsAlike (quantity r new + quantity r before) (quantity r old + quantity r after)
+moves_at before after old new = at (λ r. IsAlike (quantity r new + quantity r before) (quantity r old + quantity r after))
+
+pub none_total : IsTotal none none
+none_total = every (λ r. 0 ≡ 0 % 2 ^ 64) (λ r. refl)
 
 pub total_none : (total : Resources) (slots : ByNumber (Option Allocation)) → total ≡ none → slots ≡ empty → IsTotalOf total slots
-total_none total slots none_yet is = (
-  ap (λ r. r.cpu) none_yet ∙ sym (ap (λ n. n % 2 ^ 64) (no_use (λ r. r.cpu))),
-  ap (λ r. r.memory) none_yet ∙ sym (ap (λ n. n % 2 ^ 64) (no_use (λ r. r.memory))),
-)
+total_none total slots none_yet is = every (λ r. quantity r total ≡ live_sum (quantity r) (rows slots) % 2 ^ 64) (λ r.
+    ap (quantity r) none_yet ∙ quantity_none r ∙ sym (ap (λ n. n % 2 ^ 64) (no_use (quantity r))))
   where
     no_use : (amount : Resources → ℕ) → live_sum amount (rows slots) ≡ 0
     no_use amount = ap (live_sum amount) (ap rows is ∙ rows-empty) ∙ ap (sum_by (λ (e : ℕ × Allocation). cond (is_live e.1) (amount e.1.size) 0))
@@ -44,10 +53,7 @@ total_none total slots none_yet is = (
 
 -- vacant slots take nothing
 total_stays : (total : Resources) (slots after : ByNumber (Option Allocation)) → IsTotalOf total slots → rows after ≡ rows slots → IsTotalOf total after
-total_stays total slots after h same = (
-  h.0 ∙ ap (λ m. live_sum (λ r. r.cpu) m % 2 ^ 64) (sym same),
-  h.1 ∙ ap (λ m. live_sum (λ r. r.memory) m % 2 ^ 64) (sym same),
-)
+total_stays total slots after h same = subst (λ m. IsTotal total (rows_use m)) (sym same) h
 
 -- a set of the same keys is right for the same rows
 pub still_kept : (old new : KeySet) (total : Resources) (slots after : ByNumber (Option Allocation)) → IsKept old total slots →
@@ -58,6 +64,9 @@ still_kept old new total slots after h held same = record {
 }
 
 -- ---- changed rows
+
+pub amount_of_use : (row : Option Allocation) (r : Resource) → quantity r (row_use row) ≡ row_amount (quantity r) row
+amount_of_use row = quantity_of (λ r. row_amount (quantity r) row)
 
 module _ (amount : Resources → ℕ) (slots : ByNumber (Option Allocation)) (changes : List (ℕ × Option Allocation)) (total : Resources) where
   pub moved_next : (i : ℕ) (e : ℕ × Option Allocation) (sum next : Resources) (then now : ℕ) → i < length changes → e ≡ get_or changes i e →
@@ -85,8 +94,9 @@ module _ (slots changes : ByNumber (Option Allocation)) where
       omega (arith, law, same_before, h, small, moved)
 
   pub total_moved : (es : List (ℕ × Option Allocation)) (total new : Resources) → es ≡ entries changes → IsTotalOf total slots → IsCounted new →
-      IsMoved (λ r. r.cpu) slots es total new → IsMoved (λ r. r.memory) slots es total new → IsTotal new (rows_use (over (rows slots) changes))
-  total_moved es total new is h counted cpu memory = (
-    total_amount (λ r. r.cpu) total.cpu new.cpu h.0 counted.0 (subst (λ es. IsMoved (λ r. r.cpu) slots es total new) is cpu),
-    total_amount (λ r. r.memory) total.memory new.memory h.1 counted.1 (subst (λ es. IsMoved (λ r. r.memory) slots es total new) is memory),
-  )
+      InEach (λ r. IsMoved (quantity r) slots es total new) → IsTotal new (rows_use (over (rows slots) changes))
+  total_moved es total new is h counted moved =
+      every (λ r. quantity r new ≡ live_sum (quantity r) (over (rows slots) changes) % 2 ^ 64) (λ r.
+      total_amount (quantity r) (quantity r total) (quantity r new) (at (λ r. quantity r total ≡ live_sum (quantity r) (rows slots) % 2 ^ 64) h r)
+      (counted_at new counted r)
+      (subst (λ es. IsMoved (quantity r) slots es total new) is (at (λ r. IsMoved (quantity r) slots es total new) moved r)))

@@ -8,6 +8,7 @@ use Rattle.keyed.specs.Table.{row_at, rows}
 use Rattle.keyed.specs.declared.key_set.KeySet.{KeySet}
 use Rattle.ns_types.specs.State.Lists.{Each}
 use Rattle.ns_types.specs.State.Names.{ByNumber}
+use Rattle.ns_types.specs.State.Resources.{each_resource, quantity}
 use Rattle.ns_types.specs.State.Rows.{is_live}
 use Rattle.ns_types.specs.declared.allocation.Allocation.{Allocation}
 use Rattle.ns_types.specs.declared.resources.Resources.{Resources}
@@ -31,7 +32,7 @@ abbrev pub live_sum : (Resources → ℕ) → ByNumber Allocation → ℕ
 live_sum amount m = sum_by (λ e. cond (is_live e.1) (amount e.1.size) 0) (entries m)
 
 abbrev pub rows_use : ByNumber Allocation → Resources
-rows_use m = record { cpu = live_sum (λ r. r.cpu) m; memory = live_sum (λ r. r.memory) m }
+rows_use m = each_resource (λ r. live_sum (quantity r) m)
 
 -- what the live rows of the slots take together
 abbrev pub live_use : ByNumber (Option Allocation) → Resources
@@ -52,7 +53,7 @@ abbrev pub row_amount : (Resources → ℕ) → Option Allocation → ℕ
 row_amount amount row = option_map_or (λ a. cond (is_live a) (amount a.size) 0) row 0
 
 abbrev pub row_use : Option Allocation → Resources
-row_use row = record { cpu = row_amount (λ r. r.cpu) row; memory = row_amount (λ r. r.memory) row }
+row_use row = each_resource (λ r. row_amount (quantity r) row)
 
 -- what the changed rows take
 abbrev pub use_after : (Resources → ℕ) → List (ℕ × Option Allocation) → ℕ

@@ -4,7 +4,7 @@ ghost use Rattle.std.specs.Prelude.{◌≡◌, OnOk, option_copied};
 ghost use Rattle.std.specs.FinMap.{empty, entries};
 ghost use Rattle.keyed.specs.Over.{over};
 ghost use Rattle.keyed.specs.Table.{row_at, rows, without_vacant};
-ghost use Rattle.ns_types.specs.State.Resources.{IsCounted};
+ghost use Rattle.ns_types.specs.State.Resources.{InEach, IsCounted, quantity};
 ghost use Rattle.ns_world.specs.Allocations.{HasAllocationRoom, IsMoved, IsTotalOf};
 ghost use Rattle.ns_world.specs.Allocations.{live_use, row_use, rows_use};
 ghost use Rattle.ns_world.specs.Filing.{AreNumbersUnder, allocation_job};
@@ -76,8 +76,7 @@ fn total_after(
 ) -> Resources
     requires { IsCounted total }
     ensures counted { IsCounted result }
-    ensures cpu { IsMoved (λ r. r.cpu) slots.now changes.now total result }
-    ensures memory { IsMoved (λ r. r.memory) slots.now changes.now total result }
+    ensures moved { InEach (λ r. IsMoved (quantity r) slots.now changes.now total result) }
 {
     let mut sum = total;
     for slot in changes {

@@ -3,6 +3,7 @@ use Rattle.std.specs.Prelude.{◌≡◌, ℕ, ◌+◌, Bool, true, false, cond, 
 use Rattle.std.proofs.Common.{refl, sym, ap, subst, ◌∙◌}
 use Rattle.std.specs.Option.{option_map_or}
 use Rattle.std.specs.FinMap.{get, entries}
+use Rattle.ns_types.specs.State.Resources.{each_resource, quantity}
 use Rattle.ns_types.specs.declared.allocation.Allocation.{Allocation}
 use Rattle.ns_types.specs.declared.resources.Resources.{Resources}
 use Rattle.ns_types.specs.Isolation.{Part, alone_in}
@@ -49,11 +50,7 @@ module _ (part : Part) (w : World) where
       (λ ns t is other. ap (λ b. cond b (tenant_sum is_live amount t) 0) (names_none apart q ns t mine is other))
 
   pub quota_use_alone : NamesApart part w → (q : Name) → part.quotas q ≡ true → quota_use (alone_in part w) q ≡ quota_use w q
-  quota_use_alone apart q mine = λ i. record {
-    cpu = sym (quota_sum_alone apart q mine (λ r. r.cpu)) i;
-    memory =
-        sym (quota_sum_alone apart q mine (λ r. r.memory)) i;
-  }
+  quota_use_alone apart q mine = λ i. each_resource (λ r. sym (quota_sum_alone apart q mine (quantity r)) i)
 
   -- whoever is live on a chosen pool is chosen
   pub on_own : StandsApart part w → (pool node ns : Name) (t : Tenant) (n : ℕ) (a : Allocation) → part.pools pool ≡ true → get w.tenants ns ≡ Some t →
@@ -90,11 +87,7 @@ module _ (part : Part) (w : World) where
           (each_row numbers one_number (λ n a. is_live_on pool node a ≡ false) t.allocations (λ n a at. on_none apart pool node ns t n a mine is other at))
 
   pub node_load_alone : StandsApart part w → (pool node : Name) → part.pools pool ≡ true → node_load (alone_in part w) pool node ≡ node_load w pool node
-  node_load_alone apart pool node mine = λ i. record {
-    cpu = sym (node_sum_alone apart pool node mine (λ r. r.cpu)) i;
-    memory =
-        sym (node_sum_alone apart pool node mine (λ r. r.memory)) i;
-  }
+  node_load_alone apart pool node mine = λ i. each_resource (λ r. sym (node_sum_alone apart pool node mine (quantity r)) i)
 
 -- the quota that a namespace names is of its side
 pub its_quota : (part : Part) (w : World) → NamesApart part w → (ns : Name) (t : Tenant) (q : Name) → get w.tenants ns ≡ Some t →

@@ -6,6 +6,7 @@ use Rattle.std.specs.FinMap.{entries, from_entries, get, len-entries}
 use Rattle.std.specs.List.{list_all}
 use Rattle.std.specs.Option.{option_and_then, option_map_or}
 use Rattle.std.specs.Ordering.{nat_cmp}
+use Rattle.ns_types.proofs.Amounts.{every}
 use Rattle.ns_types.specs.declared.allocation.Allocation.{Allocation}
 use Rattle.ns_types.specs.declared.evaluation.Evaluation.{Evaluation}
 use Rattle.ns_types.specs.declared.job.Job.{Job}
@@ -20,14 +21,14 @@ use Rattle.ns_types.specs.Placing.Wanted.{live_ones}
 use Rattle.ns_types.specs.State.Limits.{is_good_offer}
 use Rattle.ns_types.specs.State.Lists.{by_number}
 use Rattle.ns_types.specs.State.Names.{Name, same_name}
-use Rattle.ns_types.specs.State.Resources.{is_within}
+use Rattle.ns_types.specs.State.Resources.{is_within, quantity}
 use Rattle.ns_types.specs.State.Rows.{World, Tenant, PoolRows, is_live, is_live_on}
 use Rattle.ns_types.specs.State.Sums.{node_load, node_sum, tenant_sum}
 use Rattle.ns_types.specs.Validity.{IsCountable, IsSmall, IsSound, IsSoundNode, seen_load}
 use Rattle.ns_types.specs.Working.Snapshot.{allocations_on, is_done_for, live_on, nodes_of, own_allocations, pool_for, quota_seen, seen_live, snapshot_of}
 use Rattle.ns_types.proofs.Elements.{all_from_each, each_mapped}
 use Rattle.ns_types.proofs.Lists.{each}
-use Rattle.ns_types.proofs.LiveSums.{all_live, cpu_small, live_by_tenant, live_size, memory_small, quota_small}
+use Rattle.ns_types.proofs.LiveSums.{all_live, all_small, live_by_tenant, live_size, quota_small}
 use Rattle.ns_types.proofs.Named.{names, one_name, numbers, one_number}
 use Rattle.ns_types.proofs.Sums.{sum_filter, sum_flat, sum_kept, sum_map, sum_same}
 use Rattle.ns_types.proofs.Tables.{each_row}
@@ -126,7 +127,8 @@ module _ (w : World) (s : IsSound w) where
 
     load_within : (name : Name) (node : Node) → IsSoundNode w pool name node → is_within (seen_load (seen_node (name, node))) node.offer.capacity ≡ true
     load_within name node sound = within_less (seen_load (seen_node (name, node))) (node_load w pool name) node.offer.capacity
-        (seen_sum w pool name (λ r. r.cpu)) (seen_sum w pool name (λ r. r.memory)) sound.within
+        (every (λ r. sum_by (λ a. quantity r a.size) (live_on w pool name) ≤ node_sum w pool name (quantity r)) (λ r.
+        seen_sum w pool name (quantity r))) sound.within
 
   used_small : (o : Option Name) (q : QuotaSeen) → option_and_then (quota_seen w) o ≡ Some q → IsSmall q.used
   used_small None q named = absurd (not_Some _ named)
@@ -141,6 +143,8 @@ module _ (w : World) (s : IsSound w) where
         few_nodes = few_seen pool;
         good = each_seen pool (λ n. is_good_offer n.row.offer) (λ name node sound. sound.good);
         within = each_seen pool (λ n. is_within (seen_load n) n.row.offer.capacity) (load_within pool);
-        own = (omega (arith, taken (λ r. r.cpu), cpu_small w s), omega (arith, taken (λ r. r.memory), memory_small w s));
+        own = every (λ r. sum_by (λ a. quantity r a.row.size) (live_ones (own_allocations t e.job (get t.jobs e.job))) < 2 ^ 55) (λ r.
+            let some = taken (quantity r) in
+            omega (arith, some, all_small w s r));
         used = used_small t.namespace.quota;
       }

@@ -3,6 +3,7 @@ use Rattle.std.specs.Prelude.{◌≡◌, ℕ, ◌+◌, ◌≤◌, Bool, true, fa
 use Rattle.std.proofs.Common.{◌⊎◌, inl, inr, refl, sym, ap, subst, ◌∙◌, arith}
 use Rattle.std.specs.FinMap.{entries, get, insert}
 use Rattle.std.specs.Option.{option_map_or}
+use Rattle.ns_types.proofs.Amounts.{at, every, every_true}
 use Rattle.ns_types.specs.declared.allocation.Allocation.{Allocation}
 use Rattle.ns_types.specs.declared.job.Job.{Job}
 use Rattle.ns_types.specs.declared.name.NameKind.TheVariants as NameKind
@@ -17,7 +18,7 @@ use Rattle.ns_types.specs.State.Lists.{Each}
 use Rattle.ns_types.specs.Settling.Making.{put_tenant, put_pool, with_node, change_tenant}
 use Rattle.ns_types.specs.State.Name.{is_name}
 use Rattle.ns_types.specs.State.Names.{Name, Key, same_name}
-use Rattle.ns_types.specs.State.Resources.{plus, is_within}
+use Rattle.ns_types.specs.State.Resources.{is_within, plus, quantity}
 use Rattle.ns_types.specs.State.Rows.{World, Tenant, PoolRows, is_live_on, is_ready, node_at}
 use Rattle.ns_types.specs.Access.Sharing.{permits}
 use Rattle.ns_types.specs.State.Sums.{tenant_sum, node_sum, node_load}
@@ -183,7 +184,9 @@ module _ (kept : Snapshot) (j : Job) (p : Placement) (w : World) (s : IsAllocate
       → IsTrue (is_within (plus (node_load x pool n) (size_of (filter (goes_to kept pool n) rest))) most)
   load_with rest pool n most = within_less (plus (node_load x pool n) (size_of (filter (goes_to kept pool n) rest)))
       (plus (node_load w pool n) (size_of (filter (goes_to kept pool n) (p ∷ rest)))) most
-      (amount (λ r. r.cpu)) (amount (λ r. r.memory))
+      (every
+      (λ r. node_sum x pool n (quantity r) + sum_by (λ p. quantity r p.size) (filter (goes_to kept pool n) rest)
+      ≤ node_sum w pool n (quantity r) + sum_by (λ p. quantity r p.size) (filter (goes_to kept pool n) (p ∷ rest))) (λ r. amount (quantity r)))
     where
       amount : (f : Resources → ℕ) → node_sum x pool n f + sum_by (λ (p : Placement). f p.size) (filter (goes_to kept pool n) rest)
           ≤ node_sum w pool n f + sum_by (λ (p : Placement). f p.size) (filter (goes_to kept pool n) (p ∷ rest))
@@ -198,7 +201,7 @@ module _ (kept : Snapshot) (j : Job) (p : Placement) (w : World) (s : IsAllocate
     new_sound = record {
       below = itself number;
       named = λ i. suits.job_named i && part.named i && suits.pool_named i && named i;
-      sized = λ i. by_le 1 p.size.cpu part.cpu i && by_le 1 p.size.memory part.memory i;
+      sized = every_true (λ r. nat_le 1 (quantity r p.size)) (λ r. by_le 1 (quantity r p.size) (at (λ r. 1 ≤ quantity r p.size) part.least r));
       priority = suits.priority;
       placed = λ _. record {
         allowed = record { exists = node_pool x kept.pool name bumped there_now; permitted = suits.permitted; its_quota = λ q e. absurd (not_Some _ e) };
@@ -335,7 +338,10 @@ module _ (kept : Snapshot) (j : Job) (has_job : kept.job ≡ Some j) (old : Worl
         nodes = r.nodes;
         room = λ pool n row at. within_less (plus (node_load w pool n) (size_of (filter (goes_to kept pool n) rest)))
             (plus (node_load w pool n) (size_of (filter (goes_to kept pool n) (p ∷ rest)))) row.offer.capacity
-            (fewer pool n (λ r. r.cpu)) (fewer pool n (λ r. r.memory)) (r.room pool n row at);
+            (every
+            (λ r. node_sum w pool n (quantity r) + sum_by (λ p. quantity r p.size) (filter (goes_to kept pool n) rest)
+            ≤ node_sum w pool n (quantity r) + sum_by (λ p. quantity r p.size) (filter (goes_to kept pool n) (p ∷ rest))) (λ r. fewer pool n (quantity r)))
+            (r.room pool n row at);
       }
       by (Some node) at =
           let a = r.nodes kept.pool (node_name kept p.node) node at in

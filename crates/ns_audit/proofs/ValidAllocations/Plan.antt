@@ -4,6 +4,8 @@ use Rattle.std.specs.Prelude.{slice_get, sum_by}
 use Rattle.std.proofs.Common.{refl, sym, ap, subst, arith}
 use Rattle.std.specs.List.{list_all}
 use Rattle.std.specs.Option.{option_map, option_map_or}
+use Rattle.ns_types.proofs.LiveSums.{least_at}
+use Rattle.ns_types.proofs.Amounts.{every}
 use Rattle.ns_types.specs.declared.job.Group.{Group}
 use Rattle.ns_types.specs.declared.job.Job.{Job}
 use Rattle.ns_types.specs.declared.job.Task.{Task}
@@ -20,7 +22,7 @@ use Rattle.ns_types.specs.State.Lists.{Each}
 use Rattle.ns_types.specs.State.Name.{is_name}
 use Rattle.ns_types.specs.Placing.Plan.{plan, placing_of, quota_of, opening}
 use Rattle.ns_types.specs.Placing.Planning.{Site, Choice, place, placement_of, then_rest, without_one, ended_by_quota, choice, after}
-use Rattle.ns_types.specs.State.Resources.{plus, limits_allow}
+use Rattle.ns_types.specs.State.Resources.{InEach, limits_allow, plus, quantity}
 use Rattle.ns_types.specs.Placing.Wanted.{missing, group_size, demands_from, demands, stopping}
 use Rattle.ns_types.proofs.Named.{first_of_both, second_of_both}
 use Rattle.ns_types.proofs.Elements.{each_append}
@@ -31,8 +33,7 @@ use Rattle.ns_audit.proofs.ValidAllocations.Sums.{le_sum}
 pub record IsPartOf (j : Job) (group : ℕ) (size : Resources) : Type 0 where
   pub running : j.stop ≡ false
   pub named : IsTrue (is_name NameKind.Group (group_name j group))
-  pub cpu : 1 ≤ size.cpu
-  pub memory : 1 ≤ size.memory
+  pub least : InEach (λ r. 1 ≤ quantity r size)
 
 -- ---- the plan places what is demanded
 
@@ -73,12 +74,9 @@ module _ (j : Job) (own : List OwnAllocation) (running : j.stop ≡ false) where
     running = running;
     named = subst (λ o. IsTrue (is_name NameKind.Group (option_map_or (λ (g : Group). g.name) o []))) (sym at)
         (first_of_both (is_name NameKind.Group g.name) _ counted);
-    cpu = summed (λ t. t.resources.cpu) g.tasks some
-        (λ t h. le_by 1 t.resources.cpu (first_of_both (nat_le 1 t.resources.cpu) _
-        (first_of_both (is_between 1 2147483647 t.resources.cpu) _ (second_of_both (is_name NameKind.Task t.name) _ h)))) all_good;
-    memory = summed (λ t. t.resources.memory) g.tasks some
-        (λ t h. le_by 1 t.resources.memory (first_of_both (nat_le 1 t.resources.memory) _
-        (second_of_both (is_between 1 2147483647 t.resources.cpu) _ (second_of_both (is_name NameKind.Task t.name) _ h)))) all_good;
+    least = every (λ r. 1 ≤ sum_by (λ t. quantity r t.resources) g.tasks) (λ r.
+        summed (λ t. quantity r t.resources) g.tasks some
+        (λ t h. least_at t.resources (second_of_both (is_name NameKind.Task t.name) _ h) r) all_good);
   }
     where
       with_tasks : (is_name NameKind.Group g.name && nat_le g.count 1000 && is_between 1 16 (length g.tasks) && list_all is_good_task g.tasks) ≡ true

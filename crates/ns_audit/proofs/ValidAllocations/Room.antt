@@ -3,6 +3,7 @@ use Rattle.std.specs.Prelude.{◌≡◌, ℕ, ◌+◌, ◌≤◌, Bool, true, fa
 use Rattle.std.specs.Prelude.{slice_get, sum_by}
 use Rattle.std.proofs.Common.{◌⊎◌, inl, inr, refl, sym, ap, subst, ◌∙◌, arith}
 use Rattle.std.specs.Option.{option_map_or}
+use Rattle.ns_types.proofs.Amounts.{at, every}
 use Rattle.ns_types.specs.declared.allocation.DesiredStatus.TheVariants as DesiredStatus
 use Rattle.ns_types.specs.declared.name.NameKind.TheVariants as NameKind
 use Rattle.ns_types.specs.declared.node.Node.{Node}
@@ -19,9 +20,9 @@ use Rattle.ns_types.specs.Settling.Making.{with_desired}
 use Rattle.ns_types.specs.State.Name.{is_name}
 use Rattle.ns_types.specs.State.Names.{Name, same_name, same_number, has_number}
 use Rattle.ns_types.specs.Placing.Plan.{constraints_of}
-use Rattle.ns_types.specs.State.Resources.{plus, is_within}
+use Rattle.ns_types.specs.State.Resources.{is_within, plus, quantity}
 use Rattle.ns_types.specs.State.Rows.{World, is_ready, is_free, node_at}
-use Rattle.ns_types.specs.State.Sums.{node_load}
+use Rattle.ns_types.specs.State.Sums.{node_load, node_sum}
 use Rattle.ns_types.specs.Working.Parts.{goes_to}
 use Rattle.ns_types.proofs.Lists.{not_both}
 use Rattle.ns_types.proofs.Named.{one_number, same_name_is, same_number_refl, first_of_both, second_of_both}
@@ -31,7 +32,7 @@ use Rattle.ns_types.proofs.Elements.{each_append}
 use Rattle.ns_types.proofs.Tests.{either_of}
 use Rattle.std.proofs.lemmas.Bool.{or_right}
 use Rattle.ns_audit.proofs.ValidAllocations.Statement.{IsAllocated}
-use Rattle.ns_audit.proofs.ValidAllocations.Sound.{within_less, sum_from}
+use Rattle.ns_audit.proofs.ValidAllocations.Sound.{IsBelow, load_from, within_less}
 use Rattle.ns_audit.proofs.ValidAllocations.Going.{goes_from}
 use Rattle.ns_audit.proofs.ValidAllocations.Nodes.{continues_then, continues_each, continues_change}
 use Rattle.ns_audit.proofs.ValidAllocations.Sums.{both_le}
@@ -39,12 +40,9 @@ use Rattle.ns_audit.proofs.ValidAllocations.Work.{Continues, continues_allocates
 
 -- ---- amounts
 
-abbrev pub IsBelow : Resources → Resources → Type 0
-IsBelow a b = (a.cpu ≤ b.cpu) × (a.memory ≤ b.memory)
-
 pub plus_within : (a b c d most : Resources) → IsBelow a b → IsBelow c d → IsTrue (is_within (plus b d) most) → IsTrue (is_within (plus a c) most)
-plus_within a b c d most h k = within_less (plus a c) (plus b d) most (both_le a.cpu b.cpu c.cpu d.cpu h.0 k.0)
-    (both_le a.memory b.memory c.memory d.memory h.1 k.1)
+plus_within a b c d most h k = within_less (plus a c) (plus b d) most (every (λ r. quantity r a + quantity r c ≤ quantity r b + quantity r d) (λ r.
+    both_le (quantity r a) (quantity r b) (quantity r c) (quantity r d) (at (λ r. quantity r a ≤ quantity r b) h r) (at (λ r. quantity r c ≤ quantity r d) k r)))
 
 -- ---- sums over parts of a list
 
@@ -135,8 +133,10 @@ module _ (kept : Snapshot) (ps : List Placement) (w : World) (s : IsAllocated w)
     goes = continues_same w w refl refl;
     room = λ pool name node at. within_less (plus (node_load w pool name) (size_of (filter (goes_to kept pool name) (filter (λ _. false) ps))))
         (node_load w pool name) node.offer.capacity
-        (none_to _ _ (no_parts (λ (p : Placement). p.size.cpu) (goes_to kept pool name) ps))
-        (none_to _ _ (no_parts (λ (p : Placement). p.size.memory) (goes_to kept pool name) ps)) (s.within pool name node at);
+        (every
+        (λ r. node_sum w pool name (quantity r) + sum_by (λ p. quantity r p.size) (filter (goes_to kept pool name) (filter (λ _. false) ps))
+        ≤ node_sum w pool name (quantity r)) (λ r.
+        none_to _ _ (no_parts (λ (p : Placement). quantity r p.size) (goes_to kept pool name) ps))) (s.within pool name node at);
     standing = tt;
   }
     where
@@ -170,7 +170,7 @@ module _ (kept : Snapshot) (ps : List Placement) (w : World) (s : IsAllocated w)
     less pool name =
         let from = goes_from c.world left (continues_allocates w c.world s d.goes).allocated
         (evicted_goes (victims_of c.world kept (part_of k ps)) c.world).goes in
-        (sum_from c.world left from pool name (λ r. r.cpu), sum_from c.world left from pool name (λ r. r.memory))
+        load_from c.world left from pool name
 
     module _ (row : Node) (at : node_at w kept.pool (node_name kept k) ≡ Some row)
         (accepted : accepts kept left (node_name kept k) (part_of k ps) c.placed row ≡ true) where
@@ -211,25 +211,23 @@ module _ (kept : Snapshot) (ps : List Placement) (w : World) (s : IsAllocated w)
         where
           in_part : same_name name (node_name kept k) ≡ true → IsBelow (size_of (filter (goes_to kept pool name) (committed_placements with_it ps)))
               (size_of (part_of k ps))
-          in_part same = (
-            parts_of (λ (p : Placement). p.size.cpu) (goes_to kept pool name) (λ p. has_number (c.committed ++ k ∷ []) p.node) (λ p. same_number p.node k)
-                (its_part pool name same) ps,
-            parts_of (λ (p : Placement). p.size.memory) (goes_to kept pool name) (λ p. has_number (c.committed ++ k ∷ []) p.node) (λ p. same_number p.node k)
-                (its_part pool name same) ps,
-          )
+          in_part same = every
+              (λ r. sum_by (λ p. quantity r p.size) (filter (goes_to kept pool name) (committed_placements with_it ps))
+              ≤ sum_by (λ p. quantity r p.size) (part_of k ps)) (λ r.
+              parts_of (λ (p : Placement). quantity r p.size) (goes_to kept pool name) (λ p. has_number (c.committed ++ k ∷ []) p.node)
+              (λ p. same_number p.node k) (its_part pool name same) ps)
 
           before : (same_name pool kept.pool && same_name name (node_name kept k)) ≡ false →
               IsBelow (size_of (filter (goes_to kept pool name) (committed_placements with_it ps)))
               (size_of (filter (goes_to kept pool name) (committed_placements c ps)))
-          before differs = (
-            parts_among (λ (p : Placement). p.size.cpu) (goes_to kept pool name) (λ p. has_number (c.committed ++ k ∷ []) p.node) (goes_to kept pool name)
-                (λ p. has_number c.committed p.node) (other_part pool name differs) ps,
-            parts_among (λ (p : Placement). p.size.memory) (goes_to kept pool name) (λ p. has_number (c.committed ++ k ∷ []) p.node) (goes_to kept pool name)
-                (λ p. has_number c.committed p.node) (other_part pool name differs) ps,
-          )
+          before differs = every
+              (λ r. sum_by (λ p. quantity r p.size) (filter (goes_to kept pool name) (committed_placements with_it ps))
+              ≤ sum_by (λ p. quantity r p.size) (filter (goes_to kept pool name) (committed_placements c ps))) (λ r.
+              parts_among (λ (p : Placement). quantity r p.size) (goes_to kept pool name) (λ p. has_number (c.committed ++ k ∷ []) p.node)
+              (goes_to kept pool name) (λ p. has_number c.committed p.node) (other_part pool name differs) ps)
 
           itself : (a : Resources) → IsBelow a a
-          itself a = (omega arith, omega arith)
+          itself a = every (λ r. quantity r a ≤ quantity r a) (λ r. omega arith)
 
           by : (b : Bool) → (same_name pool kept.pool && same_name name (node_name kept k)) ≡ b →
               IsTrue (is_within (plus (node_load left pool name) (size_of (filter (goes_to kept pool name) (committed_placements with_it ps))))

@@ -3,6 +3,7 @@ use Rattle.std.specs.Prelude.{◌≡◌, ℕ, ◌≤◌, Bool, true, false, cond
 use Rattle.std.proofs.Common.{refl, sym, ap, subst, ◌∙◌, arith}
 use Rattle.std.specs.FinMap.{get, contains_key}
 use Rattle.std.specs.Option.{option_map_or, option_and_then}
+use Rattle.ns_types.proofs.Amounts.{at, every, every_true, within_at}
 use Rattle.ns_types.specs.declared.allocation.Allocation.{Allocation}
 use Rattle.ns_types.specs.declared.name.NameKind.TheVariants as NameKind
 use Rattle.ns_types.specs.declared.node.Node.{Node}
@@ -10,10 +11,10 @@ use Rattle.ns_types.specs.declared.resources.Resources.{Resources}
 use Rattle.ns_types.specs.State.Limits.{is_between, is_pool_name}
 use Rattle.ns_types.specs.State.Name.{is_name}
 use Rattle.ns_types.specs.State.Names.{Name, Key, same_name}
-use Rattle.ns_types.specs.State.Resources.{is_within}
+use Rattle.ns_types.specs.State.Resources.{InEach, in_each, is_within, quantity}
 use Rattle.ns_types.specs.State.Rows.{World, Tenant, PoolRows, is_live, is_live_on, is_ready, allocation_at, node_at}
 use Rattle.ns_types.specs.Access.Sharing.{permits}
-use Rattle.ns_types.specs.State.Sums.{tenant_sum, node_sum, node_load}
+use Rattle.ns_types.specs.State.Sums.{node_load, node_sum, tenant_sum}
 use Rattle.ns_types.specs.Validity.{IsPlaced, IsSoundAllocation, IsLiveAt}
 use Rattle.ns_types.proofs.Named.{names, one_name, numbers as numbers_, one_number, first_of_both, second_of_both}
 use Rattle.std.specs.Cmp.Derive.{both_true}
@@ -38,10 +39,14 @@ le_same a b e = omega arith
 pub itself : (n : ℕ) → n ≤ n
 itself n = omega arith
 
-pub within_less : (a b c : Resources) → a.cpu ≤ b.cpu → a.memory ≤ b.memory → IsTrue (is_within b c) → IsTrue (is_within a c)
-within_less a b c cpu memory h = both_true
-    (by_le a.cpu c.cpu (le_then a.cpu b.cpu c.cpu cpu (le_by b.cpu c.cpu (first_of_both (nat_le b.cpu c.cpu) _ h))))
-    (by_le a.memory c.memory (le_then a.memory b.memory c.memory memory (le_by b.memory c.memory (second_of_both (nat_le b.cpu c.cpu) _ h))))
+-- no resource of the first is over that of the second
+abbrev pub IsBelow : Resources → Resources → Type 0
+IsBelow a b = InEach (λ r. quantity r a ≤ quantity r b)
+
+pub within_less : (a b c : Resources) → IsBelow a b → IsTrue (is_within b c) → IsTrue (is_within a c)
+within_less a b c less h = every_true (λ r. nat_le (quantity r a) (quantity r c)) (λ r.
+    by_le (quantity r a) (quantity r c)
+    (le_then (quantity r a) (quantity r b) (quantity r c) (at (λ r. quantity r a ≤ quantity r b) less r) (within_at b c h r)))
 
 -- ---- rows
 
@@ -195,7 +200,7 @@ module _ (w x : World) (s : IsAllocated w) (stay : NodesStay w x) (ns : Name) (t
     below = le_then n c.tenant.allocation_number t.allocation_number old.below c.number;
     named = subst (λ (a : Allocation). IsTrue (is_name NameKind.Job a.job && is_name NameKind.Group a.group && is_pool_name a.pool
         && is_name NameKind.Node a.node)) (sym c.same) old.named;
-    sized = subst (λ (a : Allocation). IsTrue (nat_le 1 a.size.cpu && nat_le 1 a.size.memory)) (sym c.same) old.sized;
+    sized = subst (λ (a : Allocation). IsTrue (in_each (λ r. nat_le 1 (quantity r a.size)))) (sym c.same) old.sized;
     priority = subst (λ (a : Allocation). IsTrue (is_between 1 100 a.priority)) (sym c.same) old.priority;
     made_by = le_then b.evaluation c.tenant.evaluation_number t.evaluation_number
         (subst (λ (a : Allocation). a.evaluation ≤ c.tenant.evaluation_number) (sym c.same) old.made_by) c.evaluations;
@@ -205,6 +210,11 @@ module _ (w x : World) (s : IsAllocated w) (stay : NodesStay w x) (ns : Name) (t
     modified = c.modified;
     placed = placed_from;
   }
+
+-- so no load is more than it was
+pub load_from : (w x : World) → IsFrom w x → (pool node : Name) → IsBelow (node_load x pool node) (node_load w pool node)
+load_from w x from pool node = every (λ r. node_sum x pool node (quantity r) ≤ node_sum w pool node (quantity r)) (λ r.
+    sum_from w x from pool node (quantity r))
 
 module _ (w x : World) (s : IsAllocated w) (from : IsFrom w x) where
   live_from : (key : Key) (b : Allocation) → IsLiveAt x key b → (a : Allocation) × IsLiveAt w key a × (a.pool ≡ b.pool) × (a.node ≡ b.node) ×
@@ -228,7 +238,7 @@ module _ (w x : World) (s : IsAllocated w) (from : IsFrom w x) where
         let v = live_from b z live' in
         s.one_place a b u.0 v.0 u.1 v.1 (u.2 ∙ pool ∙ sym v.2) (u.3 ∙ node ∙ sym v.3) (u.4 ∙ place ∙ sym v.4);
     within = λ pool name node at. within_less (node_load x pool name) (node_load w pool name) node.offer.capacity
-        (sum_from w x from pool name (λ r. r.cpu)) (sum_from w x from pool name (λ r. r.memory)) (hold pool name node at);
+        (load_from w x from pool name) (hold pool name node at);
   }
 
 -- ---- the same nodes

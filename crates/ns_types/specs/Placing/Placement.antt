@@ -7,7 +7,7 @@ use Rattle.std.specs.declared.cmp.Ordering.{Ordering}
 use Rattle.ns_types.specs.declared.snapshot.LiveAllocation.{LiveAllocation}
 use Rattle.ns_types.specs.declared.resources.Resources.{Resources}
 use Rattle.ns_types.specs.Placing.Choice.{best}
-use Rattle.ns_types.specs.State.Resources.{is_within}
+use Rattle.ns_types.specs.State.Resources.{by_each, is_within, quantity}
 
 -- a node as a plan sees it: whether the job may use it, what is left of it, and whom the job may evict there,
 -- the first to go first
@@ -23,8 +23,7 @@ fits size c = c.feasible && is_within size c.left
 -- least CPU left afterwards, then least memory, then least name
 abbrev pub compare_left : Resources → Candidate → Candidate → Ordering
 compare_left size =
-    then_cmp (on (λ c. c.left.cpu - size.cpu) nat_cmp)
-    (then_cmp (on (λ c. c.left.memory - size.memory) nat_cmp) (on (λ c. c.name) (slice_cmp nat_cmp)))
+    then_cmp (by_each (λ r c. quantity r c.left - quantity r size)) (on (λ c. c.name) (slice_cmp nat_cmp))
 
 abbrev pub better : Resources → Candidate → Candidate → Bool
 better size a b = is_lt (compare_left size a b)

@@ -17,11 +17,12 @@ use Rattle.ns_types.specs.declared.node.Offer.{Offer}
 use Rattle.ns_types.specs.declared.records.Namespace.{Namespace}
 use Rattle.ns_types.specs.declared.records.Quota.{Quota}
 use Rattle.ns_types.specs.declared.resources.Limit.{Limit}
+use Rattle.ns_types.specs.declared.resources.Limits.{Limits}
 use Rattle.ns_types.specs.declared.resources.Resources.{Resources}
 use Rattle.ns_types.specs.State.Lists.{is_empty, first_each}
 use Rattle.ns_types.specs.State.Name.{is_name}
 use Rattle.ns_types.specs.State.Names.{Name, name_cmp, same_name, has_name}
-use Rattle.ns_types.specs.State.Resources.{limits_in}
+use Rattle.ns_types.specs.State.Resources.{in_each, limit_on, limits_in, quantity}
 use Rattle.ns_types.specs.Wire.Words.{target_text}
 
 abbrev pub is_between : ℕ → ℕ → ℕ → Bool
@@ -41,7 +42,7 @@ is_pool_name name = is_name NameKind.Pool name && not (bytes_eq name (codes "all
 -- ---- jobs
 
 abbrev pub is_amount : Resources → Bool
-is_amount r = is_between 1 2147483647 r.cpu && is_between 1 2147483647 r.memory
+is_amount a = in_each (λ r. is_between 1 2147483647 (quantity r a))
 
 -- as it is written
 abbrev pub is_target : Target → Bool
@@ -100,8 +101,11 @@ is_limit Limit.Unlimited = true
 is_limit (Limit.AtMost most) = is_between 1 (2 ^ 53) most
 is_limit Limit.Nothing = true
 
+abbrev pub are_limits : Limits → Bool
+are_limits l = in_each (λ r. is_limit (limit_on r l))
+
 abbrev pub is_good_quota : Quota → Bool
-is_good_quota q = is_text q.description && is_limit (limits_in q.limits).cpu && is_limit (limits_in q.limits).memory
+is_good_quota q = is_text q.description && are_limits (limits_in q.limits)
 
 -- ---- policies and tokens
 

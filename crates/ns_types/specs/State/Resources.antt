@@ -2,36 +2,66 @@
 -- Nomad's page on resource quotas.
 use Rattle.std.specs.Prelude.{ℕ, ◌+◌, ◌-◌, ◌<◌, ◌^◌, Bool, true, false, ◌&&◌, nat_le, List, sum_by, Option}
 use Rattle.std.specs.Option.{unwrap_or}
+use Rattle.std.specs.Ordering.{nat_cmp, on, then_cmp}
+use Rattle.std.specs.declared.cmp.Ordering.{Ordering}
 use Rattle.ns_types.specs.declared.resources.Resources.{Resources}
 use Rattle.ns_types.specs.declared.resources.Limit.{Limit}
 use Rattle.ns_types.specs.declared.resources.Limit.TheVariants.{Unlimited, AtMost, Nothing}
 use Rattle.ns_types.specs.declared.resources.Limits.{Limits}
 use Rattle.ns_types.specs.State.Names.{same_number}
 
+-- ---- the resources: one more is one line more in each of these
+
+pub data Resource : Type 0 where
+  Cpu : Resource
+  Memory : Resource
+
+-- how much of it
+abbrev pub quantity : Resource → Resources → ℕ
+quantity Cpu = λ r. r.cpu
+quantity Memory = λ r. r.memory
+
+-- so much of each
+abbrev pub each_resource : (Resource → ℕ) → Resources
+each_resource f = record { cpu = f Cpu; memory = f Memory }
+
+-- it is so of each
+abbrev pub in_each : (Resource → Bool) → Bool
+in_each p = p Cpu && p Memory
+
+abbrev pub InEach : (Resource → Type 0) → Type 0
+InEach P = P Cpu × P Memory
+
+-- by the first of them, then by the next
+abbrev pub by_each : {C : Type 0} → (Resource → C → ℕ) → C → C → Ordering
+by_each f = then_cmp (on (f Cpu) nat_cmp) (on (f Memory) nat_cmp)
+
+-- ---- amounts of all resources
+
 abbrev pub none : Resources
-none = record { cpu = 0; memory = 0 }
+none = each_resource (λ r. 0)
 
 abbrev pub plus : Resources → Resources → Resources
-plus a b = record { cpu = a.cpu + b.cpu; memory = a.memory + b.memory }
+plus a b = each_resource (λ r. quantity r a + quantity r b)
 
 abbrev pub minus : Resources → Resources → Resources
-minus a b = record { cpu = a.cpu - b.cpu; memory = a.memory - b.memory }
+minus a b = each_resource (λ r. quantity r a - quantity r b)
 
 -- no resource of `a` is over that of `b`
 abbrev pub is_within : Resources → Resources → Bool
-is_within a b = nat_le a.cpu b.cpu && nat_le a.memory b.memory
+is_within a b = in_each (λ r. nat_le (quantity r a) (quantity r b))
 
 abbrev pub same_resources : Resources → Resources → Bool
-same_resources a b = same_number a.cpu b.cpu && same_number a.memory b.memory
+same_resources a b = in_each (λ r. same_number (quantity r a) (quantity r b))
 
 -- what the elements of a list take together
 abbrev pub total : {X : Type 0} → (X → Resources) → List X → Resources
-total size xs = record { cpu = sum_by (λ x. (size x).cpu) xs; memory = sum_by (λ x. (size x).memory) xs }
+total size xs = each_resource (λ r. sum_by (λ x. quantity r (size x)) xs)
 
 -- Neither the headline nor the wire rests on this: it is for the code that counts.
 -- the amounts fit 64 bits: the program can count with them
 abbrev pub IsCounted : Resources → Type 0
-IsCounted r = (r.cpu < 2 ^ 64) × (r.memory < 2 ^ 64)
+IsCounted a = InEach (λ r. quantity r a < 2 ^ 64)
 
 -- ---- limits
 
@@ -40,11 +70,18 @@ limit_allows Unlimited amount = true
 limit_allows (AtMost most) amount = nat_le amount most
 limit_allows Nothing amount = false
 
+abbrev pub limit_on : Resource → Limits → Limit
+limit_on Cpu = λ l. l.cpu
+limit_on Memory = λ l. l.memory
+
+abbrev pub each_limit : (Resource → Limit) → Limits
+each_limit f = record { cpu = f Cpu; memory = f Memory }
+
 abbrev pub limits_allow : Limits → Resources → Bool
-limits_allow l used = limit_allows l.cpu used.cpu && limit_allows l.memory used.memory
+limits_allow l used = in_each (λ r. limit_allows (limit_on r l) (quantity r used))
 
 abbrev pub unlimited : Limits
-unlimited = record { cpu = Unlimited; memory = Unlimited }
+unlimited = each_limit (λ r. Unlimited)
 
 -- a quota without an entry limits nothing
 abbrev pub limits_in : Option Limits → Limits
@@ -57,4 +94,4 @@ same_limit Nothing Nothing = true
 same_limit _ _ = false
 
 abbrev pub same_limits : Limits → Limits → Bool
-same_limits a b = same_limit a.cpu b.cpu && same_limit a.memory b.memory
+same_limits a b = in_each (λ r. same_limit (limit_on r a) (limit_on r b))

@@ -7,6 +7,7 @@ use Rattle.ns_types.specs.declared.records.Namespace.{Namespace}
 use Rattle.ns_types.specs.declared.resources.Resources.{Resources}
 use Rattle.ns_types.specs.declared.allocation.Allocation.{Allocation}
 use Rattle.ns_types.specs.State.Names.{Name, same_name}
+use Rattle.ns_types.specs.State.Resources.{each_resource, quantity}
 use Rattle.ns_types.specs.State.Rows.{World, Tenant, is_live, is_live_on}
 
 abbrev pub names_quota : Name → Namespace → Bool
@@ -22,14 +23,11 @@ quota_sum w quota amount = sum_by (λ e. cond (names_quota quota e.1.namespace) 
     (entries w.tenants)
 
 abbrev pub quota_use : World → Name → Resources
-quota_use w quota = record { cpu = quota_sum w quota (λ r. r.cpu); memory = quota_sum w quota (λ r. r.memory) }
+quota_use w quota = each_resource (λ r. quota_sum w quota (quantity r))
 
 -- over the live allocations of all namespaces on the node
 unfoldable pub node_sum : World → Name → Name → (Resources → ℕ) → ℕ
 node_sum w pool node amount = sum_by (λ e. tenant_sum (is_live_on pool node) amount e.1) (entries w.tenants)
 
 abbrev pub node_load : World → Name → Name → Resources
-node_load w pool node = record {
-  cpu = node_sum w pool node (λ r. r.cpu);
-  memory = node_sum w pool node (λ r. r.memory);
-}
+node_load w pool node = each_resource (λ r. node_sum w pool node (quantity r))

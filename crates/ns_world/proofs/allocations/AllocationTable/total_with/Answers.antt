@@ -14,4 +14,4 @@ returns c =
     let total = c.total_after in
     subst (λ t. IsTotal total.result (rows_use (over (rows t.slots) c.args.changes.now))) c.self.view_is
     (total_moved c.self.inside.slots c.args.changes.now c.as_slice.result.now c.self.inside.live total.result
-    c.as_slice.ensures c.self.invariant.total total.ensures.counted total.ensures.cpu total.ensures.memory)
+    c.as_slice.ensures c.self.invariant.total total.ensures.counted total.ensures.moved)

@@ -1,0 +1,84 @@
+-- What holds of each resource holds of all of them, and the other way round.
+use Rattle.std.specs.Prelude.{◌≡◌, ℕ, ◌+◌, ◌-◌, ◌≤◌, ◌<◌, ◌^◌, Bool, true, false, nat_le}
+use Rattle.std.proofs.Common.{refl, ap, ◌∙◌, arith, inl, inr}
+use Rattle.std.specs.Cmp.{IsTotalOrder}
+use Rattle.std.specs.Cmp.Derive.{both_true}
+use Rattle.std.specs.Ordering.{is_lt, nat_cmp, ordering_then}
+use Rattle.std.specs.declared.cmp.Ordering.{Ordering}
+use Rattle.std.specs.declared.cmp.Ordering.TheVariants.{Less, Equal, Greater}
+use Rattle.std.proofs.lemmas.Bool.{cases_eq, cond-false, cond-true, eq-eqb, le-leb, le-ltb, leb-true, ne_eqb, true≢false}
+use Rattle.std.proofs.lemmas.Cmp.{nat_cmp_total, on_total, then_total}
+use Rattle.ns_types.specs.declared.resources.Resources.{Resources}
+use Rattle.ns_types.specs.State.Resources.{Resource, Cpu, Memory, InEach, IsCounted, by_each, each_resource, in_each, is_within, minus, none, plus, quantity}
+use Rattle.ns_types.proofs.Named.{first_of_both, second_of_both}
+
+-- what is not less, and then not less, is not less
+then_not_less : (p q : Ordering) → is_lt p ≡ false → is_lt q ≡ false → is_lt (ordering_then p q) ≡ false
+then_not_less Less q e f = absurd (true≢false e)
+then_not_less Equal q e f = f
+then_not_less Greater q e f = refl
+
+not_less : (a b : ℕ) → b ≤ a → is_lt (nat_cmp a b) ≡ false
+not_less a b le =
+    elim (cases_eq a b) [
+      | inl same ↦ ap is_lt (cond-false _ _ _ (le-ltb a b le) ∙ cond-true _ _ _ (eq-eqb a b same))
+      | inr apart ↦ ap is_lt (cond-false _ _ _ (le-ltb a b le) ∙ cond-false _ _ _ (ne_eqb a b apart))
+    ]
+
+-- ---- one more resource is one line more in each of these
+
+pub every : (P : Resource → Type 0) → ((r : Resource) → P r) → InEach P
+every P h = (h Cpu, h Memory)
+
+pub at : (P : Resource → Type 0) → InEach P → (r : Resource) → P r
+at P h Cpu = h.0
+at P h Memory = h.1
+
+pub every_true : (p : Resource → Bool) → ((r : Resource) → p r ≡ true) → in_each p ≡ true
+every_true p h = both_true (h Cpu) (h Memory)
+
+pub true_at : (p : Resource → Bool) → in_each p ≡ true → (r : Resource) → p r ≡ true
+true_at p h Cpu = first_of_both (p Cpu) (p Memory) h
+true_at p h Memory = second_of_both (p Cpu) (p Memory) h
+
+pub same_amounts : (a b : Resources) → ((r : Resource) → quantity r a ≡ quantity r b) → a ≡ b
+same_amounts a b same = λ i. record { cpu = same Cpu i; memory = same Memory i }
+
+pub quantity_of : (f : Resource → ℕ) (r : Resource) → quantity r (each_resource f) ≡ f r
+quantity_of f Cpu = refl
+quantity_of f Memory = refl
+
+pub by_each_total : {C : Type 0} (f : Resource → C → ℕ) → IsTotalOrder (by_each f)
+by_each_total f = then_total (on_total (f Cpu) nat_cmp_total) (on_total (f Memory) nat_cmp_total)
+
+-- what has no less of each does not come before
+by_each_not_less : {C : Type 0} (f : Resource → C → ℕ) (a b : C) → ((r : Resource) → f r b ≤ f r a) → is_lt (by_each f a b) ≡ false
+by_each_not_less f a b le = then_not_less _ (nat_cmp (f Memory a) (f Memory b)) (not_less _ _ (le Cpu)) (not_less _ _ (le Memory))
+
+-- ---- of all of them
+
+pub same_of_each : (f g : Resource → ℕ) → ((r : Resource) → f r ≡ g r) → each_resource f ≡ each_resource g
+same_of_each f g same = λ i. each_resource (λ r. same r i)
+
+pub not_before : {C : Type 0} (f : Resource → C → ℕ) (a b : C) (rest : Ordering) → ((r : Resource) → f r b ≤ f r a) → is_lt rest ≡ false
+    → is_lt (ordering_then (by_each f a b) rest) ≡ false
+not_before f a b rest le e = then_not_less (by_each f a b) rest (by_each_not_less f a b le) e
+
+pub quantity_none : (r : Resource) → quantity r none ≡ 0
+quantity_none = quantity_of (λ r. 0)
+
+pub plus_none : (a : Resources) → plus a none ≡ a
+plus_none a = same_of_each (λ r. quantity r a + 0) (λ r. quantity r a) (λ r. omega arith)
+
+pub minus_none : (a : Resources) → minus a none ≡ a
+minus_none a = same_of_each (λ r. quantity r a - 0) (λ r. quantity r a) (λ r. omega arith)
+
+pub within_at : (a b : Resources) → is_within a b ≡ true → (r : Resource) → quantity r a ≤ quantity r b
+within_at a b h r = leb-true (quantity r a) (quantity r b) (true_at (λ r. nat_le (quantity r a) (quantity r b)) h r)
+
+pub within_from : (a b : Resources) → InEach (λ r. quantity r a ≤ quantity r b) → is_within a b ≡ true
+within_from a b h = every_true (λ r. nat_le (quantity r a) (quantity r b)) (λ r.
+    le-leb (quantity r a) (quantity r b) (at (λ r. quantity r a ≤ quantity r b) h r))
+
+pub counted_at : (a : Resources) → IsCounted a → (r : Resource) → quantity r a < 2 ^ 64
+counted_at a = at (λ r. quantity r a < 2 ^ 64)
