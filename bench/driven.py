@@ -23,6 +23,7 @@ import time
 NODES = 1_000
 COUNT = 1_000
 MHZ = 100
+DISK = 300
 COMMAND = ["./nsd", "pipe", "--bootstrap", "root", "--drive"]
 
 
@@ -32,10 +33,14 @@ def request(method, path, document=None):
     return (head + body).encode("ascii")
 
 
+def room(places):
+    """What a node offers that has room for so many allocations of one size, whose groups say nothing of their disk."""
+    return {"CPU": places * MHZ, "MemoryMB": places * MHZ, "DiskMB": places * DISK}
+
+
 def nodes(places, pool="default"):
     """Each has room for so many allocations of one size, and for one at least."""
-    room = max(places, 1) * MHZ
-    offer = {"CPU": room, "MemoryMB": room}
+    offer = room(max(places, 1))
     return [request("PUT", f"/v1/node/pool/{pool}/node/n{node}", offer) for node in range(NODES)]
 
 
@@ -125,7 +130,7 @@ def preempt(server, number):
 
 def tenants():
     """Two namespaces that name one quota, `own` and `other`. Each has a pool of its own."""
-    limits = [{"Region": "global", "RegionLimit": {"CPU": 2**40, "MemoryMB": 2**40}}]
+    limits = [{"Region": "global", "RegionLimit": {"CPU": 2**40, "MemoryMB": 2**40, "DiskMB": 2**40}}]
     requests = [request("PUT", "/v1/quota", {"Name": "both", "Limits": limits})]
     for name in ("own", "other"):
         configuration = {"Default": name, "Allowed": [name]}
@@ -139,7 +144,7 @@ def beside(server, number):
     few = 500
     server.ask(tenants())
     server.ask(nodes(places_in(number), "other"))
-    server.ask([request("PUT", "/v1/node/pool/own/node/n", {"CPU": few * MHZ, "MemoryMB": few * MHZ})])
+    server.ask([request("PUT", "/v1/node/pool/own/node/n", room(few))])
     if number > 0:
         server.ask(jobs("job", number, 20, 1, "other"))
     others = number * COUNT
@@ -171,7 +176,7 @@ def blocked(server, number):
     gives room in the pool of the first. It answers whether all were placed, and stopped, and the others were blocked all along."""
     few = 500
     server.ask(tenants())
-    server.ask([request("PUT", "/v1/node/pool/own/node/n", {"CPU": few * MHZ, "MemoryMB": few * MHZ})])
+    server.ask([request("PUT", "/v1/node/pool/own/node/n", room(few))])
     block_others(server, number)
     seconds = server.timed(jobs("one", few, 20, 1, "own", 1))
     placed = server.used("own") == few * MHZ
@@ -186,7 +191,7 @@ def waking(server, number):
     wakes it, beside so many thousand blocked ones of others. It answers whether the last is placed, and the others are blocked."""
     few = 500
     server.ask(tenants())
-    server.ask([request("PUT", "/v1/node/pool/own/node/n", {"CPU": MHZ, "MemoryMB": MHZ})])
+    server.ask([request("PUT", "/v1/node/pool/own/node/n", room(1))])
     block_others(server, number)
     first, *others = jobs("one", few, 20, 1, "own", 1)
     server.ask([first])

@@ -14,7 +14,7 @@ import sys
 import threading
 import time
 
-from driven import MHZ, jobs, request
+from driven import jobs, request, room
 from served import BATCH, Served
 
 MILLION = 1_000_000
@@ -57,7 +57,7 @@ def reads(server, connection, log, millions):
 
 def registrations(server, connection, log, number):
     before, first = server.resident(), log.lines
-    connection.ask(request("PUT", "/v1/node/pool/default/node/big", {"CPU": JOBS * MHZ, "MemoryMB": JOBS * MHZ}))
+    connection.ask(request("PUT", "/v1/node/pool/default/node/big", room(JOBS)))
     some = jobs("job", JOBS, 50, 1, count=1) * (BATCH // JOBS)
     done = 0
     while done < number:

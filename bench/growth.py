@@ -21,7 +21,7 @@ import sys
 import tempfile
 import time
 
-from driven import COUNT, MHZ, Server, jobs, nodes, places_in, request, told
+from driven import COUNT, MHZ, Server, jobs, nodes, places_in, request, room, told
 
 FEW = 300
 ROUNDS = 3
@@ -38,7 +38,7 @@ def tenant(name, pool=None):
 
 
 def one_node(pool, places):
-    return [request("PUT", f"/v1/node/pool/{pool}/node/n", {"CPU": places * MHZ, "MemoryMB": places * MHZ})]
+    return [request("PUT", f"/v1/node/pool/{pool}/node/n", room(places))]
 
 
 def least(server, what, namespace, requests_of):
@@ -108,7 +108,7 @@ def namespaces():
 
 def limited(name):
     """A namespace with a pool of its own, and a quota of its own that it never reaches."""
-    limits = [{"Region": "global", "RegionLimit": {"CPU": 2**40, "MemoryMB": 2**40}}]
+    limits = [{"Region": "global", "RegionLimit": {"CPU": 2**40, "MemoryMB": 2**40, "DiskMB": 2**40}}]
     configuration = {"Default": name, "Allowed": [name]}
     namespace = {"Name": name, "Quota": name, "NodePoolConfiguration": configuration}
     puts = (("quota", {"Name": name, "Limits": limits}), ("node/pools", {"Name": name}), ("namespace", namespace))

@@ -74,7 +74,7 @@ def put_pool(name, description=""):
 
 
 def put_quota(name, cpu, memory, secret="root"):
-    limit = {"Region": "global", "RegionLimit": {"CPU": cpu, "MemoryMB": memory}}
+    limit = {"Region": "global", "RegionLimit": {"CPU": cpu, "DiskMB": 0, "MemoryMB": memory}}
     return admin("PutQuota", {"Doc": {"Description": "", "Limits": [limit], "Name": name}}, secret)
 
 
@@ -85,7 +85,7 @@ def put_namespace(name, default, allowed, quota="", description=""):
 
 
 def put_node(pool, name, cpu=1000, memory=1024, secret="root"):
-    doc = {"Attributes": {}, "CPU": cpu, "MemoryMB": memory, "NodeClass": ""}
+    doc = {"Attributes": {}, "CPU": cpu, "DiskMB": 100000, "MemoryMB": memory, "NodeClass": ""}
     return node(pool, "PutNode", {"Doc": doc, "Name": name}, secret)
 
 
@@ -100,7 +100,7 @@ def token_given(policies):
 
 def groups(count, cpu, memory):
     task = {"Name": "t", "Resources": {"CPU": cpu, "MemoryMB": memory}}
-    return [{"Count": count, "Name": "g", "Tasks": [task]}]
+    return [{"Count": count, "EphemeralDisk": {"SizeMB": 300}, "Name": "g", "Tasks": [task]}]
 
 
 def register(ns, job, count, cpu, memory, secret="root", pool=""):
@@ -209,7 +209,7 @@ ROUNDS = [
     applied("ta", 0, [1]),
     finished("ta", 0),
     finished("tb", 1),
-    entry(ask("ta", "QuotaUsage", {"Name": "qa"}), compact({"Name": "qa", "Used": {"CPU": 400, "MemoryMB": 256}}), 3),
+    entry(ask("ta", "QuotaUsage", {"Name": "qa"}), compact({"Name": "qa", "Used": {"CPU": 400, "DiskMB": 300, "MemoryMB": 256}}), 3),
 ]
 OWN = [9, 11, 12, 15, 17, 18, 20]
 
@@ -303,6 +303,32 @@ def bad_lines(parts):
     order = {member: told[member] for member in ("Index", "Body", "Status", "Step")}
     bad("members_in_another_order", json.dumps(order, separators=(",", ":")))
     bad("a_space_between", json.dumps(told, sort_keys=True))
+    no_disk(parts, bad, told)
+
+
+def no_disk(parts, bad, told):
+    """Lines in which the disk of a group, a node or a limit is left out, or has no size, or is a task's."""
+    step = told["Step"]
+    document = step["Args"]["Doc"]
+    [group] = document["TaskGroups"]
+    [task] = group["Tasks"]
+    groups_of = [
+        ("no_disk_of_a_group", without(group, "EphemeralDisk")),
+        ("no_size_of_a_disk", {**group, "EphemeralDisk": {}}),
+        ("a_disk_of_no_size", {**group, "EphemeralDisk": {"SizeMB": 0}}),
+        ("a_disk_with_another_member", {**group, "EphemeralDisk": {"SizeMB": 300, "Sticky": False}}),
+        ("a_disk_of_a_task", {**group, "Tasks": [{**task, "Resources": {**task["Resources"], "DiskMB": 300}}]}),
+    ]
+    for name, other in groups_of:
+        args = {"Doc": {**document, "TaskGroups": [other]}, "Enforce": None}
+        bad(name, compact({**told, "Step": {**step, "Args": args}}))
+    offer = json.loads(ROUNDS[6])["Step"]["Args"]
+    line = step_changed(ROUNDS, 6, Args={**offer, "Doc": without(offer["Doc"], "DiskMB")})
+    parts.bad("no_disk_of_a_node", log_of(line), 8)
+    quota = json.loads(ROUNDS[2])["Step"]["Args"]["Doc"]
+    [limit] = quota["Limits"]
+    limits = [{**limit, "RegionLimit": without(limit["RegionLimit"], "DiskMB")}]
+    parts.bad("no_disk_of_a_limit", log_of(step_changed(ROUNDS, 2, Args={"Doc": {**quota, "Limits": limits}})), 4)
 
 
 def segments(parts):

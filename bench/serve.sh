@@ -16,7 +16,7 @@ root=$(CDPATH='' cd -- "$(dirname -- "$0")/.." && pwd)
 program=${1:-$root/crates/nsd/out/nsd}
 seconds=${2:-5}
 limit=10000000
-body='{"Constraints":[],"CreateIndex":1,"ID":"web","JobModifyIndex":1,"Namespace":"default","NodePool":"default","Priority":50,"Status":"pending","Stop":false,"TaskGroups":[{"Count":1,"Name":"g","Tasks":[{"Name":"t","Resources":{"CPU":100,"MemoryMB":300}}]}],"Type":"service","Version":0}'
+body='{"Constraints":[],"CreateIndex":1,"ID":"web","JobModifyIndex":1,"Namespace":"default","NodePool":"default","Priority":50,"Status":"pending","Stop":false,"TaskGroups":[{"Count":1,"EphemeralDisk":{"SizeMB":300},"Name":"g","Tasks":[{"Name":"t","Resources":{"CPU":100,"MemoryMB":300}}]}],"Type":"service","Version":0}'
 folder=$(mktemp -d)
 server='' nginx=''
 trap 'kill $server $nginx 2>/dev/null || true; wait; rm -rf "$folder"' EXIT
@@ -116,5 +116,5 @@ if [ -z "$nginx" ]; then
 else
     theirs=$(median "$folder/theirs")
     awk -v ours="$ours" -v theirs="$theirs" \
-        'BEGIN { printf "median %s of nsd, %s of nginx (a constant body of 282 bytes): the quotient is %.2f\n", ours, theirs, ours / theirs }'
+        'BEGIN { printf "median %s of nsd, %s of nginx (a constant body of 313 bytes): the quotient is %.2f\n", ours, theirs, ours / theirs }'
 fi

@@ -20,9 +20,9 @@ use Rattle.ns_live.specs.declared.live.Live.{Live}
 use Rattle.ns_live.specs.Naming.{AreKept, AreNamed, HoldsSame, PutsQuota, use_in, with_quota, with_use}
 use Rattle.ns_live.proofs.QuotaLevels.{with_here}
 use Rattle.ns_live.proofs.Totals.{are_still_kept, free_moved}
-use Rattle.ns_world.proofs.Totals.{none_total}
+use Rattle.ns_types.proofs.Amounts.{none_total}
 use Rattle.ns_world.specs.Allocations.{IsTotalOf, rows_use}
-use Rattle.ns_world.specs.Total.{IsTotal}
+use Rattle.ns_types.specs.State.Resources.{IsTotal}
 use Rattle.ns_world.specs.declared.tables.Tables.{Tables}
 use Rattle.ns_world.specs.declared.tables.TenantRows.{TenantRows}
 use Rattle.ns_world.specs.World.{world_of}

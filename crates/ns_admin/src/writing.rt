@@ -6,7 +6,7 @@ ghost use Rattle.ns_admin.specs.Recorded.{Writes, recorded};
 ghost use Rattle.ns_admin.specs.Viewed.{with_namespace_put, with_pool_put, with_quota_put};
 ghost use Rattle.ns_admin.specs.Viewed.{without_namespace};
 ghost use Rattle.ns_live.specs.Naming.{AreNamed, HasNameRoom, KeepsNodes, use_in};
-ghost use Rattle.ns_world.specs.Total.{IsTotal};
+ghost use Rattle.ns_types.specs.State.Resources.{IsTotal};
 ghost use Rattle.ns_world.specs.World.{world_of};
 
 use crate::namespaces::new_tenant;

@@ -9,7 +9,6 @@ ghost use Rattle.ns_types.specs.Wire.Words.{operand_text, target_text};
 use crate::keys::same_number;
 use crate::rows::same_kind;
 use ns_types::job::{Constraint, Document, Group, Operand, Target, Task};
-use ns_types::resources::same_resources;
 use ns_types::text::same_text;
 
 fn same_operand(a: Operand, b: Operand) -> bool
@@ -42,7 +41,9 @@ fn same_constraint(a: &Constraint, b: &Constraint) -> bool
 fn same_task(a: &Task, b: &Task) -> bool
     ensures { result ≡ same_task a.now b.now }
 {
-    same_text(&a.name, &b.name) && same_resources(a.resources, b.resources)
+    same_text(&a.name, &b.name)
+        && same_number(a.resources.cpu, b.resources.cpu)
+        && same_number(a.resources.memory, b.resources.memory)
 }
 
 fn same_tasks(a: &[Task], b: &[Task]) -> bool
@@ -62,6 +63,7 @@ fn same_group(a: &Group, b: &Group) -> bool
 {
     same_text(&a.name, &b.name)
         && same_number(a.count, b.count)
+        && same_number(a.disk, b.disk)
         && same_tasks(a.tasks.as_slice(), b.tasks.as_slice())
 }
 

@@ -28,7 +28,7 @@ use Rattle.ns_live.proofs.PutLoads.{empty_indexes}
 use Rattle.ns_live.proofs.Puts.{indexes_same}
 use Rattle.ns_live.proofs.Totals.{are_still_kept, total_free}
 use Rattle.ns_world.specs.Allocations.{IsTotalOf, live_use, rows_use}
-use Rattle.ns_world.specs.Total.{IsTotal}
+use Rattle.ns_types.specs.State.Resources.{IsTotal}
 use Rattle.ns_world.specs.declared.tables.Tables.{Tables}
 use Rattle.ns_world.specs.declared.tables.TenantRows.{TenantRows}
 use Rattle.ns_world.specs.World.{tenant_of, world_of}

@@ -19,7 +19,7 @@ use Rattle.ns_types.specs.declared.node.Offer.{Offer}
 use Rattle.ns_types.specs.declared.refusal.Member.{Member}
 use Rattle.ns_types.specs.declared.resources.Limit.{Limit}
 use Rattle.ns_types.specs.declared.resources.Limits.{Limits}
-use Rattle.ns_types.specs.State.Limits.{is_between, is_text, is_pool_name, is_pool_list, is_good_namespace, is_limit, is_good_quota, is_good_policy}
+use Rattle.ns_types.specs.State.Limits.{is_between, is_text, is_pool_name, is_pool_list, is_good_namespace, is_limit, is_good_quota, is_good_policy, are_limits}
 use Rattle.ns_types.specs.State.Limits.{is_good_token, is_good_offer}
 use Rattle.ns_types.specs.State.Lists.{is_empty}
 use Rattle.ns_types.specs.State.Name.{is_name}
@@ -28,9 +28,9 @@ use Rattle.ns_types.specs.State.Names
 use Rattle.ns_types.specs.State.Resources.{limits_in, unlimited}
 use Rattle.ns_types.proofs.Lists.{left_none, right_none}
 use Rattle.ns_types.proofs.Named.{same_name_is, first_of_both, second_of_both}
-use Rattle.ns_json.specs.Reading.{◌>>=◌, Read, Gives, same, top, present, demanded, or_else, or_refuse, some, an_object, a_text, a_name, has_name, unless}
+use Rattle.ns_json.specs.Reading.{◌>>=◌, Read, Gives, same, top, present, demanded, or_else, or_refuse, some, an_object, a_text, a_name, has_name, unless, a_number}
 use Rattle.ns_json.specs.Reading.{a_list, each, unless_null}
-use Rattle.ns_json.specs.Registration.{name_if_any}
+use Rattle.ns_json.specs.Registration.{name_if_any, max_quantity}
 use Rattle.ns_json.proofs.Distinct.{Distinct, distinct_more, distinct_is}
 use Rattle.ns_json.proofs.Posts.{Post, post_then, post_any, post_map, post_unless, post_else, post_some, read_so, read_if}
 use Rattle.ns_json.proofs.Posts.{text_good, name_good, name_if_any_good, number_good, list_of_good}
@@ -44,7 +44,7 @@ use Rattle.ns_members.specs.Members.{is_path_name, repeated, named, description_
 use Rattle.ns_documents.specs.Records.{is_all, pool_or_default, default_pool_in, pools_in, configuration_in, every_pool, namespace_in, max_limit, limit_of}
 use Rattle.ns_documents.specs.Records.{limit_in, region_limit_in, region_in, entry_in, first_entry, entries_in, quota_in, pool_in}
 use Rattle.ns_documents.specs.Access.{with_accessor, rules_text_in, or_bad_rules, policy_in, token_kind_in, token_in}
-use Rattle.ns_documents.specs.Nodes.{with_value, with_attribute, each_attribute, attributes_in, amount_in, node_in}
+use Rattle.ns_documents.specs.Nodes.{with_value, with_attribute, each_attribute, attributes_in, amount_in, node_in, default_disk}
 
 -- ---- names and texts
 
@@ -221,7 +221,7 @@ unfolding limit_in
 limit_good m d = limit_read m (option_and_then as_i64 (as_number d))
 
 abbrev AreLimits : Limits → Type 0
-AreLimits l = IsTrue (is_limit l.cpu) × IsTrue (is_limit l.memory)
+AreLimits l = IsTrue (are_limits l)
 
 limit_or_unlimited_good : (m : Member) (o : Option Data) → Post (or_else Limit.Unlimited (limit_in m) o) (λ l. IsTrue (is_limit l))
 limit_or_unlimited_good m o = post_else Limit.Unlimited (limit_in m) (λ l. IsTrue (is_limit l)) o refl (limit_good m)
@@ -232,20 +232,26 @@ region_limit_good d =
     post_any (an_object Member.RegionLimit d) _ _ (λ r.
     post_then (or_else Limit.Unlimited (limit_in Member.Cpu) (present Member.Cpu r)) _ _ (limit_or_unlimited_good Member.Cpu (present Member.Cpu r)) (λ cpu h.
     post_then (or_else Limit.Unlimited (limit_in Member.MemoryMb) (present Member.MemoryMb r)) _ _
-    (limit_or_unlimited_good Member.MemoryMb (present Member.MemoryMb r)) (λ memory k. (h, k))))
+    (limit_or_unlimited_good Member.MemoryMb (present Member.MemoryMb r)) (λ memory k.
+    post_then (or_else Limit.Unlimited (limit_in Member.DiskMb) (present Member.DiskMb r)) _ _
+    (limit_or_unlimited_good Member.DiskMb (present Member.DiskMb r)) (λ disk l. limits_from cpu memory disk h k l))))
+  where
+    limits_from : (cpu memory disk : Limit) → IsTrue (is_limit cpu) → IsTrue (is_limit memory) → IsTrue (is_limit disk) →
+        AreLimits (record { cpu = cpu; memory = memory; disk = disk })
+    limits_from cpu memory disk h k l = rw (h, k, l) refl
 
 entry_good : (d : Data) → Post (entry_in d) AreLimits
 unfolding entry_in
 entry_good d =
     post_any (an_object Member.Limits d) _ _ (λ entry.
     post_any (or_else tt region_in (present Member.Region entry)) _ _ (λ region.
-    post_else unlimited region_limit_in AreLimits (present Member.RegionLimit entry) (refl, refl) region_limit_good))
+    post_else unlimited region_limit_in AreLimits (present Member.RegionLimit entry) refl region_limit_good))
 
 abbrev AreLimitsIn : Option Limits → Type 0
 AreLimitsIn o = AreLimits (limits_in o)
 
 first_entry_good : (ds : Items) → Post (first_entry ds) AreLimitsIn
-first_entry_good no_items = (refl, refl)
+first_entry_good no_items = refl
 first_entry_good (item d ds) = post_some (entry_in d) AreLimits AreLimitsIn (λ l h. h) (entry_good d)
 
 entries_good : (d : Data) → Post (entries_in d) AreLimitsIn
@@ -254,7 +260,7 @@ entries_good d = post_any (a_list Member.Limits 0 1 d) _ _ first_entry_good
 
 quota_from : (description : Name) (limits : Option Limits) → IsTrue (is_text description) → AreLimitsIn limits →
     IsTrue (is_good_quota (record { description = description; limits = limits }))
-quota_from description limits h k = rw (h, k.0, k.1) refl
+quota_from description limits h k = rw (h, k) refl
 
 quota_post : (path : Option Name) (d : Data) → Post (quota_in path d) (λ q. IsTrue (is_good_quota q.quota))
 unfolding quota_in
@@ -262,7 +268,7 @@ quota_post path d =
     post_any (top d) _ _ (λ t. post_any (named NameKind.Quota path t) _ _ (λ name.
     post_then (description_in t) _ _ (description_good t) (λ description h.
     post_then (or_else None entries_in (present Member.Limits t)) _ _
-    (post_else None entries_in AreLimitsIn (present Member.Limits t) (refl, refl) entries_good) (λ limits k.
+    (post_else None entries_in AreLimitsIn (present Member.Limits t) refl entries_good) (λ limits k.
     quota_from description limits h k))))
 
 -- ---- pools
@@ -311,12 +317,12 @@ amount_good : (m : Member) (d : Data) → Post (amount_in m d) (λ n. IsTrue (is
 unfolding amount_in
 amount_good m d = post_any (demanded m d) _ _ (number_good m 1 2147483647)
 
-offer_from : (class : Name) (attributes : List Attribute) (cpu memory : ℕ) → IsTrue (is_text class) → AreAttributes attributes →
-    IsTrue (is_between 1 2147483647 cpu) → IsTrue (is_between 1 2147483647 memory) →
-    IsTrue (is_good_offer (record { class = class; attributes = attributes; capacity = record { cpu = cpu; memory = memory } }))
-offer_from class attributes cpu memory h k l m =
+offer_from : (class : Name) (attributes : List Attribute) (cpu memory disk : ℕ) → IsTrue (is_text class) → AreAttributes attributes →
+    IsTrue (is_between 1 2147483647 cpu) → IsTrue (is_between 1 2147483647 memory) → IsTrue (is_between 1 2147483647 disk) →
+    IsTrue (is_good_offer (record { class = class; attributes = attributes; capacity = record { cpu = cpu; memory = memory; disk = disk } }))
+offer_from class attributes cpu memory disk h k l m n =
     let fits : nat_le (length attributes) 64 ≡ true = le-leb (length attributes) 64 k.0 in
-    rw (h, fits, k.1, l, m) refl
+    rw (h, fits, k.1, l, m, n) refl
 
 node_post : (d : Data) → Post (node_in d) (λ o. IsTrue (is_good_offer o))
 unfolding node_in
@@ -327,7 +333,10 @@ node_post d =
     (post_else [] attributes_in AreAttributes (present Member.Attributes t) (omega arith, refl) attributes_good) (λ attributes k.
     post_then (amount_in Member.Cpu t) _ _ (amount_good Member.Cpu t) (λ cpu l.
     post_then (amount_in Member.MemoryMb t) _ _ (amount_good Member.MemoryMb t) (λ memory m.
-    offer_from class attributes cpu memory h k l m)))))
+    post_then (or_else default_disk (a_number Member.DiskMb 1 max_quantity) (present Member.DiskMb t)) _ _
+    (post_else default_disk (a_number Member.DiskMb 1 max_quantity) (λ n. IsTrue (is_between 1 2147483647 n)) (present Member.DiskMb t) refl
+    (number_good Member.DiskMb 1 max_quantity)) (λ disk n.
+    offer_from class attributes cpu memory disk h k l m n))))))
 
 -- ---- policies and tokens
 

@@ -49,6 +49,9 @@ each_attribute done (member key d ms) = with_attribute done key d >>= λ attribu
 unfoldable pub attributes_in : Data → Read (List Attribute)
 attributes_in d = or_refuse Member.Attributes (as_object d) >>= each_attribute []
 
+abbrev pub default_disk : ℕ
+default_disk = 100000
+
 unfoldable pub amount_in : Member → Data → Read ℕ
 amount_in m d = demanded m d >>= a_number m 1 max_quantity
 
@@ -59,7 +62,8 @@ node_in d = do
   attributes ← or_else [] attributes_in (present Member.Attributes top)
   cpu ← amount_in Member.Cpu top
   memory ← amount_in Member.MemoryMb top
-  Ok (record { class = class; attributes = attributes; capacity = record { cpu = cpu; memory = memory } })
+  disk ← or_else default_disk (a_number Member.DiskMb 1 max_quantity) (present Member.DiskMb top)
+  Ok (record { class = class; attributes = attributes; capacity = record { cpu = cpu; memory = memory; disk = disk } })
 
 -- ---- status and eligibility
 

@@ -89,7 +89,8 @@ region_limit_in d = do
   r ← an_object Member.RegionLimit d
   cpu ← or_else Limit.Unlimited (limit_in Member.Cpu) (present Member.Cpu r)
   memory ← or_else Limit.Unlimited (limit_in Member.MemoryMb) (present Member.MemoryMb r)
-  Ok (record { cpu = cpu; memory = memory })
+  disk ← or_else Limit.Unlimited (limit_in Member.DiskMb) (present Member.DiskMb r)
+  Ok (record { cpu = cpu; memory = memory; disk = disk })
 
 -- there is one region
 unfoldable pub region_in : Data → Read (Unit {0})

@@ -8,7 +8,7 @@ ghost use Rattle.ns_documents.specs.Nodes.{AreByKey, with_attribute, each_attrib
 ghost use Rattle.ns_documents.specs.Nodes.{amount_in, node_in, node_status_in, eligibility_in};
 
 use ns_json::member::{
-    MAX_QUANTITY, MAX_TEXT, demanded, document, number, present, read_json, text,
+    MAX_QUANTITY, MAX_TEXT, demanded, document, number, number_or, present, read_json, text,
 };
 use ns_members::{text_or_empty, word};
 use ns_types::node::{Attribute, NodeStatus, Offer};
@@ -20,6 +20,9 @@ use serde_json::{Map, Value};
 use std::alloc::Global;
 
 const MAX_ATTRIBUTES: usize = 64;
+
+/// MB, of a node that does not say.
+const DEFAULT_DISK: u64 = 100_000;
 
 /// The attributes with one more, which is absent where its value is null.
 #[tactic(auto, unfolding(crate::specs::Nodes::with_attribute))]
@@ -97,10 +100,11 @@ fn node(alloc: Global, value: &Value) -> Result<Offer, Refusal>
     let attributes = attributes_or_none(alloc, top)?;
     let cpu = amount(top, Member::Cpu)?;
     let memory = amount(top, Member::MemoryMb)?;
+    let disk = number_or(top, Member::DiskMb, 1, MAX_QUANTITY, DEFAULT_DISK)?;
     Ok(Offer {
         class,
         attributes,
-        capacity: Resources { cpu, memory },
+        capacity: Resources { cpu, memory, disk },
     })
 }
 

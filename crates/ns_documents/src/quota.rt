@@ -14,7 +14,7 @@ use ns_members::{description, named};
 use ns_types::name::NameKind;
 use ns_types::records::Quota;
 use ns_types::refusal::{Member, Refusal};
-use ns_types::resources::{Limit, Limits};
+use ns_types::resources::{Limit, Limits, unlimited};
 use ns_types::text::Text;
 use serde_json::Value;
 use std::alloc::Global;
@@ -67,7 +67,8 @@ fn region_limit(value: &Value) -> Result<Limits, Refusal>
     let region_limit = object(value, Member::RegionLimit)?;
     let cpu = limit_or_unlimited(region_limit, Member::Cpu)?;
     let memory = limit_or_unlimited(region_limit, Member::MemoryMb)?;
-    Ok(Limits { cpu, memory })
+    let disk = limit_or_unlimited(region_limit, Member::DiskMb)?;
+    Ok(Limits { cpu, memory, disk })
 }
 
 fn region_limit_or_unlimited(entry: &Value) -> Result<Limits, Refusal>
@@ -75,10 +76,7 @@ fn region_limit_or_unlimited(entry: &Value) -> Result<Limits, Refusal>
         (or_else unlimited region_limit_in (present Member.RegionLimit (view entry.now))) }
 {
     match present(entry, Member::RegionLimit) {
-        None => Ok(Limits {
-            cpu: Limit::Unlimited,
-            memory: Limit::Unlimited,
-        }),
+        None => Ok(unlimited()),
         Some(value) => region_limit(value),
     }
 }

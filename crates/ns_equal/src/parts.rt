@@ -1,29 +1,19 @@
 //! What rows are made of: amounts, limits, classes and documents of jobs.
 
 use crate::equal::Equal;
-use ns_types::job::{Constraint, Document, Group, JobKind, Operand, Target, Task};
+use ns_types::job::{Constraint, Document, Group, JobKind, Operand, Target, Task, TaskResources};
 use ns_types::node::{Attribute, Class, NodeStatus, Offer};
-use ns_types::resources::{Limit, Limits, Resources};
+use ns_types::resources::{Limits, Resources};
 
 impl Equal for Resources {
     fn equal(&self, other: &Resources) -> bool {
-        self.cpu.equal(&other.cpu) && self.memory.equal(&other.memory)
-    }
-}
-
-impl Equal for Limit {
-    fn equal(&self, other: &Limit) -> bool {
-        match (self, other) {
-            (Limit::Unlimited, Limit::Unlimited) | (Limit::Nothing, Limit::Nothing) => true,
-            (Limit::AtMost(a), Limit::AtMost(b)) => a.equal(b),
-            _ => false,
-        }
+        self == other
     }
 }
 
 impl Equal for Limits {
     fn equal(&self, other: &Limits) -> bool {
-        self.cpu.equal(&other.cpu) && self.memory.equal(&other.memory)
+        self == other
     }
 }
 
@@ -92,6 +82,12 @@ impl Equal for Constraint {
     }
 }
 
+impl Equal for TaskResources {
+    fn equal(&self, other: &TaskResources) -> bool {
+        self == other
+    }
+}
+
 impl Equal for Task {
     fn equal(&self, other: &Task) -> bool {
         self.name.equal(&other.name) && self.resources.equal(&other.resources)
@@ -101,6 +97,7 @@ impl Equal for Task {
 impl Equal for Group {
     fn equal(&self, other: &Group) -> bool {
         self.count.equal(&other.count)
+            && self.disk.equal(&other.disk)
             && self.name.equal(&other.name)
             && self.tasks.equal(&other.tasks)
     }

@@ -15,11 +15,11 @@ use Rattle.ns_types.specs.declared.job.JobKind.TheVariants as JobKind
 use Rattle.ns_types.specs.declared.job.Registration.{Registration}
 use Rattle.ns_types.specs.declared.job.Target.{Target}
 use Rattle.ns_types.specs.declared.job.Task.{Task}
+use Rattle.ns_types.specs.declared.job.TaskResources.{TaskResources}
 use Rattle.ns_types.specs.declared.name.NameKind.TheVariants as NameKind
 use Rattle.ns_types.specs.declared.refusal.Member.{Member}
 use Rattle.ns_types.specs.declared.refusal.Refusal.TheVariants.{BadField}
-use Rattle.ns_types.specs.declared.resources.Resources.{Resources}
-use Rattle.ns_types.specs.State.Limits.{is_amount, is_between, is_text, is_target, is_pool_name, is_good_constraint, is_good_task, is_good_group}
+use Rattle.ns_types.specs.State.Limits.{are_quantities, is_quantity, is_between, is_text, is_target, is_pool_name, is_good_constraint, is_good_task, is_good_group}
 use Rattle.ns_types.specs.State.Limits.{is_good_registration}
 use Rattle.ns_types.specs.State.Name.{is_name}
 use Rattle.ns_types.specs.State.Names.{Name}
@@ -29,7 +29,7 @@ use Rattle.ns_json.specs.declared.registration.RegistrationDocument.{Registratio
 use Rattle.ns_json.specs.declared.registration.JobTerms.{JobTerms}
 use Rattle.ns_json.specs.Reading.{Read, Gives, same, top, present, demanded, or_else, or_refuse, an_object, a_flag, a_number, a_text, a_name}
 use Rattle.ns_json.specs.Reading.{has_name, unless}
-use Rattle.ns_json.specs.Registration.{resources_in, default_resources, no_constraints, task_in, tasks_in, group_in, groups_in, without_prefix}
+use Rattle.ns_json.specs.Registration.{disk_in, resources_in, default_resources, no_constraints, task_in, tasks_in, group_in, groups_in, without_prefix}
 use Rattle.ns_json.specs.Registration.{without_suffix, attribute_key, target_of, operand_of, constraint_in, constraint_after, constraints_in, kind_in}
 use Rattle.ns_json.specs.Registration.{name_if_any, not_all, pool_in, absent, job_groups_in, work_in, terms_in, names_in, job_in, enforced_in}
 use Rattle.ns_json.specs.Registration.{registration_in, max_quantity, max_index, compared_in}
@@ -39,7 +39,7 @@ use Rattle.ns_json.proofs.Posts.{list_of_good}
 
 -- ---- tasks and groups
 
-resources_good : (d : Data) → Post (resources_in d) (λ r. IsTrue (is_amount r))
+resources_good : (d : Data) → Post (resources_in d) (λ r. IsTrue (are_quantities r))
 unfolding resources_in
 resources_good d =
     post_any (an_object Member.Resources d) _ _ (λ r.
@@ -51,14 +51,19 @@ resources_good d =
     (number_good Member.MemoryMb 1 max_quantity)) (λ memory k. amount_from cpu memory h k)))
   where
     amount_from : (cpu memory : ℕ) → IsTrue (is_between 1 2147483647 cpu) → IsTrue (is_between 1 2147483647 memory) →
-        IsTrue (is_amount (record { cpu = cpu; memory = memory }))
+        IsTrue (are_quantities (record { cpu = cpu; memory = memory }))
     amount_from cpu memory h k = rw (h, k) refl
+
+disk_good : (d : Data) → Post (disk_in d) (λ n. IsTrue (is_quantity n))
+unfolding disk_in
+disk_good d = post_any (an_object Member.EphemeralDisk d) _ _ (λ e.
+    post_else 300 (a_number Member.SizeMb 1 max_quantity) (λ n. IsTrue (is_quantity n)) (present Member.SizeMb e) refl (number_good Member.SizeMb 1 max_quantity))
 
 abbrev AreTasks : List Task → Type 0
 AreTasks xs = IsTrue (list_all is_good_task xs) × Distinct (map (λ t. t.name) xs)
 
-task_from : (before : List Task) (name : Name) (resources : Resources) → AreTasks before → IsTrue (is_name NameKind.Task name) →
-    has_name (λ x. x.name) before name ≡ false → IsTrue (is_amount resources) → AreTasks (before ++ record { name = name; resources = resources } ∷ [])
+task_from : (before : List Task) (name : Name) (resources : TaskResources) → AreTasks before → IsTrue (is_name NameKind.Task name) →
+    has_name (λ x. x.name) before name ≡ false → IsTrue (are_quantities resources) → AreTasks (before ++ record { name = name; resources = resources } ∷ [])
 task_from before name resources h k new l =
     let task : Task = record { name = name; resources = resources } in
     (list_all-append is_good_task before (task ∷ []) ∙ rw (h.0, k, l) refl, names_more (λ x. x.name) before task h.1 new)
@@ -73,7 +78,7 @@ task_good before d h =
     (λ s. IsTrue (is_name NameKind.Task s) × (has_name (λ x. x.name) before s ≡ false)) (λ new. (k, new))) (λ checked n.
     post_any (no_constraints t) _ _ (λ none.
     post_then (or_else default_resources resources_in (present Member.Resources t)) _ _
-    (post_else default_resources resources_in (λ r. IsTrue (is_amount r)) (present Member.Resources t) refl resources_good) (λ resources l.
+    (post_else default_resources resources_in (λ r. IsTrue (are_quantities r)) (present Member.Resources t) refl resources_good) (λ resources l.
     task_from before checked resources h n.0 n.1 l))))))
 
 tasks_good : (d : Data) → Post (tasks_in d) (λ xs. AreTasks xs × IsTrue (is_between 1 16 (length xs)))
@@ -83,13 +88,13 @@ tasks_good d = list_of_good Member.Tasks 1 16 task_in AreTasks d task_good (refl
 abbrev AreGroups : List Group → Type 0
 AreGroups xs = IsTrue (list_all is_good_group xs) × Distinct (map (λ g. g.name) xs)
 
-group_from : (before : List Group) (name : Name) (count : ℕ) (tasks : List Task) → AreGroups before → IsTrue (is_name NameKind.Group name) →
-    has_name (λ x. x.name) before name ≡ false → IsTrue (is_between 0 1000 count) → AreTasks tasks × IsTrue (is_between 1 16 (length tasks)) →
-    AreGroups (before ++ record { name = name; count = count; tasks = tasks } ∷ [])
-group_from before name count tasks h k new l m =
-    let group : Group = record { name = name; count = count; tasks = tasks } in
+group_from : (before : List Group) (name : Name) (count disk : ℕ) (tasks : List Task) → AreGroups before → IsTrue (is_name NameKind.Group name) →
+    has_name (λ x. x.name) before name ≡ false → IsTrue (is_between 0 1000 count) → IsTrue (is_quantity disk) → AreTasks tasks × IsTrue (is_between 1 16 (length tasks)) →
+    AreGroups (before ++ record { name = name; count = count; disk = disk; tasks = tasks } ∷ [])
+group_from before name count disk tasks h k new l q m =
+    let group : Group = record { name = name; count = count; disk = disk; tasks = tasks } in
     let few : nat_le count 1000 ≡ true = second_of_both (nat_le 0 count) (nat_le count 1000) l in (
-      list_all-append is_good_group before (group ∷ []) ∙ rw (h.0, k, few, m.1, m.0.0, distinct_is (map (λ t. t.name) tasks) m.0.1) refl,
+      list_all-append is_good_group before (group ∷ []) ∙ rw (h.0, k, few, q, m.1, m.0.0, distinct_is (map (λ t. t.name) tasks) m.0.1) refl,
       names_more (λ x. x.name) before group h.1 new,
     )
 
@@ -104,8 +109,11 @@ group_good before d h =
     post_then (or_else 1 (a_number Member.Count 0 1000) (present Member.Count g)) _ _
     (post_else 1 (a_number Member.Count 0 1000) (λ c. IsTrue (is_between 0 1000 c)) (present Member.Count g) refl (number_good Member.Count 0 1000))
     (λ count l.
-    post_any (no_constraints g) _ _ (λ none. post_any (demanded Member.Tasks g) _ _ (λ listed.
-    post_then (tasks_in listed) _ _ (tasks_good listed) (λ tasks m. group_from before checked count tasks h n.0 n.1 l m))))))))
+    post_any (no_constraints g) _ _ (λ none.
+    post_then (or_else 300 disk_in (present Member.EphemeralDisk g)) _ _
+    (post_else 300 disk_in (λ n. IsTrue (is_quantity n)) (present Member.EphemeralDisk g) refl disk_good) (λ disk q.
+    post_any (demanded Member.Tasks g) _ _ (λ listed.
+    post_then (tasks_in listed) _ _ (tasks_good listed) (λ tasks m. group_from before checked count disk tasks h n.0 n.1 l q m)))))))))
 
 groups_good : (d : Data) → Post (groups_in d) (λ xs. AreGroups xs × IsTrue (is_between 1 16 (length xs)))
 unfolding groups_in

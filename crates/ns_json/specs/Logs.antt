@@ -59,6 +59,7 @@ unfoldable pub offer_json : Offer → Data
 offer_json o = object_of (
     (codes "Attributes", attributes_json o.attributes) ∷
     (codes "CPU", number_of o.capacity.cpu) ∷
+    (codes "DiskMB", number_of o.capacity.disk) ∷
     (codes "MemoryMB", number_of o.capacity.memory) ∷
     (codes "NodeClass", string o.class) ∷ [])
 

@@ -13,7 +13,7 @@ use Rattle.ns_types.specs.declared.job.Operand.{Operand}
 use Rattle.ns_types.specs.declared.job.Operand.TheVariants.{Equal, NotEqual}
 use Rattle.ns_types.specs.declared.job.Target.{Target}
 use Rattle.ns_types.specs.declared.job.Target.TheVariants.{NodeClass, NodeName, Attribute}
-use Rattle.ns_types.specs.declared.resources.Resources.{Resources}
+use Rattle.ns_types.specs.declared.job.TaskResources.{TaskResources}
 use Rattle.ns_types.specs.declared.job.Task.{Task}
 use Rattle.ns_types.specs.declared.job.Group.{Group}
 use Rattle.ns_types.specs.declared.job.Constraint.{Constraint}
@@ -31,15 +31,20 @@ max_index = 2 ^ 64 - 1
 
 -- ---- tasks and groups
 
-unfoldable pub resources_in : Data → Read Resources
+unfoldable pub resources_in : Data → Read TaskResources
 resources_in d = do
   r ← an_object Member.Resources d
   cpu ← or_else 100 (a_number Member.Cpu 1 max_quantity) (present Member.Cpu r)
   memory ← or_else 300 (a_number Member.MemoryMb 1 max_quantity) (present Member.MemoryMb r)
   Ok (record { cpu = cpu; memory = memory })
 
-abbrev pub default_resources : Resources
+abbrev pub default_resources : TaskResources
 default_resources = record { cpu = 100; memory = 300 }
+
+unfoldable pub disk_in : Data → Read ℕ
+disk_in d = do
+  e ← an_object Member.EphemeralDisk d
+  or_else 300 (a_number Member.SizeMb 1 max_quantity) (present Member.SizeMb e)
 
 -- no constraints stand on groups and tasks
 unfoldable pub no_constraints : Data → Read (Unit {0})
@@ -69,9 +74,10 @@ group_in before d = do
   name ← unless (has_name (λ x. x.name) before name) Member.Name name
   count ← or_else 1 (a_number Member.Count 0 1000) (present Member.Count g)
   none ← no_constraints g
+  disk ← or_else 300 disk_in (present Member.EphemeralDisk g)
   tasks ← demanded Member.Tasks g
   tasks ← tasks_in tasks
-  Ok (record { name = name; count = count; tasks = tasks })
+  Ok (record { name = name; count = count; disk = disk; tasks = tasks })
 
 -- ---- constraints
 

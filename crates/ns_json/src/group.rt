@@ -3,38 +3,55 @@
 ghost use Rattle.std.specs.Prelude.{◌≡◌, []};
 ghost use Rattle.serde_json.specs.View.{view, items_view};
 ghost use Rattle.ns_json.specs.Reading.{Gives, same, each, has_name, or_else, present};
-ghost use Rattle.ns_json.specs.Registration.{resources_in, default_resources, no_constraints, task_in, tasks_in, group_in, groups_in};
+ghost use Rattle.ns_json.specs.Registration.{disk_in, resources_in, default_resources, no_constraints, task_in, tasks_in, group_in, groups_in};
 
 use crate::member;
 use crate::member::{MAX_QUANTITY, demanded, list, number_or, object, present};
-use ns_types::job::{Group, Task};
+use ns_types::job::{Group, Task, TaskResources};
 use ns_types::name::NameKind;
 use ns_types::refusal::{Member, Refusal};
-use ns_types::resources::Resources;
 use ns_types::rows::Rows;
 use serde_json::Value;
 use std::alloc::Global;
 
 #[tactic(auto, unfolding(crate::specs::Registration::resources_in))]
-fn resources(value: &Value) -> Result<Resources, Refusal>
+fn resources(value: &Value) -> Result<TaskResources, Refusal>
     ensures { Gives same result (resources_in (view value.now)) }
 {
     let resources = object(value, Member::Resources)?;
     let cpu = number_or(resources, Member::Cpu, 1, MAX_QUANTITY, 100)?;
     let memory = number_or(resources, Member::MemoryMb, 1, MAX_QUANTITY, 300)?;
-    Ok(Resources { cpu, memory })
+    Ok(TaskResources { cpu, memory })
 }
 
-fn resources_or_default(task: &Value) -> Result<Resources, Refusal>
+fn resources_or_default(task: &Value) -> Result<TaskResources, Refusal>
     ensures { Gives same result
         (or_else default_resources resources_in (present Member.Resources (view task.now))) }
 {
     match present(task, Member::Resources) {
-        None => Ok(Resources {
+        None => Ok(TaskResources {
             cpu: 100,
             memory: 300,
         }),
         Some(value) => resources(value),
+    }
+}
+
+#[tactic(auto, unfolding(crate::specs::Registration::disk_in))]
+fn disk(value: &Value) -> Result<u64, Refusal>
+    ensures { Gives same result (disk_in (view value.now)) }
+{
+    let disk = object(value, Member::EphemeralDisk)?;
+    number_or(disk, Member::SizeMb, 1, MAX_QUANTITY, 300)
+}
+
+fn disk_or_default(group: &Value) -> Result<u64, Refusal>
+    ensures { Gives same result
+        (or_else 300 disk_in (present Member.EphemeralDisk (view group.now))) }
+{
+    match present(group, Member::EphemeralDisk) {
+        None => Ok(300),
+        Some(value) => disk(value),
     }
 }
 
@@ -106,9 +123,15 @@ fn group(alloc: Global, before: &[Group], value: &Value) -> Result<Group, Refusa
     }
     let count = number_or(group, Member::Count, 0, 1000, 1)?;
     refuse_constraints(group)?;
+    let disk = disk_or_default(group)?;
     let listed = demanded(group, Member::Tasks)?;
     let tasks = tasks(alloc, listed)?;
-    Ok(Group { name, count, tasks })
+    Ok(Group {
+        name,
+        count,
+        disk,
+        tasks,
+    })
 }
 
 #[tactic(auto, unfolding(crate::specs::Registration::groups_in))]

@@ -19,14 +19,14 @@ use Rattle.ns_types.proofs.Choosing.{better_order, cheaper_order}
 use Rattle.ns_types.proofs.Lists.{not_both, each_map}
 use Rattle.ns_types.proofs.Named.{first_of_both, second_of_both}
 use Rattle.ns_types.proofs.Elements.{each_both}
-use Rattle.ns_laws.specs.Placement.{HasLessLeft, less_cpu, less_memory, less_name, ChosenIsBest, NoneChosenOfNone}
+use Rattle.ns_laws.specs.Placement.{HasLessLeft, less_cpu, less_memory, less_disk, less_name, ChosenIsBest, NoneChosenOfNone}
 use Rattle.ns_laws.specs.Placement as law
 use Rattle.ns_laws.proofs.ChoiceLemmas.{best_is, best_of_none, shortest_is, shortest_none, is_shortest}
 use Rattle.std.specs.Option.{option_map_or, option_and_then}
 use Rattle.ns_types.specs.Placing.Planning.{Choice}
 use Rattle.ns_types.specs.State.Lists.{Each}
 use Rattle.std.specs.List.{list_any}
-use Rattle.ns_types.specs.State.Resources.{Cpu, Memory, Resource, is_within, plus, quantity, total}
+use Rattle.ns_types.specs.State.Resources.{Cpu, Disk, Memory, Resource, is_within, plus, quantity, total}
 
 -- ---- orders
 
@@ -49,18 +49,26 @@ second_less a b c d r h k = λ i. is_lt (ordering_then (equal_is a b h i) (order
 third_less : (a b c d : ℕ) (r : Ordering) → a ≡ b → c ≡ d → r ≡ Less → ranks a b c d r ≡ true
 third_less a b c d r h k e = λ i. is_lt (ordering_then (equal_is a b h i) (ordering_then (equal_is c d k i) (e i)))
 
--- by two numbers, and then by a test
-abbrev left_ranks : ℕ → ℕ → ℕ → ℕ → Ordering → Bool
-left_ranks a b c d r = is_lt (ordering_then (ordering_then (nat_cmp a b) (nat_cmp c d)) r)
+-- by a first number, then by a second one, then by a third one
+abbrev three : ℕ → ℕ → ℕ → ℕ → ℕ → ℕ → Ordering
+three a b c d e f = ordering_then (nat_cmp a b) (ordering_then (nat_cmp c d) (nat_cmp e f))
 
-first_left : (a b c d : ℕ) (r : Ordering) → a < b → left_ranks a b c d r ≡ true
-first_left a b c d r h = ap (λ o. is_lt (ordering_then (ordering_then o (nat_cmp c d)) r)) (less_is a b h)
+-- and then by a test
+abbrev left_ranks : ℕ → ℕ → ℕ → ℕ → ℕ → ℕ → Ordering → Bool
+left_ranks a b c d e f r = is_lt (ordering_then (three a b c d e f) r)
 
-second_left : (a b c d : ℕ) (r : Ordering) → a ≡ b → c < d → left_ranks a b c d r ≡ true
-second_left a b c d r h k = λ i. is_lt (ordering_then (ordering_then (equal_is a b h i) (less_is c d k i)) r)
+first_left : (a b c d e f : ℕ) (r : Ordering) → a < b → left_ranks a b c d e f r ≡ true
+first_left a b c d e f r h = ap (λ o. is_lt (ordering_then (ordering_then o (ordering_then (nat_cmp c d) (nat_cmp e f))) r)) (less_is a b h)
 
-third_left : (a b c d : ℕ) (r : Ordering) → a ≡ b → c ≡ d → r ≡ Less → left_ranks a b c d r ≡ true
-third_left a b c d r h k e = λ i. is_lt (ordering_then (ordering_then (equal_is a b h i) (equal_is c d k i)) (e i))
+second_left : (a b c d e f : ℕ) (r : Ordering) → a ≡ b → c < d → left_ranks a b c d e f r ≡ true
+second_left a b c d e f r h k = λ i. is_lt (ordering_then (ordering_then (equal_is a b h i) (ordering_then (less_is c d k i) (nat_cmp e f))) r)
+
+third_left : (a b c d e f : ℕ) (r : Ordering) → a ≡ b → c ≡ d → e < f → left_ranks a b c d e f r ≡ true
+third_left a b c d e f r h k l = λ i. is_lt (ordering_then (ordering_then (equal_is a b h i) (ordering_then (equal_is c d k i) (less_is e f l i))) r)
+
+last_left : (a b c d e f : ℕ) (r : Ordering) → a ≡ b → c ≡ d → e ≡ f → r ≡ Less → left_ranks a b c d e f r ≡ true
+last_left a b c d e f r h k l m =
+    λ i. is_lt (ordering_then (ordering_then (equal_is a b h i) (ordering_then (equal_is c d k i) (equal_is e f l i))) (m i))
 
 -- ---- what the tests say
 
@@ -119,20 +127,28 @@ highest_is_highest first others =
 
 -- ---- a node with room
 
-better_with_less : (size : Resources) (a b : Candidate) → fits size a ≡ true → fits size b ≡ true → HasLessLeft a b → better size a b ≡ true
-better_with_less size a b f g less = by less
-  where
-    by : HasLessLeft a b → left_ranks (a.left.cpu - size.cpu) (b.left.cpu - size.cpu) (a.left.memory - size.memory) (b.left.memory - size.memory)
-        (name_cmp a.name b.name) ≡ true
-    by (less_cpu h) = first_left (a.left.cpu - size.cpu) (b.left.cpu - size.cpu) (a.left.memory - size.memory) (b.left.memory - size.memory)
-        (name_cmp a.name b.name)
-        (omega (arith, fits_at size a f Cpu, fits_at size b g Cpu, h))
-    by (less_memory e h) = second_left (a.left.cpu - size.cpu) (b.left.cpu - size.cpu) (a.left.memory - size.memory) (b.left.memory - size.memory)
-        (name_cmp a.name b.name)
-        (ap (λ n. n - size.cpu) e) (omega (arith, fits_at size a f Memory, fits_at size b g Memory, h))
-    by (less_name e h n) = third_left (a.left.cpu - size.cpu) (b.left.cpu - size.cpu) (a.left.memory - size.memory) (b.left.memory - size.memory)
-        (name_cmp a.name b.name)
-        (ap (λ n. n - size.cpu) e) (ap (λ n. n - size.memory) h) n
+module _ (size : Resources) (a b : Candidate) (f : fits size a ≡ true) (g : fits size b ≡ true) where
+  abbrev mine : Resource → ℕ
+  mine r = quantity r a.left - quantity r size
+
+  abbrev others : Resource → ℕ
+  others r = quantity r b.left - quantity r size
+
+  same : (r : Resource) → quantity r a.left ≡ quantity r b.left → mine r ≡ others r
+  same r e = ap (λ n. n - quantity r size) e
+
+  lower : (r : Resource) → quantity r a.left < quantity r b.left → mine r < others r
+  lower r h = let one = fits_at size a f r in let other = fits_at size b g r in omega (arith, one, other, h)
+
+  better_with_less : HasLessLeft a b → better size a b ≡ true
+  better_with_less (less_cpu h) = first_left (mine Cpu) (others Cpu) (mine Memory) (others Memory) (mine Disk) (others Disk) (name_cmp a.name b.name)
+      (lower Cpu h)
+  better_with_less (less_memory e h) = second_left (mine Cpu) (others Cpu) (mine Memory) (others Memory) (mine Disk) (others Disk) (name_cmp a.name b.name)
+      (same Cpu e) (lower Memory h)
+  better_with_less (less_disk e k h) = third_left (mine Cpu) (others Cpu) (mine Memory) (others Memory) (mine Disk) (others Disk) (name_cmp a.name b.name)
+      (same Cpu e) (same Memory k) (lower Disk h)
+  better_with_less (less_name e n) = last_left (mine Cpu) (others Cpu) (mine Memory) (others Memory) (mine Disk) (others Disk) (name_cmp a.name b.name)
+      (same Cpu (e Cpu)) (same Memory (e Memory)) (same Disk (e Disk)) n
 
 pub chosen_is_best : ChosenIsBest
 chosen_is_best size nodes k e =

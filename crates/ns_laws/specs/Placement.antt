@@ -3,7 +3,7 @@ use Rattle.std.specs.Prelude.{◌≡◌, ℕ, ◌+◌, ◌<◌, ◌≤◌, ◌==
 use Rattle.std.specs.Prelude.{take, IsTrue, IsFalse, [], ◌↔◌, ◌∷◌, sum_by}
 use Rattle.std.specs.List.{AllPairs, list_any}
 use Rattle.std.specs.declared.cmp.Ordering.TheVariants.{Less}
-use Rattle.ns_types.specs.State.Resources.{InEach, quantity}
+use Rattle.ns_types.specs.State.Resources.{InEach, Resource, quantity}
 use Rattle.ns_types.specs.declared.resources.Resources.{Resources}
 use Rattle.ns_types.specs.declared.snapshot.LiveAllocation.{LiveAllocation}
 use Rattle.ns_types.specs.State.Lists.{Each}
@@ -32,11 +32,13 @@ HighestIsHighest = (first : LiveAllocation) (others : List LiveAllocation) →
 
 -- ---- a node with room
 
--- a node has less CPU left; or as much, and less memory; or as much of both, and a lesser name
+-- a node has less CPU left; or as much, and less memory; or as much of both, and less disk; or as much of all, and a lesser
+-- name
 pub data HasLessLeft (a b : Candidate) : Type 0 where
   less_cpu : a.left.cpu < b.left.cpu → HasLessLeft a b
   less_memory : a.left.cpu ≡ b.left.cpu → a.left.memory < b.left.memory → HasLessLeft a b
-  less_name : a.left.cpu ≡ b.left.cpu → a.left.memory ≡ b.left.memory → name_cmp a.name b.name ≡ Less → HasLessLeft a b
+  less_disk : a.left.cpu ≡ b.left.cpu → a.left.memory ≡ b.left.memory → a.left.disk < b.left.disk → HasLessLeft a b
+  less_name : ((r : Resource) → quantity r a.left ≡ quantity r b.left) → name_cmp a.name b.name ≡ Less → HasLessLeft a b
 
 -- the node at a place fits, and none that fits has less left
 pub record IsBestNode (size : Resources) (nodes : List Candidate) (k : ℕ) : Type 0 where

@@ -10,7 +10,7 @@ use Rattle.ns_types.specs.declared.resources.Resources.{Resources}
 use Rattle.ns_types.specs.State.Names.{Key, Name, same_key}
 use Rattle.ns_types.specs.State.Resources.{none, quantity}
 use Rattle.ns_types.proofs.Amounts.{every}
-use Rattle.ns_world.specs.Total.{IsAlike}
+use Rattle.ns_types.specs.State.Resources.{IsAlike}
 use Rattle.ns_live.specs.declared.live.Live.{Live}
 use Rattle.ns_live.specs.declared.pool_keys.NodeKeys.{NodeKeys}
 use Rattle.ns_live.specs.declared.pool_keys.PoolKeys.{PoolKeys}

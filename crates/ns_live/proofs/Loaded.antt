@@ -17,7 +17,7 @@ use Rattle.ns_types.specs.State.Rows.{World, Tenant, allocation_at, is_live_on}
 use Rattle.ns_types.specs.State.Sums.{node_load, node_sum, tenant_sum}
 use Rattle.ns_types.proofs.Named.{names, numbers, one_name, one_number}
 use Rattle.ns_types.proofs.TableRows.{entries_empty}
-use Rattle.ns_world.proofs.Totals.{total_exact}
+use Rattle.ns_types.proofs.Amounts.{total_exact}
 use Rattle.ns_live.specs.declared.live.Live.{Live}
 use Rattle.ns_live.specs.Index.{IsRight}
 use Rattle.ns_live.specs.Levels.{keys_at, load_at, no_keys}

@@ -24,8 +24,8 @@ use Rattle.ns_types.proofs.Sums.{sum_same}
 use Rattle.ns_types.proofs.Tables.{each_row}
 use Rattle.ns_types.proofs.Tests.{not_Some}
 use Rattle.ns_world.specs.Allocations.{live_sum, rows_use}
-use Rattle.ns_world.specs.Total.{IsTotal}
-use Rattle.ns_world.proofs.Totals.{total_exact}
+use Rattle.ns_types.specs.State.Resources.{IsTotal}
+use Rattle.ns_types.proofs.Amounts.{total_exact}
 use Rattle.ns_live.specs.declared.live.Live.{Live}
 use Rattle.ns_live.specs.declared.naming.QuotaUse.{QuotaUse}
 use Rattle.ns_live.specs.Listed.{found_at}

@@ -14,8 +14,8 @@ use Rattle.ns_types.specs.State.Resources.{none, quantity}
 use Rattle.ns_types.proofs.Amounts.{at, counted_at, every, quantity_none}
 use Rattle.ns_types.specs.State.Rows.{is_live, is_live_on}
 use Rattle.ns_types.proofs.Named.{first_of_both, same_key_refl, same_name_is, second_of_both}
-use Rattle.ns_world.specs.Total.{IsAlike, IsTotal}
-use Rattle.ns_world.proofs.Totals.{moves_at, total_counted}
+use Rattle.ns_types.specs.State.Resources.{IsAlike, IsTotal}
+use Rattle.ns_types.proofs.Amounts.{moves_at, total_counted}
 use Rattle.ns_live.specs.declared.live.Live.{Live}
 use Rattle.ns_live.specs.Index.{Indexes, holds, with_row}
 use Rattle.ns_live.specs.Levels.{keys_at, load_at, no_keys, stands_at}

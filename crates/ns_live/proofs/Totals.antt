@@ -17,8 +17,8 @@ use Rattle.ns_types.proofs.Sums.{sum_same}
 use Rattle.ns_types.proofs.TableRows.{entries_empty}
 use Rattle.ns_types.proofs.Tables.{each_row}
 use Rattle.ns_types.proofs.Taken.{at_row, sum_set, sum_split}
-use Rattle.ns_world.proofs.Totals.{moves_at, none_total, total_in_each}
-use Rattle.ns_world.specs.Total.{IsAlike, IsTotal, Moves}
+use Rattle.ns_types.proofs.Amounts.{moves_at, none_total, total_in_each}
+use Rattle.ns_types.specs.State.Resources.{IsAlike, IsTotal, Moves}
 use Rattle.ns_live.specs.declared.naming.QuotaNames.{QuotaNames}
 use Rattle.ns_live.specs.declared.naming.QuotaUse.{QuotaUse}
 use Rattle.ns_live.specs.Naming.{AreKept, AreTotals, HoldsSame, KeepsTotals, has_name_room, has_room_at, holds_at, holds_name, is_quota, names_at}

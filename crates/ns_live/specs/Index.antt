@@ -8,7 +8,7 @@ use Rattle.ns_types.specs.declared.allocation.Allocation.{Allocation}
 use Rattle.ns_types.specs.State.Names.{Name, Key, ByNumber, same_key, same_name}
 use Rattle.ns_types.specs.State.Resources.{none}
 use Rattle.ns_types.specs.State.Rows.{World, allocation_at, is_live, is_live_on}
-use Rattle.ns_world.specs.Total.{IsTotal}
+use Rattle.ns_types.specs.State.Resources.{IsTotal}
 use Rattle.ns_live.specs.declared.live.Live.{Live}
 use Rattle.ns_live.specs.Levels.{has_pool_room, holds_in_pool, keys_at, load_at}
 use Rattle.ns_live.specs.Loads.{keys_use}

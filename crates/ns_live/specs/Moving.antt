@@ -6,7 +6,7 @@ use Rattle.ns_types.specs.declared.resources.Resources.{Resources}
 use Rattle.ns_types.specs.State.Names.{Name, same_name}
 use Rattle.ns_types.specs.State.Resources.{IsCounted, none}
 use Rattle.ns_types.specs.State.Rows.{is_live_on}
-use Rattle.ns_world.specs.Total.{Moves}
+use Rattle.ns_types.specs.State.Resources.{Moves}
 use Rattle.ns_live.specs.declared.live.Live.{Live}
 use Rattle.ns_live.specs.declared.pool_keys.PoolKeys.{PoolKeys}
 use Rattle.ns_live.specs.Levels.{load_at, load_on, stands_at, stands_on}

@@ -10,7 +10,7 @@ use Rattle.ns_types.specs.State.Names.{ByName, Name, same_name}
 use Rattle.ns_types.specs.State.Resources.{each_resource, none, quantity}
 use Rattle.ns_types.specs.State.Rows.{Tenant, World}
 use Rattle.ns_world.specs.Allocations.{rows_use}
-use Rattle.ns_world.specs.Total.{IsTotal}
+use Rattle.ns_types.specs.State.Resources.{IsTotal}
 use Rattle.ns_live.specs.declared.live.Live.{Live}
 use Rattle.ns_live.specs.declared.naming.QuotaNames.{QuotaNames}
 use Rattle.ns_live.specs.declared.naming.QuotaUse.{QuotaUse}

@@ -9,15 +9,14 @@ ghost use Rattle.keyed.specs.Levels.{Adds, Drops, Keeps, same_at};
 ghost use Rattle.keyed.specs.Table.{at_slot, row_at};
 ghost use Rattle.ns_types.specs.declared.resources.Resources.{Resources};
 ghost use Rattle.ns_types.specs.State.Names.{Name, same_name};
-ghost use Rattle.ns_world.specs.Total.{IsTotal};
+ghost use Rattle.ns_types.specs.State.Resources.{IsTotal};
 ghost use Rattle.ns_live.specs.Naming.{AreTotals, HasNameRoom, HoldsSame, KeepsTotals, PutsQuota, PutsUse};
 ghost use Rattle.ns_live.specs.Naming.{has_room_at, holds_at, is_quota, row_name, total_at};
 
 use keyed::NameTable;
-use ns_types::resources::{Resources, none};
+use ns_types::resources::{Resources, moved, none};
 use ns_types::rows::Rows;
 use ns_types::text::{Text, same_text};
-use ns_world::moved;
 use std::alloc::{AllocError, Global};
 
 /// A name, or room for it.

@@ -10,9 +10,8 @@ ghost use Rattle.ns_live.specs.Levels.{holds_on_node, has_node_room, load_on};
 ghost use Rattle.ns_live.specs.Moving.{LeavesOnNode, MovesLoad, MovesOnNode};
 
 use keyed::{KeySet, NameTable};
-use ns_types::resources::{Resources, none};
+use ns_types::resources::{Resources, moved, none};
 use ns_types::text::Text;
-use ns_world::moved;
 use std::alloc::{AllocError, Global};
 
 /// The keys of the live allocations on a node, and what these take together: sums of 64 bits, which wrap.

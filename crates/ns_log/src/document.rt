@@ -151,6 +151,8 @@ fn write_offer(out: &mut Writer, offer: &Offer) -> Result<(), AllocError>
         &[
             Part::Key("CPU"),
             Part::Number(offer.capacity.cpu),
+            Part::Key("DiskMB"),
+            Part::Number(offer.capacity.disk),
             Part::Key("MemoryMB"),
             Part::Number(offer.capacity.memory),
             Part::Key("NodeClass"),

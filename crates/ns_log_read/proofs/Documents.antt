@@ -8,6 +8,7 @@ use Rattle.std.specs.List.{list_all}
 use Rattle.std.specs.Option.{option_map_or, is_none}
 use Rattle.std.specs.Str.{bytes_eq}
 use Rattle.serde_json.specs.Data.{Data, string}
+use Rattle.ns_types.proofs.Amounts.{true_at}
 use Rattle.ns_types.specs.declared.acl.Policy.{Policy}
 use Rattle.ns_types.specs.declared.acl.TokenKind.{TokenKind}
 use Rattle.ns_types.specs.declared.name.NameKind.{NameKind}
@@ -21,18 +22,18 @@ use Rattle.ns_types.specs.declared.resources.Limit.{Limit}
 use Rattle.ns_types.specs.declared.resources.Limits.{Limits}
 use Rattle.ns_types.specs.declared.step.NewToken.{NewToken}
 use Rattle.ns_types.specs.Asking.Policies.{token_of}
-use Rattle.ns_types.specs.State.Limits.{is_amount, is_between, is_distinct, is_text, is_pool_name, is_pool_list, is_good_namespace, is_limit, is_good_quota}
+use Rattle.ns_types.specs.State.Limits.{is_amount, is_between, is_distinct, is_text, is_pool_name, is_pool_list, is_good_namespace, is_limit, is_good_quota, are_limits, is_quantity}
 use Rattle.ns_types.specs.State.Limits.{is_good_policy, is_good_token, is_good_offer}
 use Rattle.ns_types.specs.State.Lists.{is_empty}
 use Rattle.ns_types.specs.State.Name.{is_name}
 use Rattle.ns_types.specs.State.Names.{Name, same_name}
 use Rattle.ns_types.specs.State.Names
-use Rattle.ns_types.specs.State.Resources.{limits_in}
+use Rattle.ns_types.specs.State.Resources.{limits_in, Cpu, Memory, Disk, limit_on, quantity}
 use Rattle.ns_types.specs.Wire.Words.{token_kind_text}
 use Rattle.ns_types.proofs.Named.{first_of_both, second_of_both, same_name_is}
 use Rattle.ns_json.specs.Logs.{offer_json, new_token_json}
 use Rattle.ns_json.specs.Reading.{same, top, present, unless_null, demanded, or_else, some, an_object, a_text, has_name, a_list}
-use Rattle.ns_json.specs.Rendering.{object_of, members_of, texts_of, allowed_json, pools_json, namespace_json, limit_json}
+use Rattle.ns_json.specs.Rendering.{object_of, members_of, texts_of, allowed_json, pools_json, namespace_json, limit_json, region_limit_json}
 use Rattle.ns_json.specs.Rendering.{limits_json, quota_json, pool_json, policy_json, token_json}
 use Rattle.ns_policy.specs.Json.{rules_of}
 use Rattle.ns_documents.specs.Access.{rules_text_in, policy_in, token_kind_of, token_kind_in, token_in}
@@ -185,35 +186,39 @@ limit_back m Limit.Nothing h = refl
 abbrev entry_of : Limits → Data
 entry_of l = object_of (
     (codes "Region", string (codes "global")) ∷
-    (codes "RegionLimit", object_of ((codes "CPU", limit_json l.cpu) ∷ (codes "MemoryMB", limit_json l.memory) ∷ [])) ∷ [])
+    (codes "RegionLimit", region_limit_json l) ∷ [])
 
 limit_or_back : (m : Member) (l : Limit) → is_limit l ≡ true → or_else Limit.Unlimited (limit_in m) (unless_null (limit_json l)) ≡ Ok l
 limit_or_back m Limit.Unlimited h = limit_back m Limit.Unlimited h
 limit_or_back m (Limit.AtMost n) h = limit_back m (Limit.AtMost n) h
 limit_or_back m Limit.Nothing h = limit_back m Limit.Nothing h
 
-entry_back : (l : Limits) → is_limit l.cpu ≡ true → is_limit l.memory ≡ true → entry_in (entry_of l) ≡ Ok l
+entry_back : (l : Limits) → are_limits l ≡ true → entry_in (entry_of l) ≡ Ok l
 unfolding entry_in region_in region_limit_in an_object present a_text
-entry_back l h k = rw (limit_or_back Member.Cpu l.cpu h, limit_or_back Member.MemoryMb l.memory k) refl
+entry_back l h =
+    let good = true_at (λ r. is_limit (limit_on r l)) h in
+    rw (
+      limit_or_back Member.Cpu l.cpu (good Cpu),
+      limit_or_back Member.MemoryMb l.memory (good Memory),
+      limit_or_back Member.DiskMb l.disk (good Disk),
+    ) refl
 
-limits_back : (o : Option Limits) → is_limit (limits_in o).cpu ≡ true → is_limit (limits_in o).memory ≡ true →
+limits_back : (o : Option Limits) → are_limits (limits_in o) ≡ true →
     or_else None entries_in (unless_null (limits_json o)) ≡ Ok o
 unfolding entries_in a_list
-limits_back None h k = refl
-limits_back (Some l) h k = rw (entry_back l h k) refl
+limits_back None h = refl
+limits_back (Some l) h = rw (entry_back l h) refl
 
 pub quota_back : (name : Name) (q : Quota) → is_name NameKind.Quota name ≡ true → is_good_quota q ≡ true →
     quota_in None (quota_json (record { name = name; row = q })) ≡ Ok (record { name = name; quota = q })
 unfolding quota_in quota_json top named description_in demanded present
 quota_back name q is_named good =
-    let cpu = is_limit (limits_in q.limits).cpu in
-    let memory = is_limit (limits_in q.limits).memory in
-    let both = first_of_both (is_text q.description && cpu) memory good in
-    let limits = limits_back q.limits (second_of_both (is_text q.description) cpu both) (second_of_both (is_text q.description && cpu) memory good) in
+    let allowed = are_limits (limits_in q.limits) in
+    let limits = limits_back q.limits (second_of_both (is_text q.description) allowed good) in
     rw (
       name_back Member.Name NameKind.Quota name is_named,
       text_back Member.Description q.description
-          (first_of_both (is_text q.description) cpu both),
+          (first_of_both (is_text q.description) allowed good),
       limits,
     ) refl
 
@@ -286,16 +291,15 @@ offer_back o good =
     let a = is_text o.class in
     let b = nat_le (length o.attributes) 64 in
     let c = list_all is_attribute o.attributes in
-    let cpu = is_between 1 2147483647 o.capacity.cpu in
-    let memory = is_between 1 2147483647 o.capacity.memory in
     let i3 = first_of_both (a && b && c) (is_amount o.capacity) good in
-    let amount = second_of_both (a && b && c) (is_amount o.capacity) good in
+    let within = true_at (λ r. is_quantity (quantity r o.capacity)) (second_of_both (a && b && c) (is_amount o.capacity) good) in
     let i2 = first_of_both (a && b) c i3 in
     let few : length o.attributes ≤ 64 = leb-true (length o.attributes) 64 (second_of_both a b i2) in
     let attributes = each_attribute_back [] o.attributes (second_of_both (a && b) c i3) (omega arith) in
     rw (
       text_back Member.NodeClass o.class (first_of_both a b i2),
       attributes,
-      number_back Member.Cpu 1 2147483647 o.capacity.cpu (first_of_both cpu memory amount),
-      number_back Member.MemoryMb 1 2147483647 o.capacity.memory (second_of_both cpu memory amount),
+      number_back Member.Cpu 1 2147483647 o.capacity.cpu (within Cpu),
+      number_back Member.MemoryMb 1 2147483647 o.capacity.memory (within Memory),
+      number_back Member.DiskMb 1 2147483647 o.capacity.disk (within Disk),
     ) refl

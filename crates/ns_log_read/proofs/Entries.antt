@@ -10,10 +10,12 @@ use Rattle.std.specs.Ordering.{is_lt, ordering_reverse}
 use Rattle.std.specs.Prelude.{T}
 use Rattle.serde_json.specs.Data.{string}
 use Rattle.serde_json.specs.View.{items_of}
+use Rattle.ns_types.proofs.Amounts.{true_at}
 use Rattle.ns_types.specs.declared.job.Constraint.{Constraint}
 use Rattle.ns_types.specs.declared.job.Group.{Group}
 use Rattle.ns_types.specs.declared.job.Registration.{Registration}
 use Rattle.ns_types.specs.declared.job.Task.{Task}
+use Rattle.ns_types.specs.declared.job.TaskResources.{TaskResources}
 use Rattle.ns_types.specs.declared.node.Attribute.{Attribute}
 use Rattle.ns_types.specs.declared.node.Offer.{Offer}
 use Rattle.ns_types.specs.declared.records.Namespace.{Namespace}
@@ -28,17 +30,17 @@ use Rattle.ns_types.specs.declared.step.NodeCommand.{NodeCommand}
 use Rattle.ns_types.specs.declared.step.Step.{Step}
 use Rattle.ns_types.specs.declared.name.NameKind.TheVariants as NameKind
 use Rattle.ns_types.specs.Asking.Good.{IsGoodNodeCommand, is_good_admin, is_good_ask}
-use Rattle.ns_types.specs.State.Limits.{is_amount, is_between, is_good_constraint, is_good_task, is_good_group, is_good_registration, is_good_offer}
+use Rattle.ns_types.specs.State.Limits.{is_amount, is_between, is_good_constraint, is_good_task, is_good_group, is_good_registration, is_good_offer, are_limits, are_quantities, is_quantity}
 use Rattle.ns_types.specs.State.Limits.{is_limit, is_good_quota, is_text, IsInOrder}
 use Rattle.ns_types.specs.State.Name.{is_name}
 use Rattle.ns_types.specs.State.Names.{Name, name_cmp}
-use Rattle.ns_types.specs.State.Resources.{limits_in}
+use Rattle.ns_types.specs.State.Resources.{limits_in, Resource, Cpu, Memory, Disk, limit_on, quantity}
 use Rattle.ns_types.specs.Within.{IsGoodStep}
 use Rattle.ns_types.proofs.Named.{first_of_both, second_of_both, names}
 use Rattle.ns_json.specs.Logs.{asked, administered, node_call, step_members, entry_json, number_or_null, text_or_null}
 use Rattle.ns_json.specs.Logs.{registration_json, offer_json, new_token_json}
 use Rattle.ns_json.specs.Rendering.{object_of, members_of, allowed_json, pools_json, namespace_json, limit_json, limits_json, quota_json}
-use Rattle.ns_json.specs.Rendering.{pool_json, policy_json, token_json, resources_json, task_json, group_json, constraint_json, attributes_json}
+use Rattle.ns_json.specs.Rendering.{pool_json, policy_json, token_json, task_resources_json, task_json, group_json, constraint_json, attributes_json}
 use Rattle.ns_json.specs.Replies.{Entry}
 use Rattle.ns_log_read.specs.Lines.{ask_fits, node_command_fits, step_fits, answer_fits, fits, fits_if_any}
 use Rattle.ns_log_read.proofs.Spelled.{is_after, is_greater, is_spelled, items_spelled, members_spelled, list_spelled}
@@ -64,15 +66,15 @@ texts_spelled n (x ∷ xs) = texts_spelled n xs
 
 -- ---- registrations
 
-resources_spelled : (r : Resources) → is_amount r ≡ true → is_spelled 2 (resources_json r) ≡ true
+resources_spelled : (r : TaskResources) → are_quantities r ≡ true → is_spelled 2 (task_resources_json r) ≡ true
 resources_spelled r h =
-    let cpu = small 1 2147483647 r.cpu (first_of_both (is_between 1 2147483647 r.cpu) (is_between 1 2147483647 r.memory) h) (omega arith) in
-    let memory = small 1 2147483647 r.memory (second_of_both (is_between 1 2147483647 r.cpu) (is_between 1 2147483647 r.memory) h) (omega arith) in
+    let cpu = small 1 2147483647 r.cpu (first_of_both (is_quantity r.cpu) (is_quantity r.memory) h) (omega arith) in
+    let memory = small 1 2147483647 r.memory (second_of_both (is_quantity r.cpu) (is_quantity r.memory) h) (omega arith) in
     rw (cpu, memory) refl
 
 task_spelled : (t : Task) → is_good_task t ≡ true → is_spelled 3 (task_json t) ≡ true
 unfolding task_json
-task_spelled t h = rw (resources_spelled t.resources (second_of_both (is_name NameKind.Task t.name) (is_amount t.resources) h)) refl
+task_spelled t h = rw (resources_spelled t.resources (second_of_both (is_name NameKind.Task t.name) (are_quantities t.resources) h)) refl
 
 group_spelled : (g : Group) → is_good_group g ≡ true → is_spelled 5 (group_json g) ≡ true
 unfolding group_json
@@ -80,7 +82,7 @@ group_spelled g h =
     let parts = group_parts g h in
     let count : nat_lt g.count (2 ^ 64) ≡ true = let le = leb-true g.count 1000 parts.count in lt-ltb g.count (2 ^ 64) (omega arith) in
     let tasks = list_spelled 3 task_json is_good_task g.tasks task_spelled parts.tasks in
-    rw (count, tasks) refl
+    rw (count, small 1 2147483647 g.disk parts.disk (omega arith), tasks) refl
 
 constraint_spelled : (c : Constraint) → is_good_constraint c ≡ true → is_spelled 5 (constraint_json c) ≡ true
 unfolding constraint_json
@@ -109,17 +111,17 @@ limit_spelled n Limit.Unlimited h = refl
 limit_spelled n (Limit.AtMost most) h = small 1 (2 ^ 53) most h (omega arith)
 limit_spelled n Limit.Nothing h = refl
 
-limits_spelled : (o : Option Limits) → is_limit (limits_in o).cpu ≡ true → is_limit (limits_in o).memory ≡ true → is_spelled 6 (limits_json o) ≡ true
-limits_spelled None h k = refl
-limits_spelled (Some l) h k = rw (limit_spelled 3 l.cpu h, limit_spelled 3 l.memory k) refl
+limits_spelled : (o : Option Limits) → are_limits (limits_in o) ≡ true → is_spelled 6 (limits_json o) ≡ true
+limits_spelled None h = refl
+limits_spelled (Some l) h =
+    let spelled : (r : Resource) → is_spelled 3 (limit_json (limit_on r l)) ≡ true =
+    λ r. limit_spelled 3 (limit_on r l) (true_at (λ r. is_limit (limit_on r l)) h r) in
+    rw (spelled Cpu, spelled Disk, spelled Memory) refl
 
 quota_spelled : (name : Name) (q : Quota) → is_good_quota q ≡ true → is_spelled 7 (quota_json (record { name = name; row = q })) ≡ true
 unfolding quota_json
 quota_spelled name q good =
-    let cpu = is_limit (limits_in q.limits).cpu in
-    let memory = is_limit (limits_in q.limits).memory in
-    let both = first_of_both (is_text q.description && cpu) memory good in
-    rw (limits_spelled q.limits (second_of_both (is_text q.description) cpu both) (second_of_both (is_text q.description && cpu) memory good)) refl
+    rw (limits_spelled q.limits (second_of_both (is_text q.description) (are_limits (limits_in q.limits)) good)) refl
 
 token_spelled : (t : NewToken) → is_spelled 7 (new_token_json t) ≡ true
 unfolding token_json
@@ -172,14 +174,14 @@ attributes_spelled o h =
 offer_spelled : (o : Offer) → is_good_offer o ≡ true → IsInOrder o → is_spelled 7 (offer_json o) ≡ true
 unfolding offer_json
 offer_spelled o good order =
-    let cpu = is_between 1 2147483647 o.capacity.cpu in
-    let memory = is_between 1 2147483647 o.capacity.memory in
     let amount = second_of_both (is_text o.class && nat_le (length o.attributes) 64 && list_all (λ a. is_text a.key && is_text a.value) o.attributes)
     (is_amount o.capacity) good in
+    let good = true_at (λ r. is_quantity (quantity r o.capacity)) amount in
     rw (
       attributes_spelled o order,
-      small 1 2147483647 o.capacity.cpu (first_of_both cpu memory amount) (omega arith),
-      small 1 2147483647 o.capacity.memory (second_of_both cpu memory amount) (omega arith),
+      small 1 2147483647 o.capacity.cpu (good Cpu) (omega arith),
+      small 1 2147483647 o.capacity.disk (good Disk) (omega arith),
+      small 1 2147483647 o.capacity.memory (good Memory) (omega arith),
     ) refl
 
 -- ---- commands

@@ -15,10 +15,10 @@ use Rattle.ns_types.specs.declared.job.Operand.{Operand}
 use Rattle.ns_types.specs.declared.job.Registration.{Registration}
 use Rattle.ns_types.specs.declared.job.Target.{Target}
 use Rattle.ns_types.specs.declared.job.Task.{Task}
+use Rattle.ns_types.specs.declared.job.TaskResources.{TaskResources}
 use Rattle.ns_types.specs.declared.name.NameKind.TheVariants as NameKind
 use Rattle.ns_types.specs.declared.refusal.Member.{Member}
-use Rattle.ns_types.specs.declared.resources.Resources.{Resources}
-use Rattle.ns_types.specs.State.Limits.{is_amount, is_between, is_text, is_target, is_pool_name, is_good_constraint, is_good_task, is_good_group}
+use Rattle.ns_types.specs.State.Limits.{are_quantities, is_quantity, is_between, is_text, is_target, is_pool_name, is_good_constraint, is_good_task, is_good_group}
 use Rattle.ns_types.specs.State.Limits.{is_good_registration, is_distinct}
 use Rattle.ns_types.specs.State.Name.{is_name}
 use Rattle.ns_types.specs.State.Names.{Name, same_name}
@@ -27,32 +27,33 @@ use Rattle.ns_types.proofs.Alike.{pointwise_refl}
 use Rattle.ns_types.proofs.Named.{first_of_both, second_of_both}
 use Rattle.ns_json.specs.Logs.{registration_json}
 use Rattle.ns_json.specs.Reading.{present, demanded, an_object, a_text, has_name, top}
-use Rattle.ns_json.specs.Registration.{resources_in, no_constraints, task_in, tasks_in, group_in, groups_in, attribute_key, target_of, operand_of}
+use Rattle.ns_json.specs.Registration.{disk_in, resources_in, no_constraints, task_in, tasks_in, group_in, groups_in, attribute_key, target_of, operand_of}
 use Rattle.ns_json.specs.Registration.{compared_in, constraint_in, constraint_after, constraints_in, kind_of, kind_in, pool_in, names_in, terms_in, work_in}
 use Rattle.ns_json.specs.Registration.{job_groups_in, job_in, enforced_in, registration_in, demanding, without_suffix}
-use Rattle.ns_json.specs.Rendering.{object_of, list_of, text_or_empty, resources_json, task_json, group_json, constraint_json}
+use Rattle.ns_json.specs.Rendering.{object_of, list_of, text_or_empty, task_resources_json, task_json, group_json, constraint_json}
 use Rattle.ns_log_read.proofs.Lists.{ReadBack, each_distinct, each_good, list_back}
 use Rattle.ns_log_read.proofs.Values.{text_back, name_back, number_back, if_any_back}
 
 -- ---- tasks and groups
 
-resources_back : (r : Resources) → is_amount r ≡ true → resources_in (resources_json r) ≡ Ok r
+resources_back : (r : TaskResources) → are_quantities r ≡ true → resources_in (task_resources_json r) ≡ Ok r
 unfolding resources_in an_object present
 resources_back r h =
-    let cpu = number_back Member.Cpu 1 2147483647 r.cpu (first_of_both (is_between 1 2147483647 r.cpu) (is_between 1 2147483647 r.memory) h) in
-    let memory = number_back Member.MemoryMb 1 2147483647 r.memory (second_of_both (is_between 1 2147483647 r.cpu) (is_between 1 2147483647 r.memory) h) in
+    let cpu = number_back Member.Cpu 1 2147483647 r.cpu (first_of_both (is_quantity r.cpu) (is_quantity r.memory) h) in
+    let memory = number_back Member.MemoryMb 1 2147483647 r.memory (second_of_both (is_quantity r.cpu) (is_quantity r.memory) h) in
     rw (cpu, memory) refl
 
 task_back : (before : List Task) (t : Task) → is_good_task t ≡ true → has_name (λ x. x.name) before t.name ≡ false → ReadBack task_in task_json before t
 unfolding task_in task_json an_object demanded present no_constraints
 task_back before t h new =
-    let name = name_back Member.Name NameKind.Task t.name (first_of_both (is_name NameKind.Task t.name) (is_amount t.resources) h) in
-    let resources = resources_back t.resources (second_of_both (is_name NameKind.Task t.name) (is_amount t.resources) h) in
+    let name = name_back Member.Name NameKind.Task t.name (first_of_both (is_name NameKind.Task t.name) (are_quantities t.resources) h) in
+    let resources = resources_back t.resources (second_of_both (is_name NameKind.Task t.name) (are_quantities t.resources) h) in
     rw (name, new, resources) refl
 
 pub record IsGroup (g : Group) : Type 0 where
   pub name : is_name NameKind.Group g.name ≡ true
   pub count : nat_le g.count 1000 ≡ true
+  pub disk : is_quantity g.disk ≡ true
   pub many : is_between 1 16 (length g.tasks) ≡ true
   pub tasks : list_all is_good_task g.tasks ≡ true
   pub once : is_distinct same_name (map (λ t. t.name) g.tasks) ≡ true
@@ -61,18 +62,21 @@ pub group_parts : (g : Group) → is_good_group g ≡ true → IsGroup g
 group_parts g h =
     let a = is_name NameKind.Group g.name in
     let b = nat_le g.count 1000 in
-    let c = is_between 1 16 (length g.tasks) in
-    let d = list_all is_good_task g.tasks in
-    let e = is_distinct same_name (map (λ t. t.name) g.tasks) in
-    let abcd = first_of_both (a && b && c && d) e h in
+    let c = is_quantity g.disk in
+    let d = is_between 1 16 (length g.tasks) in
+    let e = list_all is_good_task g.tasks in
+    let f = is_distinct same_name (map (λ t. t.name) g.tasks) in
+    let abcde = first_of_both (a && b && c && d && e) f h in
+    let abcd = first_of_both (a && b && c && d) e abcde in
     let abc = first_of_both (a && b && c) d abcd in
     let ab = first_of_both (a && b) c abc in
     record {
       name = first_of_both a b ab;
       count = second_of_both a b ab;
-      many = second_of_both (a && b) c abc;
-      tasks = second_of_both (a && b && c) d abcd;
-      once = second_of_both (a && b && c && d) e h;
+      disk = second_of_both (a && b) c abc;
+      many = second_of_both (a && b && c) d abcd;
+      tasks = second_of_both (a && b && c && d) e abcde;
+      once = second_of_both (a && b && c && d && e) f h;
     }
 
 tasks_back : (g : Group) → IsGroup g → tasks_in (list_of task_json g.tasks) ≡ Ok g.tasks
@@ -82,13 +86,14 @@ tasks_back g h = list_back Member.Tasks 1 16 task_in task_json g.tasks h.many
 
 group_back : (before : List Group) (g : Group) → is_good_group g ≡ true → has_name (λ x. x.name) before g.name ≡ false →
     ReadBack group_in group_json before g
-unfolding group_in group_json an_object demanded present no_constraints
+unfolding group_in group_json disk_in an_object demanded present no_constraints
 group_back before g h new =
     let parts = group_parts g h in
     let name = name_back Member.Name NameKind.Group g.name parts.name in
     let count = number_back Member.Count 0 1000 g.count (and_from (nat_le 0 g.count) (nat_le g.count 1000) (le-leb 0 g.count (omega arith)) parts.count) in
+    let disk = number_back Member.SizeMb 1 2147483647 g.disk parts.disk in
     let tasks = tasks_back g parts in
-    rw (name, new, count, tasks) refl
+    rw (name, new, count, disk, tasks) refl
 
 -- ---- constraints
 

@@ -14,12 +14,12 @@ use Rattle.ns_types.specs.Working.Commit.{part_of, size_of}
 use Rattle.ns_types.proofs.Lists.{filter-append, not_both}
 use Rattle.ns_types.proofs.Named.{one_number, same_number_refl}
 use Rattle.ns_types.proofs.Tables.{tied}
-use Rattle.ns_plan.specs.Amounts.{added, amount_of}
+use Rattle.ns_types.specs.State.Resources.{added, amount_of}
 use Rattle.ns_plan.specs.Gathered.{AreParts, IsPart}
 use Rattle.ns_plan.specs.Reader.{evictions_of}
-use Rattle.ns_plan.specs.declared.amounts.Amount.{Amount}
+use Rattle.ns_types.specs.declared.resources.Amount.{Amount}
 use Rattle.ns_plan.specs.declared.gathering.Part.{Part}
-use Rattle.ns_plan.proofs.Capped.{amount_added}
+use Rattle.ns_types.proofs.Amounts.{amount_added}
 use Rattle.ns_plan.proofs.Holding.{take_next}
 
 abbrev evicted : ℕ → List Placement → List Eviction

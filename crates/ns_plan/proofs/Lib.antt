@@ -1,5 +1,4 @@
 pub mod Reader
-pub mod Capped
 pub mod Looks
 pub mod Afterwards
 pub mod Few

@@ -29,7 +29,7 @@ use Rattle.ns_types.proofs.Once.{AllApart, key_is, once, once_apart, once_has}
 use Rattle.ns_types.proofs.Tables.{tied}
 use Rattle.ns_types.proofs.Tests.{either_of, same_Some}
 use Rattle.ns_plan.specs.After.{after_stops}
-use Rattle.ns_plan.specs.Amounts.{amount_of}
+use Rattle.ns_types.specs.State.Resources.{amount_of}
 use Rattle.ns_plan.specs.Looks.{IsOnFewNodes, limits_of}
 use Rattle.ns_plan.specs.Reader.{AreElsewhere, IsSoFar, Read, counted_keys, evictions_of, is_on, left_by, left_without, load_left, nothing_read, quota_left}
 use Rattle.ns_plan.specs.Reader.{read_all, read_one, takes, takes_left, use_left, with_victims}

@@ -2,7 +2,7 @@
 use Rattle.std.specs.Prelude.{◌≡◌, ℕ, ◌<◌, ◌≤◌, List, [], drop, length, slice_index_or, take}
 use Rattle.ns_types.specs.declared.plan.Placement.{Placement}
 use Rattle.ns_types.specs.Working.Commit.{part_of, size_of}
-use Rattle.ns_plan.specs.Amounts.{amount_of}
+use Rattle.ns_types.specs.State.Resources.{amount_of}
 use Rattle.ns_plan.specs.Reader.{evictions_of}
 use Rattle.ns_plan.specs.declared.gathering.Part.{Part}
 

@@ -1,5 +1,4 @@
 pub mod After
-pub mod Amounts
 pub mod Looks
 pub mod Reader
 pub mod Gathered

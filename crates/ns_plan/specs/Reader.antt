@@ -19,7 +19,7 @@ use Rattle.ns_types.proofs.Less.{node_parts, quota_parts}
 use Rattle.ns_types.proofs.Once.{once}
 use Rattle.ns_plan.specs.After.{keys_of}
 use Rattle.ns_plan.specs.Looks.{limits_of}
-use Rattle.ns_plan.specs.Amounts.{amount_of}
+use Rattle.ns_types.specs.State.Resources.{amount_of}
 use Rattle.ns_plan.specs.declared.deciding.SoFar.{SoFar}
 use Rattle.ns_plan.specs.declared.leaving.Left.{Left}
 

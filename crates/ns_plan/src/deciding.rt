@@ -9,7 +9,6 @@ ghost use Rattle.ns_plan.specs.Looks.{AreCounted, IsOnFewNodes};
 ghost use Rattle.ns_plan.specs.Reader.{Decides, IsDecided, IsUndecided, read_all};
 
 use crate::after::use_of;
-use crate::amounts::{Amount, add, amount_of};
 use crate::gathering::{Part, evicting, part_at, parts_of};
 use crate::leaving::left_at;
 use crate::taking::{node_name, takes};
@@ -17,7 +16,7 @@ use crate::view::View;
 use arrayvec::ArrayVec;
 use ns_marks::Flags;
 use ns_types::plan::Plan;
-use ns_types::resources::{Resources, none};
+use ns_types::resources::{Amount, Resources, add, amount_of, none};
 use ns_types::snapshot::Snapshot;
 use ns_types::text::Text;
 

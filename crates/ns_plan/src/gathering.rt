@@ -7,9 +7,8 @@ ghost use Rattle.ns_plan.specs.Gathered.{AreParts, IsPart};
 ghost use Rattle.ns_plan.specs.Looks.{IsOnFewNodes};
 ghost use Rattle.ns_plan.specs.Reader.{evictions_of};
 
-use crate::amounts::{Amount, add, amount_of};
 use ns_types::plan::{Placement, Plan};
-use ns_types::resources::none;
+use ns_types::resources::{Amount, add, amount_of, none};
 use ns_types::snapshot::Snapshot;
 
 /// The placements on one node.

@@ -2,7 +2,6 @@
 #![tactic(auto)]
 
 mod after;
-mod amounts;
 mod checking;
 mod deciding;
 mod evicting;

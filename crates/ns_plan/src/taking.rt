@@ -6,17 +6,16 @@ ghost use Rattle.ns_types.specs.declared.resources.Resources.{Resources};
 ghost use Rattle.ns_types.specs.Placing.Plan.{constraints_of};
 ghost use Rattle.ns_types.specs.State.Resources.{is_within, limits_allow, plus};
 ghost use Rattle.ns_types.specs.Working.Commit.{node_name};
-ghost use Rattle.ns_plan.specs.Amounts.{amount_of};
+ghost use Rattle.ns_types.specs.State.Resources.{amount_of};
 ghost use Rattle.ns_plan.specs.Looks.{limits_of};
 ghost use Rattle.ns_plan.specs.Reader.{accepts_left, takes_left};
 
-use crate::amounts::{Amount, add, amount_of, is_below, limits_allow};
 use crate::leaving::Left;
 use crate::view::View;
 use ns_place::feasible;
 use ns_types::job::{Constraint, Job};
 use ns_types::node::Node;
-use ns_types::resources::Resources;
+use ns_types::resources::{Amount, Resources, add, amount_of, is_below, limits_allow_sum};
 use ns_types::snapshot::Snapshot;
 use ns_types::text::Text;
 
@@ -51,7 +50,7 @@ fn allows<V: View>(view: &V, quota: Option<&Text>, used: Resources, more: Amount
         (option_copied quota.entry) true }
 {
     match quota {
-        Some(quota) => limits_allow(view.limits(quota), add(amount_of(used), more)),
+        Some(quota) => limits_allow_sum(view.limits(quota), add(amount_of(used), more)),
         None => true,
     }
 }

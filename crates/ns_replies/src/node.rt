@@ -56,6 +56,8 @@ impl Shown for NodeShown {
             &[
                 Part::Key("CPU"),
                 Part::Number(self.row.offer.capacity.cpu),
+                Part::Key("DiskMB"),
+                Part::Number(self.row.offer.capacity.disk),
                 Part::Key("Eligibility"),
                 Part::Text(eligibility_text(self.row.eligible)),
                 Part::Key("MemoryMB"),

@@ -13,7 +13,7 @@ use std::sync::ledger::{Blank, Ledger};
 
 /// The job as the first write of its namespace leaves it.
 const JOB: &str =
-    "{\"Constraints\":[],\"CreateIndex\":1,\"ID\":\"a\",\"JobModifyIndex\":1,\"Namespace\":\"tb\",\"NodePool\":\"west\",\"Priority\":50,\"Status\":\"pending\",\"Stop\":false,\"TaskGroups\":[{\"Count\":1,\"Name\":\"g\",\"Tasks\":[{\"Name\":\"t\",\"Resources\":{\"CPU\":100,\"MemoryMB\":100}}]}],\"Type\":\"service\",\"Version\":0}";
+    "{\"Constraints\":[],\"CreateIndex\":1,\"ID\":\"a\",\"JobModifyIndex\":1,\"Namespace\":\"tb\",\"NodePool\":\"west\",\"Priority\":50,\"Status\":\"pending\",\"Stop\":false,\"TaskGroups\":[{\"Count\":1,\"EphemeralDisk\":{\"SizeMB\":300},\"Name\":\"g\",\"Tasks\":[{\"Name\":\"t\",\"Resources\":{\"CPU\":100,\"MemoryMB\":100}}]}],\"Type\":\"service\",\"Version\":0}";
 
 /// Whether the last receipt is of a later step than the one before, and showed the job.
 fn is_in_order(receipts: &[Receipt]) -> bool {

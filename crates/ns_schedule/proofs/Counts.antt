@@ -13,24 +13,9 @@ use Rattle.ns_types.specs.declared.resources.Resources.{Resources}
 use Rattle.ns_types.specs.declared.snapshot.OwnAllocation.{OwnAllocation}
 use Rattle.ns_types.specs.Placing.Wanted.{demands_from, group_size, missing}
 use Rattle.ns_types.specs.State.Resources.{IsCounted, plus, quantity, total}
-use Rattle.ns_schedule.specs.Fits.{is_counted, times}
+use Rattle.ns_types.specs.State.Resources.{is_counted, times}
 use Rattle.ns_schedule.proofs.Wants.{first_of_rest}
 use Rattle.ns_types.proofs.Amounts.{at, counted_at, every, every_true, same_of_each}
-
-pub counted_true : (a : Resources) → IsCounted a → is_counted a ≡ true
-counted_true a h = every_true (λ r. nat_lt (quantity r a) (2 ^ 64)) (λ r. lt-ltb (quantity r a) (2 ^ 64) (counted_at a h r))
-
--- one of several is within all of them
-one_within : (n x : ℕ) → (n ≡ 0 → ⊥) → x ≤ n * x
-one_within zero x some = absurd (some refl)
-one_within (suc n) x some = let more = suc-mul n x in omega (arith, more)
-
-pub one_counted : (sum size : Resources) (n : ℕ) → (n ≡ 0 → ⊥) → IsCounted (plus sum (times n size)) → IsCounted size
-one_counted sum size n some h =
-    every (λ r. quantity r size < 2 ^ 64) (λ r.
-    let one = one_within n (quantity r size) some in
-    let all = at (λ r. quantity r sum + n * quantity r size < 2 ^ 64) h r in
-    omega (arith, one, all))
 
 -- what the missing ones of a group take, and of those after it
 pub demanded : (f : Resources → ℕ) (i : ℕ) (j : Job) (own : List OwnAllocation) (g : Group) (gs : List Group)

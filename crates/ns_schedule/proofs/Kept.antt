@@ -20,16 +20,17 @@ use Rattle.ns_types.specs.Placing.Plan.{no_quota, quota_of}
 use Rattle.ns_types.specs.Placing.Wanted.{demands, demands_from, group_size, missing}
 use Rattle.ns_types.specs.State.Limits.{is_amount, is_between, is_good_document, is_good_group, is_good_offer, is_good_task}
 use Rattle.ns_types.specs.State.Name.{is_name}
-use Rattle.ns_types.specs.State.Resources.{Resource, is_within, plus, quantity, total}
+use Rattle.ns_types.specs.State.Resources.{Resource, Cpu, Memory, Disk, is_within, plus, quantity, total}
 use Rattle.ns_types.specs.Validity.{IsCountable, IsSmall, seen_load}
-use Rattle.ns_types.proofs.Documents.{few_groups, few_missing, few_tasks, good_groups, good_tasks}
+use Rattle.ns_types.proofs.Documents.{few_groups, few_missing, few_tasks, good_cpu, good_disk, good_groups, good_memory, good_tasks}
 use Rattle.ns_types.proofs.Elements.{all_from, each_from_all, each_of}
 use Rattle.ns_types.proofs.Amounts.{at, every, quantity_of, within_at}
-use Rattle.ns_types.proofs.LiveSums.{most_at}
+use Rattle.ns_types.proofs.LiveSums.{most_at, most_of}
 use Rattle.ns_types.proofs.Named.{first_of_both, second_of_both}
 use Rattle.ns_schedule.specs.Fits.{fits, node_fits}
 use Rattle.ns_schedule.specs.Laws.{KeptFits}
-use Rattle.ns_schedule.proofs.Counts.{counted_true, demanded}
+use Rattle.ns_schedule.proofs.Counts.{demanded}
+use Rattle.ns_types.proofs.Amounts.{counted_true}
 
 -- ---- nodes
 
@@ -53,16 +54,21 @@ nodes_small (n ∷ ns) good within =
 
 -- ---- groups
 
-size_small : (g : Group) → is_good_group g ≡ true → (r : Resource) → quantity r (group_size g) ≤ 34359738352
-size_small g good r =
+-- what all tasks of a group take of one resource
+tasks_small : (g : Group) → is_good_group g ≡ true → (f : Task → ℕ) → ((t : Task) → is_good_task t ≡ true → f t ≤ 2147483647)
+    → sum_by f g.tasks ≤ 34359738352
+tasks_small g good f small =
     let few = few_tasks g good in
-    let is = quantity_of (λ r. sum_by (λ t. quantity r t.resources) g.tasks) r in
-    let each_small = sum_by-le (λ (t : Task). quantity r t.resources) 2147483647 g.tasks
-    (all_from (λ (t : Task). quantity r t.resources ≤ 2147483647) g.tasks
-    (each_of (λ (t : Task). is_good_task t ≡ true) (λ (t : Task). quantity r t.resources ≤ 2147483647)
-    (λ t e. most_at t.resources (second_of_both (is_name NameKind.Task t.name) (is_amount t.resources) e) r) g.tasks
+    let each_small = sum_by-le f 2147483647 g.tasks
+    (all_from (λ (t : Task). f t ≤ 2147483647) g.tasks
+    (each_of (λ (t : Task). is_good_task t ≡ true) (λ (t : Task). f t ≤ 2147483647) small g.tasks
     (each_from_all is_good_task g.tasks (good_tasks g good)))) in
-    omega (arith, few, is, each_small)
+    omega (arith, few, each_small)
+
+size_small : (g : Group) → is_good_group g ≡ true → (r : Resource) → quantity r (group_size g) ≤ 34359738352
+size_small g good Cpu = tasks_small g good (λ t. t.resources.cpu) (λ t e. most_of t.resources.cpu (good_cpu t e))
+size_small g good Memory = tasks_small g good (λ t. t.resources.memory) (λ t e. most_of t.resources.memory (good_memory t e))
+size_small g good Disk = let most = most_of g.disk (good_disk g good) in omega (arith, most)
 
 -- ---- all that is missing
 

@@ -1,20 +1,22 @@
 -- When the sums that a plan is computed with are below 2 ^ 64.
-use Rattle.std.specs.Prelude.{ℕ, ◌*◌, ◌^◌, Bool, ◌&&◌, nat_lt}
+use Rattle.std.specs.Prelude.{ℕ, Bool, ◌&&◌, List, sum_by}
 use Rattle.std.specs.List.{list_all}
+use Rattle.ns_types.specs.declared.job.Task.{Task}
 use Rattle.ns_types.specs.declared.resources.Resources.{Resources}
 use Rattle.ns_types.specs.declared.snapshot.PoolNode.{PoolNode}
 use Rattle.ns_types.specs.declared.snapshot.Snapshot.{Snapshot}
 use Rattle.ns_types.specs.Placing.Plan.{quota_of}
 use Rattle.ns_types.specs.Placing.Wanted.{demands}
-use Rattle.ns_types.specs.State.Resources.{each_resource, in_each, plus, quantity, total}
+use Rattle.ns_types.specs.State.Resources.{is_counted, plus, total}
 use Rattle.ns_types.specs.Validity.{seen_load}
 
--- so many of a size
-abbrev pub times : ℕ → Resources → Resources
-times n size = each_resource (λ r. n * quantity r size)
-
-abbrev pub is_counted : Resources → Bool
-is_counted a = in_each (λ r. nat_lt (quantity r a) (2 ^ 64))
+-- what tasks take together, beside that much disk
+abbrev pub tasks_size : List Task → ℕ → Resources
+tasks_size tasks disk = record {
+  cpu = sum_by (λ t. t.resources.cpu) tasks;
+  memory = sum_by (λ t. t.resources.memory) tasks;
+  disk = disk;
+}
 
 -- what the node offers, with all that was live on it
 abbrev pub node_fits : PoolNode → Bool

@@ -1,7 +1,6 @@
 //! The plan of a snapshot: what stops, and where the missing allocations go.
 #![tactic(auto)]
 
-mod amounts;
 mod choice;
 pub mod laws;
 mod opening;

@@ -4,13 +4,12 @@ ghost use Rattle.std.specs.Prelude.{◌≡◌, SomeIff, unwrap_or};
 ghost use Rattle.std.specs.List.{list_all};
 ghost use Rattle.ns_types.specs.Placing.Plan.{no_quota};
 ghost use Rattle.ns_types.specs.Placing.Wanted.{demands, demands_from, group_size, missing};
-ghost use Rattle.ns_types.specs.State.Resources.{IsCounted, plus, total};
-ghost use Rattle.ns_schedule.specs.Fits.{fits, node_fits, quota_fits, times};
+ghost use Rattle.ns_types.specs.State.Resources.{IsCounted, plus, times, total};
+ghost use Rattle.ns_schedule.specs.Fits.{fits, node_fits, quota_fits, tasks_size};
 
-use crate::amounts::{checked_more, checked_plus};
 use crate::wanted::missing;
 use ns_types::job::{Group, Job, Task};
-use ns_types::resources::{Resources, none};
+use ns_types::resources::{Resources, checked_more, checked_plus, none};
 use ns_types::shared::Shared;
 use ns_types::snapshot::{LiveAllocation, OwnAllocation, PoolNode, QuotaSeen, Snapshot};
 
@@ -37,16 +36,30 @@ fn nodes_fit(nodes: &[Shared<PoolNode>]) -> bool
     nodes.iter().all(|n| node_fits(n.get()))
 }
 
-/// What one allocation of a group of these tasks takes. None: it is past 64 bits.
-fn checked_size(tasks: &[Task]) -> Option<Resources>
-    ensures { let size = total (λ t. t.resources) tasks.now in
+/// What tasks take together, beside that much disk. None: it is past 64 bits.
+fn checked_tasks(tasks: &[Task], disk: u64) -> Option<Resources>
+    ensures { let size = tasks_size tasks.now disk in
         SomeIff result (IsCounted size) size }
 {
-    let mut sum = none();
+    let mut sum = Resources {
+        cpu: 0,
+        memory: 0,
+        disk,
+    };
     for t in tasks {
-        sum = checked_plus(sum, t.resources)?;
+        let cpu = sum.cpu.checked_add(t.resources.cpu)?;
+        let memory = sum.memory.checked_add(t.resources.memory)?;
+        sum = Resources { cpu, memory, disk };
     }
     Some(sum)
+}
+
+/// What one allocation of the group takes. None: it is past 64 bits.
+fn checked_size(group: &Group) -> Option<Resources>
+    ensures { let size = group_size group.now in
+        SomeIff result (IsCounted size) size }
+{
+    checked_tasks(group.tasks.as_slice(), group.disk)
 }
 
 /// With what the missing ones of a group take. None: it is past 64 bits.
@@ -63,7 +76,7 @@ fn checked_missing(
     if count == 0 {
         return Some(sum);
     }
-    let size = checked_size(group.tasks.as_slice())?;
+    let size = checked_size(group)?;
     checked_more(sum, count, size)
 }
 

@@ -175,7 +175,8 @@ fn group_size(group: &Group) -> Resources
         cpu = cpu.saturating_add(t.resources.cpu);
         memory = memory.saturating_add(t.resources.memory);
     }
-    Resources { cpu, memory }
+    let disk = group.disk;
+    Resources { cpu, memory, disk }
 }
 
 fn push_missing(demands: &mut Vec<Demand>, demand: Demand, count: u64) -> Result<(), AllocError>

@@ -23,11 +23,13 @@ const END: u64 = 1001;
 const SMALL: Resources = Resources {
     cpu: 100,
     memory: 200,
+    disk: 250,
 };
 
 const LARGE: Resources = Resources {
     cpu: 300,
     memory: 400,
+    disk: 450,
 };
 
 /// What refuses the node whose name is the number; nothing, where it is registered.

@@ -61,7 +61,11 @@ fn allocation(rt: &impl Abort, alloc: Global) -> Allocation {
         pool: text(rt, alloc, "p"),
         node: text(rt, alloc, "n"),
         place: 1,
-        size: Resources { cpu: 1, memory: 1 },
+        size: Resources {
+            cpu: 100,
+            memory: 300,
+            disk: 300,
+        },
         priority: 50,
         job_modify_index: 1,
         desired: DesiredStatus::Run,

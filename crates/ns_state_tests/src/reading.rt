@@ -53,7 +53,7 @@ fn a_line_that_is_cut_is_bad(rt: HostRuntime) {
 }
 
 /// A line that says the same in other bytes, or that no step within the limits has, and which one it is.
-const BAD: [(&str, &str, u64); 8] = [
+const BAD: [(&str, &str, u64); 10] = [
     ("nsd-log 3 0 root", "nsd-log 9 0 root", 1),
     ("nsd-log 3 0 root", "nsd-log 3 0 r t", 1),
     (
@@ -64,6 +64,8 @@ const BAD: [(&str, &str, u64); 8] = [
     ("\"Name\":\"east\"", "\"Name\":\"all\"", 2),
     ("\"Priority\":50", "\"Priority\":0", 3),
     ("\"Priority\":50", "\"Priority\":050", 3),
+    ("\"SizeMB\":300", "\"SizeMB\":0", 3),
+    ("\"EphemeralDisk\":{\"SizeMB\":300},", "", 3),
     ("\"Eval\":1,", "\"Eval\": 1,", 4),
     ("\"Worker\":0", "\"Worker\":0,\"Zone\":0", 4),
 ];

@@ -72,6 +72,7 @@ pub(crate) fn node_command(rt: &impl Abort, alloc: Global, round: u64) -> GoodNo
     let capacity = Resources {
         cpu: 20_000,
         memory: 60_000,
+        disk: 60_000,
     };
     nodes::registration(rt, alloc, &name, capacity)
 }

@@ -5,11 +5,10 @@ use crate::made::{only, text};
 use crate::owned::seen;
 use ns_core::Core;
 use ns_types::good::GoodAsk;
-use ns_types::job::{Group, Task};
+use ns_types::job::{Group, Task, TaskResources};
 use ns_types::name::Secret;
 use ns_types::refusal::Refusal;
 use ns_types::reply::{Content, Reply};
-use ns_types::resources::Resources;
 use ns_types::rows::Rows;
 use ns_types::text::Text;
 use std::alloc::Global;
@@ -23,12 +22,12 @@ pub(crate) fn root(rt: &impl Abort, alloc: Global) -> Secret {
 
 /// One group of one task.
 pub(crate) fn groups(rt: &impl Abort, alloc: Global) -> Rows<Group>
-    ensures { let size : Resources = record { cpu = 100; memory = 300 } in
+    ensures { let size : TaskResources = record { cpu = 100; memory = 300 } in
         let task : Task = record { name = codes "t"; resources = size } in
-        let group : Group = record { name = codes "g"; count = 1; tasks = task ∷ [] } in
+        let group : Group = record { name = codes "g"; count = 1; disk = 300; tasks = task ∷ [] } in
         result ≡ group ∷ [] }
 {
-    let resources = Resources {
+    let resources = TaskResources {
         cpu: 100,
         memory: 300,
     };
@@ -37,6 +36,7 @@ pub(crate) fn groups(rt: &impl Abort, alloc: Global) -> Rows<Group>
     let group = Group {
         name: text(rt, alloc, "g"),
         count: 1,
+        disk: 300,
         tasks,
     };
     only(rt, alloc, group)

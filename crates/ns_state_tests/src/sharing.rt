@@ -76,6 +76,7 @@ fn registers(
     let capacity = Resources {
         cpu: 400,
         memory: 500,
+        disk: 600,
     };
     let offer = registration(rt, alloc, node, capacity);
     let refusal = refusal(core, root, default, &offer);

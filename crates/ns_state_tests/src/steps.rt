@@ -14,7 +14,7 @@ use std::process::Abort;
 /// A pool is put, a job is registered, and a worker takes its evaluation.
 pub(crate) const TEXT: &str = "nsd-log 3 0 root
 {\"Body\":\"{}\",\"Index\":null,\"Status\":200,\"Step\":{\"Args\":{\"Doc\":{\"Description\":\"\",\"Name\":\"east\"}},\"Do\":\"PutPool\",\"Kind\":\"Admin\",\"Secret\":\"root\"}}
-{\"Body\":\"{\\\"EvalCreateIndex\\\":1,\\\"EvalID\\\":\\\"00000000-0000-0001-0000-000000000001\\\",\\\"JobModifyIndex\\\":1}\",\"Index\":1,\"Status\":200,\"Step\":{\"Args\":{\"Doc\":{\"Constraints\":[],\"ID\":\"web\",\"NodePool\":\"\",\"Priority\":50,\"TaskGroups\":[{\"Count\":1,\"Name\":\"g\",\"Tasks\":[{\"Name\":\"t\",\"Resources\":{\"CPU\":100,\"MemoryMB\":300}}]}],\"Type\":\"service\"},\"Enforce\":null},\"Do\":\"Register\",\"Kind\":\"Ask\",\"Ns\":\"default\",\"Secret\":\"root\"}}
+{\"Body\":\"{\\\"EvalCreateIndex\\\":1,\\\"EvalID\\\":\\\"00000000-0000-0001-0000-000000000001\\\",\\\"JobModifyIndex\\\":1}\",\"Index\":1,\"Status\":200,\"Step\":{\"Args\":{\"Doc\":{\"Constraints\":[],\"ID\":\"web\",\"NodePool\":\"\",\"Priority\":50,\"TaskGroups\":[{\"Count\":1,\"EphemeralDisk\":{\"SizeMB\":300},\"Name\":\"g\",\"Tasks\":[{\"Name\":\"t\",\"Resources\":{\"CPU\":100,\"MemoryMB\":300}}]}],\"Type\":\"service\"},\"Enforce\":null},\"Do\":\"Register\",\"Kind\":\"Ask\",\"Ns\":\"default\",\"Secret\":\"root\"}}
 {\"Body\":\"{\\\"Took\\\":\\\"00000000-0000-0001-0000-000000000001\\\"}\",\"Index\":null,\"Status\":200,\"Step\":{\"Eval\":1,\"Kind\":\"Dequeue\",\"Ns\":\"default\",\"Worker\":0}}
 ";
 

@@ -50,10 +50,11 @@ pub same_constraint_refl : (c : Constraint) → same_constraint c c ≡ true
 same_constraint_refl c = both_true (both_true (same_name_refl (target_text c.target)) (same_name_refl (operand_text c.operand))) (same_name_refl c.value)
 
 pub same_task_refl : (t : Task) → same_task t t ≡ true
-same_task_refl t = both_true (same_name_refl t.name) (same_resources_refl t.resources)
+same_task_refl t = both_true (both_true (same_name_refl t.name) (same_number_refl t.resources.cpu)) (same_number_refl t.resources.memory)
 
 pub same_group_refl : (g : Group) → same_group g g ≡ true
-same_group_refl g = both_true (both_true (same_name_refl g.name) (same_number_refl g.count)) (pointwise_refl same_task same_task_refl g.tasks)
+same_group_refl g = both_true (both_true (both_true (same_name_refl g.name) (same_number_refl g.count)) (same_number_refl g.disk))
+    (pointwise_refl same_task same_task_refl g.tasks)
 
 pub same_document_refl : (d : Document) → same_document d d ≡ true
 same_document_refl d = both_true (both_true (both_true (both_true (same_name_refl (kind_text d.kind)) (same_number_refl d.priority)) (same_name_refl d.pool))

@@ -2,7 +2,6 @@
 
 ghost use Rattle.std.specs.Prelude.{◌≡◌};
 
-use crate::resources::Resources;
 use crate::rows::Rows;
 use crate::text::Text;
 use std::alloc::AllocError;
@@ -13,10 +12,19 @@ pub enum JobKind {
     Batch,
 }
 
+/// What a task asks for. The disk is its group's.
+#[derive(Clone, Copy, PartialEq, Eq)]
+pub struct TaskResources {
+    /// MHz.
+    pub cpu: u64,
+    /// MB.
+    pub memory: u64,
+}
+
 #[derive(Drop)]
 pub struct Task {
     pub name: Text,
-    pub resources: Resources,
+    pub resources: TaskResources,
 }
 
 impl Clone for Task {
@@ -33,6 +41,8 @@ impl Clone for Task {
 pub struct Group {
     pub name: Text,
     pub count: u64,
+    /// MB, which an allocation takes once, however many tasks it has.
+    pub disk: u64,
     pub tasks: Rows<Task>,
 }
 
@@ -41,6 +51,7 @@ impl Drop for Group {
         let Group {
             name: _name,
             count: _,
+            disk: _,
             tasks: _tasks,
         } = self;
     }
@@ -53,6 +64,7 @@ impl Clone for Group {
         Ok(Group {
             name: self.name.clone()?,
             count: self.count,
+            disk: self.disk,
             tasks: self.tasks.clone()?,
         })
     }

@@ -14,6 +14,7 @@ use ns_world::Tables;
 const ALL: Limits = Limits {
     cpu: Limit::Unlimited,
     memory: Limit::Unlimited,
+    disk: Limit::Unlimited,
 };
 
 pub(crate) fn job<'a>(tables: &'a Tables, namespace: &Text, id: &Text) -> Option<&'a Job>

@@ -21,27 +21,7 @@ use Rattle.ns_types.specs.declared.allocation.Allocation.{Allocation}
 use Rattle.ns_types.specs.declared.resources.Resources.{Resources}
 use Rattle.ns_world.specs.Allocations.{IsKept, IsMoved, IsTotalOf, live_sum, row_amount, row_use, rows_use, use_after, use_before}
 use Rattle.ns_world.specs.Filing.{IsIndexOf, allocation_job}
-use Rattle.ns_world.specs.Total.{IsAlike, IsTotal, Moves}
-
-pub total_in_each : (total sums : Resources) → IsTotal total sums → (r : Resource) → quantity r total ≡ quantity r sums % 2 ^ 64
-total_in_each total sums = at (λ r. quantity r total ≡ quantity r sums % 2 ^ 64)
-
--- where the sums fit, nothing was past 64 bits
-pub total_exact : (total sums : Resources) → IsTotal total sums → IsCounted sums → total ≡ sums
-total_exact total sums h counted = same_amounts total sums (λ r.
-    total_in_each total sums h r ∙ mod-eq_of_lt (counted_at sums counted r))
-
-pub total_counted : (total sums : Resources) → IsTotal total sums → IsCounted total
-total_counted total sums h = every (λ r. quantity r total < 2 ^ 64) (λ r.
-    let is = total_in_each total sums h r in
-    omega (arith, is))
-
-pub moves_at : (before after old new : Resources) → Moves before after old new → (r : Resource) →
-    IsAlike (quantity r new + quantity r before) (quantity r old + quantity r after)
-moves_at before after old new = at (λ r. IsAlike (quantity r new + quantity r before) (quantity r old + quantity r after))
-
-pub none_total : IsTotal none none
-none_total = every (λ r. 0 ≡ 0 % 2 ^ 64) (λ r. refl)
+use Rattle.ns_types.specs.State.Resources.{IsAlike, IsTotal, Moves}
 
 pub total_none : (total : Resources) (slots : ByNumber (Option Allocation)) → total ≡ none → slots ≡ empty → IsTotalOf total slots
 total_none total slots none_yet is = every (λ r. quantity r total ≡ live_sum (quantity r) (rows slots) % 2 ^ 64) (λ r.

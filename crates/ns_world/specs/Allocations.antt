@@ -13,7 +13,7 @@ use Rattle.ns_types.specs.State.Rows.{is_live}
 use Rattle.ns_types.specs.declared.allocation.Allocation.{Allocation}
 use Rattle.ns_types.specs.declared.resources.Resources.{Resources}
 use Rattle.ns_world.specs.Filing.{HasRoomAt, IsIndexOf, allocation_job}
-use Rattle.ns_world.specs.Total.{IsAlike, IsTotal}
+use Rattle.ns_types.specs.State.Resources.{IsAlike, IsTotal}
 
 pub record AllocationTable : Type 0 where
   pub slots : ByNumber (Option Allocation)

@@ -8,10 +8,8 @@ mod bounded;
 mod evaluations;
 mod filing;
 mod tables;
-mod total;
 
 pub use allocations::AllocationTable;
 pub use bounded::is_at_bound;
 pub use evaluations::EvaluationTable;
 pub use tables::{PoolRows, QuotaRows, Tables, TenantRows};
-pub use total::moved;

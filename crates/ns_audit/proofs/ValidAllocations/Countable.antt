@@ -1,5 +1,5 @@
 -- What a snapshot holds when it is taken is within the bounds of what plans compute with.
-use Rattle.std.specs.Prelude.{◌≡◌, ℕ, ◌≤◌, Bool, true, cond, List, [], Option, Some, None, ◌&&◌, ◌||◌, filter, length, map, sum_by}
+use Rattle.std.specs.Prelude.{◌≡◌, ℕ, ◌≤◌, ◌<◌, ◌^◌, Bool, true, cond, List, [], Option, Some, None, ◌&&◌, ◌||◌, filter, length, map, sum_by}
 use Rattle.std.proofs.Common.{refl, subst, ◌∙◌, arith}
 use Rattle.std.proofs.lemmas.List.{length-map}
 use Rattle.std.specs.FinMap.{entries, from_entries, get, len-entries}

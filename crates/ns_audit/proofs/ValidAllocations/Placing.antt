@@ -1,5 +1,5 @@
 -- Placements put sound allocations, each in a place of its own, on nodes with room for them.
-use Rattle.std.specs.Prelude.{◌≡◌, ℕ, ◌+◌, ◌≤◌, Bool, true, false, cond, List, [], ◌∷◌, Option, Some, None, ◌&&◌, IsTrue, filter, sum_by}
+use Rattle.std.specs.Prelude.{◌≡◌, ℕ, ◌+◌, ◌≤◌, Bool, true, false, cond, List, [], ◌∷◌, Option, Some, None, ◌&&◌, IsTrue, filter, nat_le, sum_by}
 use Rattle.std.proofs.Common.{◌⊎◌, inl, inr, refl, sym, ap, subst, ◌∙◌, arith}
 use Rattle.std.specs.FinMap.{entries, get, insert}
 use Rattle.std.specs.Option.{option_map_or}
@@ -18,7 +18,7 @@ use Rattle.ns_types.specs.State.Lists.{Each}
 use Rattle.ns_types.specs.Settling.Making.{put_tenant, put_pool, with_node, change_tenant}
 use Rattle.ns_types.specs.State.Name.{is_name}
 use Rattle.ns_types.specs.State.Names.{Name, Key, same_name}
-use Rattle.ns_types.specs.State.Resources.{is_within, plus, quantity}
+use Rattle.ns_types.specs.State.Resources.{InEach, in_each, is_within, plus, quantity}
 use Rattle.ns_types.specs.State.Rows.{World, Tenant, PoolRows, is_live_on, is_ready, node_at}
 use Rattle.ns_types.specs.Access.Sharing.{permits}
 use Rattle.ns_types.specs.State.Sums.{tenant_sum, node_sum, node_load}
@@ -29,8 +29,8 @@ use Rattle.ns_types.proofs.Tests.{not_Some, same_Some}
 use Rattle.ns_types.proofs.TableRows.{row_of_insert}
 use Rattle.ns_audit.proofs.ValidAllocations.Statement.{IsAllocated}
 use Rattle.ns_audit.proofs.Steady.Keeping.{above, at_inserted}
-use Rattle.ns_audit.proofs.ValidAllocations.Sound.{itself, by_le, le_same, le_then, within_less, allocation_row, row_allocation, node_row, node_pool, ComesFrom}
-use Rattle.ns_audit.proofs.ValidAllocations.Sound.{NodesStay, sound_from}
+use Rattle.ns_audit.proofs.ValidAllocations.Sound.{IsBelow, itself, by_le, le_same, le_then, within_less, allocation_row, row_allocation, node_row, node_pool, ComesFrom}
+use Rattle.ns_audit.proofs.ValidAllocations.Sound.{IsBelow, NodesStay, sound_from}
 use Rattle.ns_audit.proofs.ValidAllocations.Going.{comes_same, Onward, onward_same, onward_change, onward_each, Lasts, lasts_still, lasts_then}
 use Rattle.ns_audit.proofs.ValidAllocations.Nodes.{still_at, put_here}
 use Rattle.ns_audit.proofs.ValidAllocations.Plan.{IsPartOf}
@@ -66,6 +66,10 @@ pub record IsPlaceable (kept : Snapshot) (j : Job) (w : World) (p : Placement) :
   pub is_row : node_at w kept.pool (node_name kept p.node) ≡ Some row
   pub ready : is_ready row.status ≡ true
 
+-- a size that has at least one of each
+sized_of : (size : Resources) → InEach (λ r. 1 ≤ quantity r size) → IsTrue (in_each (λ r. nat_le 1 (quantity r size)))
+sized_of size least = every_true (λ r. nat_le 1 (quantity r size)) (λ r. by_le 1 (quantity r size) (at (λ r. 1 ≤ quantity r size) least r))
+
 -- nodes were there, with the same offer and status
 abbrev pub NodesWere : World → World → Type 0
 NodesWere w x = (pool name : Name) (node : Node) → node_at x pool name ≡ Some node → (old : Node) × (node_at w pool name ≡ Some old) × (node.offer ≡ old.offer)
@@ -92,8 +96,8 @@ added x u w v c o h k = omega arith
 moved : (x w c r : ℕ) → x ≤ w + c → x + r ≤ w + (c + r)
 moved x w c r h = omega arith
 
-with_more : (x r : ℕ) → x ≤ x + r
-with_more x r = omega arith
+with_more : (a b : Resources) → IsBelow a (plus a b)
+with_more a b = every (λ r. quantity r a ≤ quantity r a + quantity r b) (λ r. omega arith)
 
 without : (w c r : ℕ) → w + r ≤ w + (c + r)
 without w c r = omega arith
@@ -201,7 +205,7 @@ module _ (kept : Snapshot) (j : Job) (p : Placement) (w : World) (s : IsAllocate
     new_sound = record {
       below = itself number;
       named = λ i. suits.job_named i && part.named i && suits.pool_named i && named i;
-      sized = every_true (λ r. nat_le 1 (quantity r p.size)) (λ r. by_le 1 (quantity r p.size) (at (λ r. 1 ≤ quantity r p.size) part.least r));
+      sized = sized_of p.size part.least;
       priority = suits.priority;
       placed = λ _. record {
         allowed = record { exists = node_pool x kept.pool name bumped there_now; permitted = suits.permitted; its_quota = λ q e. absurd (not_Some _ e) };
@@ -294,7 +298,7 @@ module _ (kept : Snapshot) (j : Job) (p : Placement) (w : World) (s : IsAllocate
         allocation = all_sound;
         one_place = one_place_now;
         within = λ pool n row now. within_less (node_load x pool n) (plus (node_load x pool n) (size_of (filter (goes_to kept pool n) rest))) row.offer.capacity
-            (with_more _ _) (with_more _ _) (room_now pool n row now);
+            (with_more (node_load x pool n) (size_of (filter (goes_to kept pool n) rest))) (room_now pool n row now);
       };
       tenant = after;
       is_tenant = at_inserted names w.tenants kept.namespace after (same_name_refl kept.namespace);

@@ -4,7 +4,7 @@ use Rattle.std.specs.Prelude.{slice_get, sum_by}
 use Rattle.std.proofs.Common.{refl, sym, ap, subst, arith}
 use Rattle.std.specs.List.{list_all}
 use Rattle.std.specs.Option.{option_map, option_map_or}
-use Rattle.ns_types.proofs.LiveSums.{least_at}
+use Rattle.ns_types.proofs.LiveSums.{least_of}
 use Rattle.ns_types.proofs.Amounts.{every}
 use Rattle.ns_types.specs.declared.job.Group.{Group}
 use Rattle.ns_types.specs.declared.job.Job.{Job}
@@ -17,13 +17,14 @@ use Rattle.ns_types.specs.declared.snapshot.OwnAllocation.{OwnAllocation}
 use Rattle.ns_types.specs.declared.snapshot.QuotaSeen.{QuotaSeen}
 use Rattle.ns_types.specs.declared.snapshot.Snapshot.{Snapshot}
 use Rattle.ns_types.specs.Working.Commit.{group_name}
-use Rattle.ns_types.specs.State.Limits.{is_between, is_good_task, is_good_group, is_good_document, is_good_constraint, is_pool_name}
+use Rattle.ns_types.specs.State.Limits.{is_between, is_good_task, is_good_group, is_quantity, is_good_document, is_good_constraint, is_pool_name}
 use Rattle.ns_types.specs.State.Lists.{Each}
 use Rattle.ns_types.specs.State.Name.{is_name}
 use Rattle.ns_types.specs.Placing.Plan.{plan, placing_of, quota_of, opening}
 use Rattle.ns_types.specs.Placing.Planning.{Site, Choice, place, placement_of, then_rest, without_one, ended_by_quota, choice, after}
-use Rattle.ns_types.specs.State.Resources.{InEach, limits_allow, plus, quantity}
-use Rattle.ns_types.specs.Placing.Wanted.{missing, group_size, demands_from, demands, stopping}
+use Rattle.ns_types.specs.State.Resources.{InEach, Resource, Cpu, Memory, Disk, limits_allow, plus, quantity}
+use Rattle.ns_types.specs.Placing.Wanted.{asked, missing, group_size, demands_from, demands, stopping}
+use Rattle.ns_types.proofs.Documents.{good_cpu, good_disk, good_memory}
 use Rattle.ns_types.proofs.Named.{first_of_both, second_of_both}
 use Rattle.ns_types.proofs.Elements.{each_append}
 use Rattle.ns_audit.proofs.ValidAllocations.Sound.{le_by}
@@ -73,28 +74,32 @@ module _ (j : Job) (own : List OwnAllocation) (running : j.stop ≡ false) where
   group_part i g at good = record {
     running = running;
     named = subst (λ o. IsTrue (is_name NameKind.Group (option_map_or (λ (g : Group). g.name) o []))) (sym at)
-        (first_of_both (is_name NameKind.Group g.name) _ counted);
-    least = every (λ r. 1 ≤ sum_by (λ t. quantity r t.resources) g.tasks) (λ r.
-        summed (λ t. quantity r t.resources) g.tasks some
-        (λ t h. least_at t.resources (second_of_both (is_name NameKind.Task t.name) _ h) r) all_good);
+        (first_of_both (is_name NameKind.Group g.name) _ numbered);
+    least = every (λ r. 1 ≤ asked r g) least;
   }
     where
-      with_tasks : (is_name NameKind.Group g.name && nat_le g.count 1000 && is_between 1 16 (length g.tasks) && list_all is_good_task g.tasks) ≡ true
-      with_tasks = first_of_both (is_name NameKind.Group g.name && nat_le g.count 1000 && is_between 1 16 (length g.tasks) && list_all is_good_task g.tasks)
+      with_tasks : (is_name NameKind.Group g.name && nat_le g.count 1000 && is_quantity g.disk && is_between 1 16 (length g.tasks) && list_all is_good_task g.tasks) ≡ true
+      with_tasks = first_of_both (is_name NameKind.Group g.name && nat_le g.count 1000 && is_quantity g.disk && is_between 1 16 (length g.tasks) && list_all is_good_task g.tasks)
           _ good
 
-      bounded : (is_name NameKind.Group g.name && nat_le g.count 1000 && is_between 1 16 (length g.tasks)) ≡ true
-      bounded = first_of_both (is_name NameKind.Group g.name && nat_le g.count 1000 && is_between 1 16 (length g.tasks)) _ with_tasks
+      bounded : (is_name NameKind.Group g.name && nat_le g.count 1000 && is_quantity g.disk && is_between 1 16 (length g.tasks)) ≡ true
+      bounded = first_of_both (is_name NameKind.Group g.name && nat_le g.count 1000 && is_quantity g.disk && is_between 1 16 (length g.tasks)) _ with_tasks
 
-      counted : (is_name NameKind.Group g.name && nat_le g.count 1000) ≡ true
-      counted = first_of_both (is_name NameKind.Group g.name && nat_le g.count 1000) _ bounded
+      numbered : (is_name NameKind.Group g.name && nat_le g.count 1000) ≡ true
+      numbered = first_of_both (is_name NameKind.Group g.name && nat_le g.count 1000) (is_quantity g.disk)
+          (first_of_both (is_name NameKind.Group g.name && nat_le g.count 1000 && is_quantity g.disk) _ bounded)
 
       all_good : list_all is_good_task g.tasks ≡ true
-      all_good = second_of_both (is_name NameKind.Group g.name && nat_le g.count 1000 && is_between 1 16 (length g.tasks)) _ with_tasks
+      all_good = second_of_both (is_name NameKind.Group g.name && nat_le g.count 1000 && is_quantity g.disk && is_between 1 16 (length g.tasks)) _ with_tasks
 
       some : 1 ≤ length g.tasks
       some = le_by 1 (length g.tasks) (first_of_both (nat_le 1 (length g.tasks)) _
-          (second_of_both (is_name NameKind.Group g.name && nat_le g.count 1000) _ bounded))
+          (second_of_both (is_name NameKind.Group g.name && nat_le g.count 1000 && is_quantity g.disk) _ bounded))
+
+      least : (r : Resource) → 1 ≤ asked r g
+      least Cpu = summed (λ t. t.resources.cpu) g.tasks some (λ t h. least_of t.resources.cpu (good_cpu t h)) all_good
+      least Memory = summed (λ t. t.resources.memory) g.tasks some (λ t h. least_of t.resources.memory (good_memory t h)) all_good
+      least Disk = least_of g.disk (good_disk g good)
 
   demands_parts : (gs : List Group) (i : ℕ) → ((m k : ℕ) → k ≡ i + m → slice_get gs m ≡ slice_get j.document.groups k) → IsTrue (list_all is_good_group gs) →
       Each (λ d. IsPartOf j d.group d.size) (demands_from i j own gs)

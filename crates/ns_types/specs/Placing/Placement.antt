@@ -20,7 +20,7 @@ pub record Candidate : Type 0 where
 abbrev pub fits : Resources → Candidate → Bool
 fits size c = c.feasible && is_within size c.left
 
--- least CPU left afterwards, then least memory, then least name
+-- least CPU left afterwards, then least memory, then least disk, then least name
 abbrev pub compare_left : Resources → Candidate → Candidate → Ordering
 compare_left size =
     then_cmp (by_each (λ r c. quantity r c.left - quantity r size)) (on (λ c. c.name) (slice_cmp nat_cmp))

@@ -1,7 +1,7 @@
 -- Which allocations of the evaluation's job stop, and which are missing.
 -- Nomad's page "Scheduling in Nomad", of what a scheduler reconciles.
 use Rattle.std.specs.Prelude.{ℕ, ◌+◌, ◌-◌, ◌==◌, Bool, true, false, not, ◌&&◌, List, [], ◌∷◌, ◌++◌, Option, Some, None}
-use Rattle.std.specs.Prelude.{if◌then◌else◌, count_by, drop, filter, length, replicate}
+use Rattle.std.specs.Prelude.{if◌then◌else◌, count_by, drop, filter, length, replicate, sum_by}
 use Rattle.std.specs.List.{flat_map}
 use Rattle.std.specs.Str.{bytes_eq}
 use Rattle.ns_types.specs.declared.job.Group.{Group}
@@ -10,7 +10,7 @@ use Rattle.ns_types.specs.declared.job.JobKind.{JobKind}
 use Rattle.ns_types.specs.declared.plan.Demand.{Demand}
 use Rattle.ns_types.specs.declared.resources.Resources.{Resources}
 use Rattle.ns_types.specs.declared.snapshot.OwnAllocation.{OwnAllocation}
-use Rattle.ns_types.specs.State.Resources.{total}
+use Rattle.ns_types.specs.State.Resources.{Resource, Cpu, Memory, Disk, each_resource}
 use Rattle.ns_types.specs.State.Rows.{is_live, is_done}
 
 abbrev pub is_batch : JobKind → Bool
@@ -53,9 +53,14 @@ stopping (Some j) own =
     if j.stop then live_ones own
     else outdated j own ++ flat_map (surplus j own) j.document.groups
 
--- what one allocation of the group takes
+-- what one allocation of the group takes: its tasks together, and the group's disk once
+abbrev pub asked : Resource → Group → ℕ
+asked Cpu = λ g. sum_by (λ t. t.resources.cpu) g.tasks
+asked Memory = λ g. sum_by (λ t. t.resources.memory) g.tasks
+asked Disk = λ g. g.disk
+
 abbrev pub group_size : Group → Resources
-group_size g = total (λ t. t.resources) g.tasks
+group_size g = each_resource (λ r. asked r g)
 
 abbrev pub demands_from : ℕ → Job → List OwnAllocation → List Group → List Demand
 demands_from i j own [] = []

@@ -23,10 +23,12 @@ same_constraint a b = same_name (target_text a.target) (target_text b.target)
     && same_name (operand_text a.operand) (operand_text b.operand) && same_name a.value b.value
 
 abbrev pub same_task : Task → Task → Bool
-same_task a b = same_name a.name b.name && same_resources a.resources b.resources
+same_task a b = same_name a.name b.name
+    && same_number a.resources.cpu b.resources.cpu && same_number a.resources.memory b.resources.memory
 
 abbrev pub same_group : Group → Group → Bool
-same_group a b = same_name a.name b.name && same_number a.count b.count && pointwise same_task a.tasks b.tasks
+same_group a b = same_name a.name b.name && same_number a.count b.count && same_number a.disk b.disk
+    && pointwise same_task a.tasks b.tasks
 
 abbrev pub same_document : Document → Document → Bool
 same_document a b =

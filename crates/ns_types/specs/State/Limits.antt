@@ -12,6 +12,7 @@ use Rattle.ns_types.specs.declared.job.Group.{Group}
 use Rattle.ns_types.specs.declared.job.Registration.{Registration}
 use Rattle.ns_types.specs.declared.job.Target.{Target}
 use Rattle.ns_types.specs.declared.job.Task.{Task}
+use Rattle.ns_types.specs.declared.job.TaskResources.{TaskResources}
 use Rattle.ns_types.specs.declared.name.NameKind.TheVariants as NameKind
 use Rattle.ns_types.specs.declared.node.Offer.{Offer}
 use Rattle.ns_types.specs.declared.records.Namespace.{Namespace}
@@ -41,8 +42,12 @@ is_pool_name name = is_name NameKind.Pool name && not (bytes_eq name (codes "all
 
 -- ---- jobs
 
+-- of a task, a group or a node
+abbrev pub is_quantity : ℕ → Bool
+is_quantity n = is_between 1 2147483647 n
+
 abbrev pub is_amount : Resources → Bool
-is_amount a = in_each (λ r. is_between 1 2147483647 (quantity r a))
+is_amount a = in_each (λ r. is_quantity (quantity r a))
 
 -- as it is written
 abbrev pub is_target : Target → Bool
@@ -51,11 +56,14 @@ is_target target = is_text (target_text target)
 abbrev pub is_good_constraint : Constraint → Bool
 is_good_constraint c = is_target c.target && is_text c.value
 
+abbrev pub are_quantities : TaskResources → Bool
+are_quantities r = is_quantity r.cpu && is_quantity r.memory
+
 abbrev pub is_good_task : Task → Bool
-is_good_task t = is_name NameKind.Task t.name && is_amount t.resources
+is_good_task t = is_name NameKind.Task t.name && are_quantities t.resources
 
 abbrev pub is_good_group : Group → Bool
-is_good_group g = is_name NameKind.Group g.name && nat_le g.count 1000 && is_between 1 16 (length g.tasks)
+is_good_group g = is_name NameKind.Group g.name && nat_le g.count 1000 && is_quantity g.disk && is_between 1 16 (length g.tasks)
     && list_all is_good_task g.tasks && is_distinct same_name (map (λ t. t.name) g.tasks)
 
 abbrev pub is_good_document : Document → Bool

@@ -2,10 +2,10 @@ use Rattle.std.proofs.Common.{◌∙◌, ◌++◌, ◌∷◌, [], ap, option_cop
 use Rattle.ns_types.specs.Working.Commit.{node_name, part_of, size_of}
 use Rattle.ns_types.proofs.Once.{once}
 use Rattle.ns_plan.specs.After.{after_stops}
-use Rattle.ns_plan.specs.Amounts.{added}
+use Rattle.ns_types.specs.State.Resources.{added}
 use Rattle.ns_plan.specs.Gathered.{IsPart}
 use Rattle.ns_plan.specs.Reader.{evictions_of, is_on, left_by, quota_left, takes_left, with_victims}
-use Rattle.ns_plan.proofs.Capped.{amount_added}
+use Rattle.ns_types.proofs.Amounts.{amount_added}
 use Rattle.ns_plan.proofs.Steps.{left_is, step_left, step_taken, takes_same}
 use Rattle.ns_plan.proofs.deciding.decide.Goals as goal
 

@@ -1,5 +1,5 @@
 use Rattle.std.proofs.Common.{ap, arith, refl, ◌∙◌}
-use Rattle.ns_plan.specs.Amounts.{amount_of}
+use Rattle.ns_types.specs.State.Resources.{amount_of}
 use Rattle.ns_plan.proofs.gathering.no_part.Goals as goal
 
 pub returns : goal.returns

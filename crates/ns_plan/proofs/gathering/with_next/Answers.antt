@@ -1,5 +1,5 @@
 use Rattle.std.proofs.Common.{◌∙◌, ap, sym}
-use Rattle.ns_plan.specs.Amounts.{added}
+use Rattle.ns_types.specs.State.Resources.{added}
 use Rattle.ns_plan.proofs.Gathered.{evicts_again, evicts_first, evicts_nothing, nothing_in}
 use Rattle.ns_plan.proofs.gathering.with_next.Goals as goal
 

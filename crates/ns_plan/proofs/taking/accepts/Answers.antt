@@ -3,9 +3,9 @@ use Rattle.std.specs.Option.{option_map_or}
 use Rattle.ns_types.specs.Placing.Constraint.{is_feasible}
 use Rattle.ns_types.specs.State.Resources.{limits_allow, plus}
 use Rattle.ns_types.proofs.Lists.{not_both}
-use Rattle.ns_plan.specs.Amounts.{added}
+use Rattle.ns_types.specs.State.Resources.{added}
 use Rattle.ns_plan.specs.Looks.{limits_of}
-use Rattle.ns_plan.proofs.Capped.{amount_added}
+use Rattle.ns_types.proofs.Amounts.{amount_added}
 use Rattle.ns_plan.proofs.taking.accepts.Goals as goal
 use Rattle.ns_plan.proofs.taking.accepts.Goals.{then-feasible, else-feasible}
 

@@ -1,7 +1,7 @@
 use Rattle.std.proofs.Common.{◌∙◌}
 use Rattle.ns_types.specs.State.Resources.{plus}
-use Rattle.ns_plan.specs.Amounts.{added}
-use Rattle.ns_plan.proofs.Capped.{amount_added}
+use Rattle.ns_types.specs.State.Resources.{added}
+use Rattle.ns_types.proofs.Amounts.{amount_added}
 use Rattle.ns_plan.proofs.taking.has_room.Goals as goal
 
 pub returns : goal.returns

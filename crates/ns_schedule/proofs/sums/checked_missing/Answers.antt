@@ -1,10 +1,9 @@
-use Rattle.std.proofs.Common.{Option, SomeIff, List, sym, subst, ◌∙◌}
-use Rattle.ns_types.specs.declared.job.Task.{Task}
+use Rattle.std.proofs.Common.{Option, SomeIff, sym, subst, ◌∙◌}
 use Rattle.ns_types.specs.declared.resources.Resources.{Resources}
 use Rattle.ns_types.specs.Placing.Wanted.{missing, group_size}
-use Rattle.ns_types.specs.State.Resources.{IsCounted, plus, total}
-use Rattle.ns_schedule.specs.Fits.{times}
-use Rattle.ns_schedule.proofs.Counts.{one_counted}
+use Rattle.ns_types.specs.State.Resources.{IsCounted, plus}
+use Rattle.ns_types.specs.State.Resources.{times}
+use Rattle.ns_types.proofs.Amounts.{one_counted}
 use Rattle.ns_schedule.proofs.sums.checked_missing.Goals as goal
 
 pub returns-in_err-size : goal.returns-in_err-size
@@ -13,6 +12,4 @@ returns-in_err-size c =
     let size = group_size c.args.group.now in
     let all = plus c.args.sum (times n size) in
     subst (λ (o : Option Resources). SomeIff o (IsCounted all) all) (sym c.from_residual.ensures)
-    (λ counted. c.in_err-size.ensures
-    (subst (λ (ts : List Task). IsCounted (total (λ t. t.resources) ts)) (sym c.as_slice.ensures)
-    (one_counted c.args.sum size n (λ none. c.if-count-eq0.false (c.missing-count.ensures ∙ none)) counted)))
+    (λ counted. c.in_err-size.ensures (one_counted c.args.sum size n (λ none. c.if-count-eq0.false (c.missing-count.ensures ∙ none)) counted))

@@ -3,7 +3,7 @@ use Rattle.keyed.specs.Table.{row_at}
 use Rattle.ns_types.specs.State.Resources.{quantity}
 use Rattle.ns_types.proofs.Amounts.{at, every}
 use Rattle.ns_world.specs.Allocations.{IsMoved, row_use}
-use Rattle.ns_world.specs.Total.{IsAlike}
+use Rattle.ns_types.specs.State.Resources.{IsAlike}
 use Rattle.ns_world.proofs.Totals.{amount_of_use, moved_all, moved_next}
 use Rattle.ns_world.proofs.allocations.total_after.Goals as goal
 

@@ -1,7 +1,7 @@
 use Rattle.std.proofs.Common.{ap, refl, subst, sym, ◌∙◌}
 use Rattle.std.specs.Option.{option_copied}
 use Rattle.keyed.specs.Table.{row_at}
-use Rattle.ns_world.specs.Total.{IsTotal}
+use Rattle.ns_types.specs.State.Resources.{IsTotal}
 use Rattle.ns_live.specs.Index.{with_changes}
 use Rattle.ns_live.specs.Naming.{AreKept, with_use}
 use Rattle.ns_live.proofs.Kept.{index_kept, pools_kept}

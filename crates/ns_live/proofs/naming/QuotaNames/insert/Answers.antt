@@ -2,7 +2,7 @@ use Rattle.std.proofs.Common.{ap, refl, subst, sym, ◌∙◌}
 use Rattle.std.specs.Option.{option_copied_mut}
 use Rattle.keyed.proofs.Levels.{adds_at}
 use Rattle.ns_types.specs.State.Names.{same_name}
-use Rattle.ns_world.specs.Total.{Moves}
+use Rattle.ns_types.specs.State.Resources.{Moves}
 use Rattle.ns_live.specs.declared.naming.QuotaNames.{QuotaNames}
 use Rattle.ns_live.specs.Naming.{has_name_room, holds_name}
 use Rattle.ns_live.proofs.QuotaLevels.{name_added}

@@ -5,7 +5,7 @@ use Rattle.std.specs.FinMap.{insert}
 use Rattle.keyed.proofs.Levels.{drops_all, drops_at, drops_none, no_slots, row_here}
 use Rattle.ns_types.specs.State.Names.{same_name}
 use Rattle.ns_types.proofs.Named.{names}
-use Rattle.ns_world.specs.Total.{Moves}
+use Rattle.ns_types.specs.State.Resources.{Moves}
 use Rattle.ns_live.specs.declared.naming.QuotaNames.{QuotaNames}
 use Rattle.ns_live.specs.declared.naming.QuotaUse.{QuotaUse}
 use Rattle.ns_live.specs.Naming.{has_name_room, holds_name}

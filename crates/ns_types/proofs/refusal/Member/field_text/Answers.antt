@@ -27,3 +27,6 @@ returns-in-ParameterizedJob c = rw c.in-ParameterizedJob.is refl
 
 pub returns-in-RegionLimit : goal.returns-in-RegionLimit
 returns-in-RegionLimit c = rw c.in-RegionLimit.is refl
+
+pub returns-in-EphemeralDisk : goal.returns-in-EphemeralDisk
+returns-in-EphemeralDisk c = rw c.in-EphemeralDisk.is refl

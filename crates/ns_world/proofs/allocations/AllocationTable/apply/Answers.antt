@@ -3,7 +3,7 @@ use Rattle.keyed.specs.Over.{over}
 use Rattle.keyed.specs.Table.{rows}
 use Rattle.ns_world.specs.Allocations.{HasAllocationRoom, rows_use}
 use Rattle.ns_world.specs.Filing.{IsIndexOf, allocation_job}
-use Rattle.ns_world.specs.Total.{IsTotal}
+use Rattle.ns_types.specs.State.Resources.{IsTotal}
 use Rattle.ns_world.proofs.allocations.AllocationTable.apply.Goals as goal
 
 pub refile-requires-clause-room : goal.refile-requires-clause-room

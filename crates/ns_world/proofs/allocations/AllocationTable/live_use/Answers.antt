@@ -1,7 +1,7 @@
 use Rattle.std.proofs.Common.{subst, sym, ap, ◌∙◌}
 use Rattle.ns_types.specs.State.Resources.{IsCounted}
 use Rattle.ns_world.specs.Allocations.{live_use}
-use Rattle.ns_world.proofs.Totals.{total_exact}
+use Rattle.ns_types.proofs.Amounts.{total_exact}
 use Rattle.ns_world.proofs.allocations.AllocationTable.live_use.Goals as goal
 
 pub returns : goal.returns

@@ -1,9 +1,10 @@
 use Rattle.std.proofs.Common.{subst}
 use Rattle.keyed.specs.Over.{over}
 use Rattle.keyed.specs.Table.{rows}
-use Rattle.ns_world.proofs.Totals.{total_counted, total_moved}
+use Rattle.ns_world.proofs.Totals.{total_moved}
+use Rattle.ns_types.proofs.Amounts.{total_counted}
 use Rattle.ns_world.specs.Allocations.{live_use, rows_use}
-use Rattle.ns_world.specs.Total.{IsTotal}
+use Rattle.ns_types.specs.State.Resources.{IsTotal}
 use Rattle.ns_world.proofs.allocations.AllocationTable.total_with.Goals as goal
 
 pub total_after-requires : goal.total_after-requires
