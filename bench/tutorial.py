@@ -80,7 +80,7 @@ def blocks(text):
 
 def needs_program(block):
     """Whether the block starts or ends a server, or reads a log."""
-    return any("./nsd " in command.line or command.line == "wait" for command in block)
+    return any("./nsd " in command.line or command.line == "wait" or command.line.endswith(".log") for command in block)
 
 
 class Shell:
