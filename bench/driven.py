@@ -54,8 +54,8 @@ def jobs(name, number, priority, sizes, namespace="default", count=COUNT):
 
 
 class Server:
-    def __init__(self):
-        self.program = subprocess.Popen(COMMAND, stdin=subprocess.PIPE, stdout=subprocess.PIPE)
+    def __init__(self, command=COMMAND):
+        self.program = subprocess.Popen(command, stdin=subprocess.PIPE, stdout=subprocess.PIPE)
 
     def reply(self):
         status = self.program.stdout.readline()

@@ -5,6 +5,7 @@
     python3 bench/growth.py nodes           the same with 1,000 nodes in its own pool, beside 0 and 10,000 in others
     python3 bench/growth.py namespaces      a job is registered, placed and read in the first and the last of 10,000 namespaces
     python3 bench/growth.py crowd           the same under a quota, and stopped, beside 0 and 9,000 namespaces, each with a blocked job
+    python3 bench/growth.py history         a job is registered for the 10th and for the 10,000th time, with --drive and without
     python3 bench/growth.py totals          reads of what a quota has in use and of a node's load, of one allocation and of 9,001
     python3 bench/growth.py names           9,999 namespaces are put in the order of their names, and against it
     python3 bench/growth.py small           10,000 jobs of one allocation in 10 namespaces
@@ -21,13 +22,15 @@ import sys
 import tempfile
 import time
 
-from driven import COUNT, MHZ, Server, jobs, nodes, places_in, request, room, told
+from driven import COMMAND, COUNT, MHZ, Server, jobs, nodes, places_in, request, room, told
 
 FEW = 300
 ROUNDS = 3
 NAMESPACES = 10_000
 CROWD = 9_000
 READS = 300_000
+EARLY = 10
+LATE = 10_000
 
 
 def tenant(name, pool=None):
@@ -136,6 +139,29 @@ def crowd():
     return is_right
 
 
+def history():
+    """The same document again and again: each registration makes an evaluation. Early and late, the least of rounds of 30 counts."""
+    is_right, some = True, 30
+    registration = jobs("one", 1, 20, 1, "default", 1)
+    for what, command in (("with --drive", COMMAND), ("without --drive", COMMAND[:-1])):
+        early = []
+        for _ in range(ROUNDS):
+            server = Server(command)
+            server.ask(one_node("default", 1) + registration * (EARLY - 1))
+            early.append(server.timed(registration * some) / some)
+            server.end()
+        server = Server(command)
+        server.ask(one_node("default", 1) + registration * (LATE - 1))
+        late = [server.timed(registration * some) / some for _ in range(ROUNDS)]
+        evaluations = server.ask([request("GET", "/v1/job/one-0/evaluations")])
+        is_right &= len(evaluations) == LATE - 1 + ROUNDS * some
+        server.end()
+        for number, times in ((EARLY, early), (LATE, late)):
+            print(f"registration {number} of one job, {what}: {min(times) * 1e6:.1f} microseconds", flush=True)
+        print(f"the quotient {what} is {min(late) / min(early):.2f}", flush=True)
+    return is_right
+
+
 def sharing(name, quota):
     """A namespace under that quota, with a job in the pool `default`."""
     configuration = {"Default": "default", "Allowed": ["default"]}
@@ -227,6 +253,7 @@ KINDS = {
     "nodes": nodes_of_others,
     "namespaces": namespaces,
     "crowd": crowd,
+    "history": history,
     "totals": totals,
     "names": names,
     "small": small,

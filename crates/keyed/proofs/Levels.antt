@@ -6,13 +6,15 @@ use Rattle.std.specs.Option.{option_map_or}
 use Rattle.std.specs.declared.cmp.Ordering.{Ordering}
 use Rattle.std.specs.Cmp.{IsTotalOrder, tied_itself}
 use Rattle.std.specs.Ordering.{eq_by_cmp, is_eq, nat_cmp}
-use Rattle.std.specs.FinMap.{FinMap, IsAntisymmetric, empty, empty_of_len, entries, len-entries, get, get-empty, get-insert, get-remove, insert, remove}
+use Rattle.std.specs.FinMap.{FinMap, IsAntisymmetric, empty, empty_of_len, entries, len-entries, get, get-empty, get-entries, get-insert, get-remove, insert, remove}
+use Rattle.std.specs.FinMap.Entries.{find}
 use Rattle.keyed.specs.Table.{flat, has_slot, row_at, with_slot}
 use Rattle.keyed.proofs.Tables.{has_slot-insert, has_slot-with_slot}
 use Rattle.ns_types.specs.State.Names.{Name, Key, ByName, ByNumber, same_key, same_number}
 use Rattle.ns_types.proofs.Named.{first_of_both, names, numbers, one_name, one_number, second_of_both}
 use Rattle.ns_types.proofs.Tables.{tied}
-use Rattle.keyed.specs.Levels.{Adds, Drops, Keeps, at_key, at_name, has_key_room, holds_key, holds_number, same_at, same_by}
+use Rattle.keyed.specs.Levels.{Adds, Drops, Keeps, at_key, at_name, has_key_room, holds_key, holds_number, holds_numbered, same_at, same_by}
+use Rattle.keyed.specs.declared.number_places.NumberPlaces.{NumberPlaces}
 use Rattle.keyed.specs.declared.key_set.KeySet.{KeySet}
 use Rattle.ns_types.proofs.Once.{key_is}
 
@@ -318,3 +320,13 @@ drops_nothing old new key dropped none q = dropped.held q ∙ by (same_key q key
     by : (b : Bool) → same_key q key ≡ b → (not b && holds_key old q) ≡ holds_key old q
     by true e = sym (ap (holds_key old) (key_is q key e) ∙ none)
     by false e = refl
+
+-- ---- a number without a slot
+
+-- has no place
+pub not_numbered : (set : NumberPlaces) (n place : ℕ) → is_some (find nat_cmp n (entries set.numbers)) ≡ false → holds_numbered set (n, place) ≡ false
+not_numbered set n place out = by (get set.numbers n) (ap is_some (get-entries set.numbers n) ∙ out)
+  where
+    by : (r : Option (Option (ByNumber (Option Unit)))) → is_some r ≡ false → option_map_or (λ s. holds_number s place) (flat r) false ≡ false
+    by None e = refl
+    by (Some x) e = absurd (subst T e tt)

@@ -1,7 +1,9 @@
 -- Keys in their order, each at a place, and which can be added without memory.
 use Rattle.std.specs.Prelude.{◌≡◌, ℕ, ◌+◌, ◌<◌, ◌≤◌, ◌^◌, Bool, false, IsTrue, List, [], ◌∷◌}
-use Rattle.std.specs.Prelude.{cond, filter, map, Option, Some, None}
+use Rattle.std.specs.Prelude.{cond, filter, is_some, map, Option, Some, None}
 use Rattle.std.specs.FinMap.{entries}
+use Rattle.std.specs.FinMap.Entries.{find}
+use Rattle.std.specs.Ordering.{nat_cmp}
 use Rattle.std.specs.Option.{option_map_or}
 use Rattle.keyed.specs.Levels.{Adds, Drops, Keeps, has_place_room, holds_place, same_place}
 use Rattle.keyed.specs.Table.{KeepsSlots, has_slot, row_at, row_list}
@@ -77,6 +79,10 @@ IsHeldAt places key (Some n) = IsTrue (holds_place places (at key n))
 abbrev pub IsPlaceOf : Key → KeyQueue → Option ℕ → Type 0
 IsPlaceOf key q None = has_key q.items key ≡ false
 IsPlaceOf key q (Some n) = IsTrue (has_key q.items key) × (row_at q.placed.keys n ≡ Some key)
+
+-- a slot has the number
+abbrev pub stands_in : {Y : Type 0} → ℕ → List (ℕ × Y) → Bool
+stands_in n slots = is_some (find nat_cmp n slots)
 
 -- ---- what a change leaves
 

@@ -1,13 +1,15 @@
 //! Keys in their order.
 
-ghost use Rattle.std.specs.Prelude.{◌≡◌, ◌+◌, ◌<◌, ◌≤◌, ◌^◌, ◌++◌, ◌∷◌, [], Bool, List, OnOk};
+ghost use Rattle.std.specs.Prelude.{◌≡◌, ℕ, ◌+◌, ◌<◌, ◌≤◌, ◌^◌, ◌++◌, ◌∷◌, [], Bool, IsTrue, List, OnOk};
 ghost use Rattle.std.specs.Prelude.{Some, filter, length, not, option_copied, slice_get};
 ghost use Rattle.keyed.specs.Queue.{CanAdd, HasRoomAt, IsPlaceOf, KeepsRoom, LeavesOthers, keys_in};
+ghost use Rattle.keyed.specs.Queue.{stands_in};
 ghost use Rattle.keyed.specs.Table.{row_at};
 ghost use Rattle.ns_types.specs.State.Lists.{is_empty};
 ghost use Rattle.ns_types.specs.State.Names.{Key, has_key, same_key};
 
 use crate::key_places::KeyPlaces;
+use crate::numbers::NumberTable;
 use ns_types::key::EvalKey;
 use ns_types::rows::Rows;
 use ns_types::text::Text;
@@ -102,6 +104,14 @@ impl KeyQueue {
         ensures { result ≡ has_key self.now.items (namespace.now, number) }
     {
         self.place_of(namespace, number).is_some()
+    }
+
+    /// The numbers of the namespace's keys, which rise, each with its places: a look-up.
+    pub fn numbers_of(&self, namespace: &Text) -> &[(u64, Option<NumberTable<()>>)]
+        ensures { (n : ℕ) → IsTrue (has_key self.now.items (namespace.now, n))
+            → IsTrue (stands_in n result.now) }
+    {
+        self.placed.places.numbers_of(namespace)
     }
 
     /// Takes vacant slots away, where they are more than the keys.

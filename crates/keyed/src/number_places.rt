@@ -1,7 +1,7 @@
 //! Sets of numbers with places.
 
 ghost use Rattle.std.specs.Prelude.{◌≡◌, IsTrue, OnOk, is_some, option_copied};
-ghost use Rattle.std.specs.FinMap.{empty};
+ghost use Rattle.std.specs.FinMap.{empty, entries};
 ghost use Rattle.keyed.specs.Levels.{Adds, Drops, Keeps};
 ghost use Rattle.keyed.specs.Levels.{has_numbered_room, holds_numbered, same_numbered};
 ghost use Rattle.keyed.specs.Table.{row_at};
@@ -30,6 +30,13 @@ impl NumberPlaces {
         ensures { IsTrue result → self.now.numbers ≡ empty }
     {
         self.numbers.as_slice().is_empty()
+    }
+
+    /// The numbers in their order, each with its places. A vacant slot has none.
+    pub(crate) fn as_slice(&self) -> &[(u64, Option<NumberTable<()>>)]
+        ensures { result.now ≡ entries self.now.numbers }
+    {
+        self.numbers.as_slice()
     }
 
     /// The places of the number. A vacant slot is none.

@@ -1,14 +1,15 @@
 //! Sets of keys with places.
 
-ghost use Rattle.std.specs.Prelude.{◌≡◌, IsTrue, OnOk, is_some};
+ghost use Rattle.std.specs.Prelude.{◌≡◌, ℕ, false, IsTrue, OnOk, is_some};
 ghost use Rattle.std.specs.FinMap.{empty};
 ghost use Rattle.keyed.specs.Levels.{Adds, Drops, Keeps};
 ghost use Rattle.keyed.specs.Levels.{has_place_room, holds_place, same_place};
-ghost use Rattle.keyed.specs.Queue.{IsHeldAt};
+ghost use Rattle.keyed.specs.Queue.{IsHeldAt, stands_in};
 ghost use Rattle.keyed.specs.Table.{row_at};
 
 use crate::names::NameTable;
 use crate::number_places::NumberPlaces;
+use crate::numbers::NumberTable;
 use ns_types::text::Text;
 use std::alloc::{AllocError, Global};
 
@@ -35,6 +36,17 @@ impl PlaceSet {
         let numbers = self.names.get(name)?;
         let places = numbers.places_of(number)?;
         places.next_row(0)
+    }
+
+    /// The numbers of the name's keys, which rise, each with its places. A vacant slot has none.
+    pub(crate) fn numbers_of(&self, name: &Text) -> &[(u64, Option<NumberTable<()>>)]
+        ensures { (n place : ℕ) → stands_in n result.now ≡ false
+            → holds_place self.now (name.now, (n, place)) ≡ false }
+    {
+        match self.names.get(name) {
+            Some(numbers) => numbers.as_slice(),
+            None => &[],
+        }
     }
 
     /// Makes a set for the name, unless it is there.

@@ -1,6 +1,6 @@
 -- The first row that passes, in a table with changed rows over it.
 use Rattle.std.specs.Prelude.{◌≡◌, ℕ, ◌<◌, ◌≤◌, Bool, true, false, cond, not, T, ◌&&◌, ◌||◌, nat_le, List, [], ◌∷◌, ◌++◌, Option, Some, None, option_map}
-use Rattle.std.specs.Prelude.{is_some, find, min, unwrap_or}
+use Rattle.std.specs.Prelude.{if◌then◌else◌, is_some, find, min, unwrap_or}
 use Rattle.std.proofs.Common.{refl, sym, ap, subst, ◌∙◌, arith, Ordering, Less, Equal, Greater, is_lt}
 use Rattle.std.specs.Ordering.{is_le}
 use Rattle.std.proofs.lemmas.Bool.{leb-true, leb-false}
@@ -14,16 +14,16 @@ use Rattle.keyed.specs.Table.{at_slot, flat, rows, row_at, row_list}
 use Rattle.keyed.proofs.Tables.{entries-rows, get-rows}
 use Rattle.ns_types.specs.declared.evaluation.Status.{Status}
 use Rattle.ns_types.specs.State.Lists.{Each}
-use Rattle.ns_types.specs.State.Names.{Name}
+use Rattle.ns_types.specs.State.Names.{Name, same_name}
 use Rattle.ns_types.specs.Working.Queue.{first_waiting, is_busy, promote}
 use Rattle.ns_types.specs.Settling.Making.{change_tenant, put_tenant, with_status}
 use Rattle.ns_types.specs.State.Rows.{World, Tenant, is_blocked}
 use Rattle.ns_types.specs.Working.Work.{blocked_of, cancel_blocked, without_blocked}
 use Rattle.ns_types.proofs.Lists.{not_both}
-use Rattle.ns_types.proofs.Named.{first_of_both, names, one_name, numbers, one_number}
+use Rattle.ns_types.proofs.Named.{first_of_both, names, one_name, numbers, one_number, second_of_both}
 use Rattle.ns_types.specs.declared.evaluation.Evaluation.{Evaluation}
 use Rattle.keyed.specs.Levels.{holds_number}
-use Rattle.ns_world.specs.Filing.{AreNumbersUnder, evaluation_job, stands_under}
+use Rattle.ns_world.specs.Filing.{AreNumbersUnder, job_where, stands_under}
 use Rattle.ns_types.proofs.Tables.{each_row, insert_same, tied}
 use Rattle.ns_change.specs.declared.change.Change.{Change}
 use Rattle.ns_change.specs.declared.change.TenantChange.{TenantChange}
@@ -226,7 +226,7 @@ numbered g m covers = leads_alike (row_passes (λ k _. g k) m) g (λ q. by q (ge
     by q None is false t = sym t
 
 module _ (is : Status → Bool) (job : Name) (slots : FinMap nat_cmp (Option Evaluation)) (r : Option (FinMap nat_cmp (Option Unit)))
-    (covers : AreNumbersUnder evaluation_job job slots r) where
+    (covers : AreNumbersUnder (job_where is) job slots r) where
   abbrev has : ℕ → Bool
   has q = option_map_or (λ m. holds_number m q) r false
 
@@ -235,7 +235,9 @@ module _ (is : Status → Bool) (job : Name) (slots : FinMap nat_cmp (Option Eva
     where
       by : (r : Option Evaluation) → get (rows slots) q ≡ r → option_map_or (of_job is job q) r false ≡ true → has q ≡ true
       by None g t = not_both t refl
-      by (Some e) g t = covers q ∙ ap (stands_under evaluation_job job) (sym (get-rows numbers slots q) ∙ g) ∙ first_of_both _ _ t
+      by (Some e) g t = covers q ∙ ap (stands_under (job_where is) job) (sym (get-rows numbers slots q) ∙ g)
+          ∙ ap (λ b. option_map_or (same_name job) (if b then Some e.job else None) false) (second_of_both (same_name job e.job) (is e.status) t)
+          ∙ first_of_both _ _ t
 
 -- what a table of numbers holds has its slot
 pub has_slot_of : (m : FinMap nat_cmp (Option Unit)) (q : ℕ) → holds_number m q ≡ true → is_some (get m q) ≡ true
@@ -248,12 +250,12 @@ has_slot_of m q held = by (get m q) held
 module _ (is : Status → Bool) (job : Name) (slots : FinMap nat_cmp (Option Evaluation)) (g : ℕ → Bool)
     (passing : (q : ℕ) → g q ≡ true → row_passes (of_job is job) (rows slots) q ≡ true) where
   pub led_by : (m : FinMap nat_cmp (Option Unit)) (es : List (ℕ × Option Unit)) (r : Option ℕ) →
-      AreNumbersUnder evaluation_job job slots (Some m) → es ≡ entries m →
+      AreNumbersUnder (job_where is) job slots (Some m) → es ≡ entries m →
       r ≡ option_map (λ e. e.0) (find (λ e. g e.0) es) → Leads g r
   led_by m es r covers listed is_first = subst (Leads g) (sym (is_first ∙ ap (λ es. option_map (λ e. e.0) (find (λ e. g e.0) es)) listed))
       (numbered g m (λ q t. has_slot_of m q (passing_has is job slots (Some m) covers q (passing q t))))
 
-  pub led_by_none : AreNumbersUnder evaluation_job job slots None → Leads g None
+  pub led_by_none : AreNumbersUnder (job_where is) job slots None → Leads g None
   led_by_none covers q = by (g q) refl
     where
       by : (b : Bool) → g q ≡ b → g q ≡ false

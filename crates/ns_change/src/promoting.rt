@@ -1,10 +1,11 @@
 //! The first evaluation of a job that waits, and the one that is blocked.
 
-ghost use Rattle.std.specs.Prelude.{◌≡◌, ◌&&◌};
+ghost use Rattle.std.specs.Prelude.{◌≡◌, ◌&&◌, option_copied};
 ghost use Rattle.keyed.specs.Table.{at_slot, rows};
 ghost use Rattle.ns_types.specs.State.Names.{same_name};
 ghost use Rattle.ns_types.specs.Working.Queue.{promote};
 ghost use Rattle.ns_types.specs.Working.Work.{cancel_blocked};
+ghost use Rattle.ns_world.specs.Filing.{AreNumbersUnder, job_where};
 ghost use Rattle.ns_change.specs.Changed.{Does, DoesIn, unlist_blocked, view};
 ghost use Rattle.ns_change.specs.Queued.{first_of_job, first_slot};
 ghost use Rattle.ns_change.specs.Waiting.{Leads, lesser, of_job, row_passes, stands, standing, unheld_passes};
@@ -110,12 +111,28 @@ fn first_unchanged(
     None
 }
 
-/// The job's first before the step: only the job's own numbers are looked up.
+/// The numbers of the job's evaluations that stood so before the step.
+fn stored_numbers<'a>(
+    tenant: &'a TenantRows,
+    job: &Text,
+    wanted: Status,
+) -> Option<&'a NumberTable<()>>
+    ensures { AreNumbersUnder (job_where (stands wanted)) job.now tenant.now.evaluations.slots
+        (option_copied result) }
+{
+    match wanted {
+        Status::Pending => tenant.evaluations.pending_of(job),
+        Status::Blocked => tenant.evaluations.blocked_of(job),
+        _ => None,
+    }
+}
+
+/// The job's first before the step: only those that stand so are looked up.
 fn first_before(tenant: &TenantRows, job: &Text, wanted: Status) -> Option<u64>
     ensures { Leads (row_passes (of_job (stands wanted) job.now)
         (rows tenant.now.evaluations.slots)) result }
 {
-    match tenant.evaluations.numbers_of(job) {
+    match stored_numbers(tenant, job, wanted) {
         Some(numbers) => first_numbered(tenant, job, wanted, numbers.as_slice()),
         None => None,
     }
@@ -131,7 +148,7 @@ fn first_left(
     ensures { Leads (unheld_passes (of_job (stands wanted) job.now)
         (rows tenant.now.evaluations.slots) changed.now) result }
 {
-    match tenant.evaluations.numbers_of(job) {
+    match stored_numbers(tenant, job, wanted) {
         Some(numbers) => first_unchanged(tenant, changed, job, wanted, numbers.as_slice()),
         None => None,
     }

@@ -96,7 +96,8 @@ fn is_among_left<T>(
     false
 }
 
-/// Whether one of the job's numbers in the namespace's table stays in the list.
+/// Whether one of the job's numbers in the namespace's table stays in the list. It goes along the job's numbers, or along those
+/// that the namespace has in the list, where these are fewer.
 fn any_stored_left(
     tables: &Tables,
     change: &Change,
@@ -112,12 +113,15 @@ fn any_stored_left(
         → e.job ≡ job.now → IsTrue (is_left_in tables.now change.now base.now.items taken.now
         namespace.now job.now n) → IsTrue result }
 {
-    match tenant.evaluations.numbers_of(job) {
-        Some(numbers) => {
-            let slots = numbers.as_slice();
-            is_among_left(tables, change, base, taken, namespace, job, slots)
-        }
-        None => false,
+    let Some(numbers) = tenant.evaluations.numbers_of(job) else {
+        return false;
+    };
+    let slots = numbers.as_slice();
+    let listed = base.numbers_of(namespace);
+    if listed.len() < slots.len() {
+        is_among_left(tables, change, base, taken, namespace, job, listed)
+    } else {
+        is_among_left(tables, change, base, taken, namespace, job, slots)
     }
 }
 

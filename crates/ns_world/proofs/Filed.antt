@@ -22,7 +22,10 @@ use Rattle.ns_types.proofs.Tests.{not_Some, same_Some}
 use Rattle.ns_types.specs.State.Lists.{Each}
 use Rattle.ns_types.specs.State.Names.{ByNumber, Key, Name, name_cmp, same_key, same_name}
 use Rattle.ns_types.specs.State.Tables.{any_row}
-use Rattle.ns_world.specs.Filing.{AreNumbersUnder, HasRoomAt, IsIndexOf, is_filed, is_left, name_at, stands_under}
+use Rattle.ns_types.specs.declared.evaluation.Evaluation.{Evaluation}
+use Rattle.ns_types.specs.State.Rows.{is_blocked, is_pending}
+use Rattle.ns_world.specs.Evaluations.{AreFiled}
+use Rattle.ns_world.specs.Filing.{AreNumbersUnder, HasRoomAt, IsIndexOf, evaluation_job, is_filed, is_left, job_where, name_at, stands_under}
 
 -- ---- a test that only the rows of one key can pass
 
@@ -190,3 +193,13 @@ module _ {X : Type 0} (name_of : X → Option Name) where
   pub still_indexed : (old new : KeySet) (before after : ByNumber X) → ((key : Key) → holds_key new key ≡ holds_key old key) → after ≡ before →
       IsIndexOf name_of old before → IsIndexOf name_of new after
   still_indexed old new before after held same is key = held key ∙ is key ∙ ap (λ m. stands_under name_of key.0 (get m key.1)) (sym same)
+
+-- three sets of the same numbers are of the same rows, where they are the same
+pub still_filed : (all all' waiting waiting' stuck stuck' : KeySet) (before after : ByNumber Evaluation) →
+    ((key : Key) → holds_key all' key ≡ holds_key all key) → ((key : Key) → holds_key waiting' key ≡ holds_key waiting key) →
+    ((key : Key) → holds_key stuck' key ≡ holds_key stuck key) → after ≡ before → AreFiled all waiting stuck before → AreFiled all' waiting' stuck' after
+still_filed all all' waiting waiting' stuck stuck' before after h k l same filed = record {
+  jobs = still_indexed evaluation_job all all' before after h same filed.jobs;
+  pending = still_indexed (job_where is_pending) waiting waiting' before after k same filed.pending;
+  blocked = still_indexed (job_where is_blocked) stuck stuck' before after l same filed.blocked;
+}

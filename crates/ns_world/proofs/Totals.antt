@@ -1,7 +1,6 @@
 -- What live allocations take together, and the total of it that follows changed rows.
 use Rattle.std.specs.Prelude.{◌≡◌, ℕ, ◌+◌, ◌<◌, ◌≤◌, ◌%◌, ◌^◌, cond, List, Option, length, sum_by}
-use Rattle.std.proofs.Common.{refl, sym, ap, subst, ◌∙◌, arith, get_or, take}
-use Rattle.std.proofs.Math.Nat.{mod-eq_of_lt}
+use Rattle.std.proofs.Common.{sym, ap, subst, ◌∙◌, arith, get_or, take}
 use Rattle.std.proofs.lemmas.List.{take_all}
 use Rattle.std.proofs.lemmas.List.Sums.{sum_by_more}
 use Rattle.std.specs.FinMap.{empty, entries}
@@ -11,7 +10,7 @@ use Rattle.keyed.specs.Levels.{holds_key}
 use Rattle.keyed.specs.Over.{over}
 use Rattle.keyed.specs.Table.{row_at, rows}
 use Rattle.keyed.specs.declared.key_set.KeySet.{KeySet}
-use Rattle.ns_types.proofs.Amounts.{at, counted_at, every, quantity_none, quantity_of, same_amounts}
+use Rattle.ns_types.proofs.Amounts.{at, counted_at, every, quantity_none, quantity_of}
 use Rattle.ns_types.proofs.Named.{numbers, one_number}
 use Rattle.ns_types.proofs.TableRows.{entries_empty}
 use Rattle.ns_types.specs.State.Names.{ByNumber, Key}
@@ -21,7 +20,7 @@ use Rattle.ns_types.specs.declared.allocation.Allocation.{Allocation}
 use Rattle.ns_types.specs.declared.resources.Resources.{Resources}
 use Rattle.ns_world.specs.Allocations.{IsKept, IsMoved, IsTotalOf, live_sum, row_amount, row_use, rows_use, use_after, use_before}
 use Rattle.ns_world.specs.Filing.{IsIndexOf, allocation_job}
-use Rattle.ns_types.specs.State.Resources.{IsAlike, IsTotal, Moves}
+use Rattle.ns_types.specs.State.Resources.{IsAlike, IsTotal}
 
 pub total_none : (total : Resources) (slots : ByNumber (Option Allocation)) → total ≡ none → slots ≡ empty → IsTotalOf total slots
 total_none total slots none_yet is = every (λ r. quantity r total ≡ live_sum (quantity r) (rows slots) % 2 ^ 64) (λ r.

@@ -1,5 +1,5 @@
 -- Under which name the numbers of rows stand: that of their job.
-use Rattle.std.specs.Prelude.{◌≡◌, ℕ, Bool, false, not, ◌&&◌, IsTrue, List, Option, Some, None, map}
+use Rattle.std.specs.Prelude.{◌≡◌, ℕ, Bool, false, not, if◌then◌else◌, ◌&&◌, IsTrue, List, Option, Some, None, map}
 use Rattle.std.specs.Option.{option_map_or}
 use Rattle.std.specs.FinMap.{get}
 use Rattle.keyed.specs.Levels.{holds_key, holds_number, has_key_room}
@@ -8,6 +8,7 @@ use Rattle.keyed.specs.declared.key_set.KeySet.{KeySet}
 use Rattle.ns_types.specs.State.Names.{ByNumber, Key, Name, same_key, same_name}
 use Rattle.ns_types.specs.declared.allocation.Allocation.{Allocation}
 use Rattle.ns_types.specs.declared.evaluation.Evaluation.{Evaluation}
+use Rattle.ns_types.specs.declared.evaluation.Status.{Status}
 
 -- ---- the name of a row
 
@@ -16,6 +17,10 @@ allocation_job a = Some a.job
 
 abbrev pub evaluation_job : Evaluation → Option Name
 evaluation_job e = Some e.job
+
+-- where its status passes
+abbrev pub job_where : (Status → Bool) → Evaluation → Option Name
+job_where passes e = if passes e.status then Some e.job else None
 
 -- ---- by this name
 

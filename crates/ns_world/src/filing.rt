@@ -10,11 +10,12 @@ ghost use Rattle.ns_types.specs.State.Lists.{Each};
 ghost use Rattle.ns_types.specs.State.Names.{ByNumber, Key, Name};
 ghost use Rattle.ns_types.specs.declared.evaluation.Evaluation.{Evaluation};
 ghost use Rattle.ns_world.specs.Filing.{HasRoomAt, IsIndexOf, allocation_job, evaluation_job};
-ghost use Rattle.ns_world.specs.Filing.{is_filed, is_left, name_at, stands_under};
+ghost use Rattle.ns_types.specs.State.Rows.{is_blocked, is_pending};
+ghost use Rattle.ns_world.specs.Filing.{is_filed, is_left, job_where, name_at, stands_under};
 
 use keyed::{KeySet, NumberTable};
 use ns_types::allocation::Allocation;
-use ns_types::evaluation::Evaluation;
+use ns_types::evaluation::{Evaluation, Status};
 use ns_types::text::{Text, same_text};
 use std::alloc::{AllocError, Global};
 
@@ -55,6 +56,38 @@ impl Filing for EvaluationJob {
 
     fn name_of(row: &Evaluation) -> Option<&Text> {
         Some(&row.job)
+    }
+}
+
+/// The job of an evaluation that is pending.
+pub(crate) struct PendingJob;
+
+impl Filing for PendingJob {
+    type Row = Evaluation;
+
+    ghost name_of = { job_where is_pending };
+
+    fn name_of(row: &Evaluation) -> Option<&Text> {
+        match row.status {
+            Status::Pending => Some(&row.job),
+            _ => None,
+        }
+    }
+}
+
+/// The job of an evaluation that is blocked.
+pub(crate) struct BlockedJob;
+
+impl Filing for BlockedJob {
+    type Row = Evaluation;
+
+    ghost name_of = { job_where is_blocked };
+
+    fn name_of(row: &Evaluation) -> Option<&Text> {
+        match row.status {
+            Status::Blocked => Some(&row.job),
+            _ => None,
+        }
     }
 }
 
