@@ -1,1 +1,2 @@
+mod Alone
 mod Fresh

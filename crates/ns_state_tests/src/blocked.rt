@@ -17,7 +17,7 @@ use std::process::Abort;
 pub(crate) type KeyText<'a> = (&'a str, u64);
 
 /// A class, as its name and the value of its attribute `os`.
-type Named<'a> = (&'a str, &'a str);
+pub(crate) type Named<'a> = (&'a str, &'a str);
 
 /// What is waited for, and what is released.
 #[derive(Clone, Copy)]
@@ -52,7 +52,7 @@ fn key(rt: &impl Abort, alloc: Global, (namespace, number): KeyText) -> EvalKey 
     EvalKey::new(text(rt, alloc, namespace), number)
 }
 
-fn class(rt: &impl Abort, alloc: Global, (name, os): Named) -> Class {
+pub(crate) fn class(rt: &impl Abort, alloc: Global, (name, os): Named) -> Class {
     let os = Attribute {
         key: text(rt, alloc, "os"),
         value: text(rt, alloc, os),
@@ -63,7 +63,7 @@ fn class(rt: &impl Abort, alloc: Global, (name, os): Named) -> Class {
     }
 }
 
-fn classes(rt: &impl Abort, alloc: Global, names: &[Named]) -> Rows<Class> {
+pub(crate) fn classes(rt: &impl Abort, alloc: Global, names: &[Named]) -> Rows<Class> {
     let mut rows = Rows::new(alloc);
     for named in names {
         rows.push(class(rt, alloc, *named)).expect(rt, "memory");
@@ -238,9 +238,9 @@ fn keeps_others(
 
 // ---- tests
 
-const LINUX: Named = ("large", "linux");
+pub(crate) const LINUX: Named = ("large", "linux");
 
-const BSD: Named = ("large", "bsd");
+pub(crate) const BSD: Named = ("large", "bsd");
 
 const SMALL: Named = ("small", "linux");
 

@@ -2,11 +2,15 @@
 #![tactic(auto)]
 
 #[cfg(test)]
+mod apart;
+#[cfg(test)]
 mod blocked;
 #[cfg(test)]
 mod by_key;
 #[cfg(test)]
 mod full_pool;
+#[cfg(test)]
+mod ids;
 #[cfg(test)]
 mod jobs;
 #[cfg(test)]
@@ -16,11 +20,15 @@ mod limits;
 #[cfg(test)]
 mod made;
 #[cfg(test)]
+mod missing;
+#[cfg(test)]
 mod nodes;
 #[cfg(test)]
 mod owned;
 #[cfg(test)]
 mod plans;
+#[cfg(test)]
+mod quotas;
 #[cfg(test)]
 mod reading;
 #[cfg(test)]

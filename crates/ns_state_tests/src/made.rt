@@ -3,6 +3,7 @@ ghost use Rattle.std.specs.Prelude.{◌≡◌, ◌∷◌, [], IsTrue};
 ghost use Rattle.ns_types.specs.State.Name.{is_name};
 
 use ns_types::name::{Name, NameKind};
+use ns_types::resources::Resources;
 use ns_types::rows::Rows;
 use ns_types::text::Text;
 use std::alloc::Global;
@@ -50,4 +51,13 @@ pub(crate) fn both<T: Drop>(rt: &impl Abort, alloc: Global, first: T, second: T)
     let mut rows = only(rt, alloc, first);
     rows.push(second).expect(rt, "memory");
     rows
+}
+
+/// So much of each resource.
+pub(crate) fn each(amount: u64) -> Resources {
+    Resources {
+        cpu: amount,
+        memory: amount,
+        disk: amount,
+    }
 }

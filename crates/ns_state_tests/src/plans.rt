@@ -86,8 +86,8 @@ fn own(rt: &impl Abort, alloc: Global, numbers: &[u64]) -> Rows<OwnAllocation> {
 }
 
 /// What is planned from, where those with these numbers are live.
-fn snapshot(rt: &impl Abort, alloc: Global, live: &[u64]) -> Shared<Snapshot> {
-    let snapshot = Snapshot {
+pub(crate) fn looked(rt: &impl Abort, alloc: Global, live: &[u64]) -> Snapshot {
+    Snapshot {
         namespace: text(rt, alloc, "ta"),
         number: 1,
         evaluation: evaluation(rt, alloc),
@@ -97,8 +97,11 @@ fn snapshot(rt: &impl Abort, alloc: Global, live: &[u64]) -> Shared<Snapshot> {
         nodes: Rows::new(alloc),
         release: 0,
         quota: None,
-    };
-    Shared::new(alloc, snapshot).expect(rt, "memory")
+    }
+}
+
+fn snapshot(rt: &impl Abort, alloc: Global, live: &[u64]) -> Shared<Snapshot> {
+    Shared::new(alloc, looked(rt, alloc, live)).expect(rt, "memory")
 }
 
 /// The plan with ample memory: a call that was refused for memory is made again.

@@ -10,10 +10,10 @@ use ns_types::step::Step;
 use std::alloc::Global;
 use std::process::Abort;
 
-const REGISTERED: &str =
+pub(crate) const REGISTERED: &str =
     "{\"EvalCreateIndex\":1,\"EvalID\":\"00000000-0000-0001-0000-000000000001\",\"JobModifyIndex\":1}";
 
-const TOOK: &str = "{\"Took\":\"00000000-0000-0001-0000-000000000001\"}";
+pub(crate) const TOOK: &str = "{\"Took\":\"00000000-0000-0001-0000-000000000001\"}";
 
 fn rendered(rt: &impl Abort, alloc: Global, index: Option<u64>, body: &str) -> Rendered {
     Rendered {

@@ -67,7 +67,7 @@ fn begins(rt: &impl Abort, alloc: Global, core: &mut Core, root: &Text) -> bool 
 
 // ---- whose turn it is
 
-fn is_served(core: &Core, wanted: KeyText) -> bool {
+pub(crate) fn is_served(core: &Core, wanted: KeyText) -> bool {
     match core.served() {
         Some(key) => is_key(key, wanted),
         None => false,

@@ -1,0 +1,18 @@
+// The numbers of allocations that texts of ids stand for.
+use ns_types::id::{IdKind, id_read};
+
+const NUMBERS: [(&str, Option<u64>); 6] = [
+    ("00000000-0000-0002-0000-0000000000ff", Some(255)),
+    ("000000000000000200000000000000FF", Some(255)),
+    ("{00000000-0000-0002-ffff-ffffffffffff}", Some(u64::MAX)),
+    ("00000000-0000-0001-0000-0000000000ff", None),
+    ("00000001-0000-0002-0000-0000000000ff", None),
+    ("00000000-0000-0002-0000-0000000000f", None),
+];
+
+#[test]
+fn ids_are_read_as_numbers(rt: HostRuntime) {
+    for (text, number) in &NUMBERS {
+        assert!(rt; id_read(IdKind::Allocation, *text) == *number, "{text}");
+    }
+}
