@@ -1,11 +1,11 @@
 """Prints what `./nsd serve --rotate 10000` keeps resident while it goes on and on.
 
-    python3 bench/forever.py           10 million reads of one job, and then 1 million registrations, of 500 jobs in turn
+    python3 bench/forever.py           10 million reads of one job, and then 1 million registrations of one job
     python3 bench/forever.py 2 0.5     other numbers, in millions
 
 One line after each million reads, and after each tenth of a million registrations. The requests go over one connection, 1,000 at a
 time, and are held back where the log that was read is 20,000 entries behind. A registration keeps an evaluation, so those make the
-server grow, by bytes that are printed; of one job alone each would take longer than the one before. Where the reads after the first million do, by more than the allocator's noise of 16 MB, the
+server grow, by bytes that are printed. Where the reads after the first million do, by more than the allocator's noise of 16 MB, the
 exit status is 1.
 """
 
@@ -20,7 +20,7 @@ from served import BATCH, Served
 MILLION = 1_000_000
 NOISE = 16 * 1024
 BEHIND = 20_000
-JOBS = 500
+JOBS = 1
 
 
 class Log:
