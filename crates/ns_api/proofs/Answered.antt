@@ -1,5 +1,5 @@
 -- Answers of steps.
-use Rattle.std.proofs.Common.{◌≡◌, ◌⊎◌, inl, inr, Option, Some, None, Ok, Err, true, false, refl, ap, sym, subst, ◌∙◌, IfOk}
+use Rattle.std.proofs.Common.{◌≡◌, inl, inr, Option, Some, None, Ok, Err, true, false, refl, ap, sym, subst, ◌∙◌, IfOk}
 use Rattle.std.specs.Prelude.{IsSomeAnd}
 use Rattle.ns_types.specs.declared.refusal.Refusal.{Refusal}
 use Rattle.ns_types.specs.declared.reply.Content.{Content}
@@ -21,8 +21,8 @@ use Rattle.ns_types.proofs.Tests.{is_no}
 use Rattle.ns_steps.specs.Served.{IsServed, IsToldBy, is_reading, only_reads, served}
 use Rattle.ns_steps.specs.Told.{Holds, Shape, is_of_write}
 use Rattle.ns_steps.proofs.Telling.{served_tells}
-use Rattle.ns_api.specs.Answering.{AnswersOrWants, IsWanting, ShowsOrWants}
-use Rattle.ns_api.specs.Rooms.{room_of}
+use Rattle.ns_api.specs.Answering.{AnswersOrWants, IsWanting}
+use Rattle.ns_api.specs.Rooms.{ShowsOrWants, room_of}
 
 rendered_refusal : (refusal : Refusal) → rendered (Err refusal) ≡ refused refusal
 unfolding rendered
@@ -31,29 +31,21 @@ rendered_refusal refusal = refl
 -- ---- answers of calls
 
 module _ {S : Type 0} (state : S → State) (notes : S → Step → Answer → S → Type 0) (lacks : S → Refusal → Type 0) where
-  -- a read that finds no memory for its reply was not made, or the server may lack that
-  unshown : (step : Step) (s s' : S) (answer : Answer) (reply : Rendered) → is_reading step ≡ true → IsMade state notes s step answer s' →
-      reply ≡ refused Refusal.Memory → (s' ≡ s) ⊎ lacks s Refusal.Memory → AnswersOrWants state notes lacks step s reply s'
-  unshown step s s' answer reply reading made e (inl same) = inr (Refusal.Memory, inl refl, (e, same))
-  unshown step s s' answer reply reading made e (inr lack) = inl (answer, made, inr (reading, lack, e))
+  shown_read : (step : Step) (s s' : S) (answer : Answer) (reply : Rendered) → IsMade state notes s step answer s' → s' ≡ s →
+      ShowsOrWants answer reply → AnswersOrWants state notes lacks step s reply s'
+  shown_read step s s' (Ok told) reply made same (inl e) = inl (Ok told, made, e)
+  shown_read step s s' (Ok told) reply made same (inr e) = inr (Refusal.Memory, inl refl, (e, same))
+  shown_read step s s' (Err refusal) reply made same e = inl (Err refusal, made, e ∙ sym (rendered_refusal refusal))
 
-  shown_read : (step : Step) (s s' : S) (answer : Answer) (reply : Rendered) → is_reading step ≡ true → IsMade state notes s step answer s' →
-      ShowsOrWants answer reply → (s' ≡ s) ⊎ lacks s Refusal.Memory → AnswersOrWants state notes lacks step s reply s'
-  shown_read step s s' (Ok told) reply reading made (inl e) rests = inl (Ok told, made, inl e)
-  shown_read step s s' (Ok told) reply reading made (inr e) rests = unshown step s s' (Ok told) reply reading made e rests
-  shown_read step s s' (Err refusal) reply reading made e rests =
-      inl (Err refusal, made, inl (e ∙ sym (rendered_refusal refusal)))
-
-  -- a read may find no memory for its reply
-  pub answers_read : (step : Step) (s s' : S) (answer : Answer) (reply : Rendered) → is_reading step ≡ true →
-      MakesOrLacks state notes (IsWanting lacks) s step answer s' → ((s' ≡ s) ⊎ lacks s Refusal.Memory) → ShowsOrWants answer reply →
-      AnswersOrWants state notes lacks step s reply s'
-  answers_read step s s' answer reply reading (inl made) rests e = shown_read step s s' answer reply reading made e rests
-  answers_read step s s' answer reply reading (inr l) rests e = inr (l.0, l.2, (subst (λ a. ShowsOrWants a reply) l.1 e, l.3))
+  -- a read that finds no memory for its reply was not made
+  pub answers_read : (step : Step) (s s' : S) (answer : Answer) (reply : Rendered) → MakesOrLacks state notes (IsWanting lacks) s step answer s' →
+      s' ≡ s → ShowsOrWants answer reply → AnswersOrWants state notes lacks step s reply s'
+  answers_read step s s' answer reply (inl made) same e = shown_read step s s' answer reply made same e
+  answers_read step s s' answer reply (inr l) same e = inr (l.0, l.2, (subst (λ a. ShowsOrWants a reply) l.1 e, l.3))
 
   pub answers_write : (step : Step) (s s' : S) (answer : Answer) (reply : Rendered) → MakesOrLacks state notes (IsWanting lacks) s step answer s' →
       reply ≡ rendered answer → AnswersOrWants state notes lacks step s reply s'
-  answers_write step s s' answer reply (inl made) e = inl (answer, made, inl e)
+  answers_write step s s' answer reply (inl made) e = inl (answer, made, e)
   answers_write step s s' answer reply (inr l) e = inr (l.0, l.2, (e ∙ ap rendered l.1 ∙ rendered_refusal l.0, l.3))
 
   -- nothing changed, for want of memory

@@ -1,14 +1,19 @@
 -- What a core, and a server with its log, do at a call for a step.
-use Rattle.std.proofs.Common.{◌≡◌, ◌∙◌, inl, inr, true, None, Ok, Err, refl, ap, sym}
+use Rattle.std.proofs.Common.{◌≡◌, ◌∙◌, inl, inr, true, Ok, Err, refl, ap, sym}
 use Rattle.ns_types.specs.declared.refusal.Refusal.{Refusal}
 use Rattle.ns_types.specs.declared.step.Step.{Step}
 use Rattle.ns_types.specs.State.Rows.{State}
 use Rattle.ns_types.specs.Steps.{Answer, Makes, after, said}
 use Rattle.ns_chains.specs.Chains.{MakesOrLacks}
-use Rattle.ns_held.specs.Logs.{History, IsNoted, Logs}
+use Rattle.ns_types.specs.declared.reply.Rendered.{Rendered}
+use Rattle.ns_types.specs.declared.reply.Response.{Response}
+use Rattle.ns_types.specs.Wire.Refused.{refused}
+use Rattle.ns_types.specs.Wire.Responses.{rendered_of}
+use Rattle.ns_held.specs.Logs.{History, IsNoted}
+use Rattle.ns_held.specs.Rendered.{LogsRendered}
 use Rattle.ns_steps.specs.Served.{IsServed, is_reading}
 use Rattle.ns_steps.proofs.Telling.{reading_rests, served_decides}
-use Rattle.ns_api.specs.Answering.{IsWanting}
+use Rattle.ns_api.specs.Answering.{AnswersOrWants, IsWanting}
 use Rattle.ns_api.specs.Lacking.{LacksNothing, LacksRoom}
 
 -- ---- what is no more than a core
@@ -41,11 +46,15 @@ module _ {S : Type 0} (state : S → State) where
 
 -- ---- a server with its log
 
-abbrev HeldTakes : History → Step → Answer → History → Type 0
-HeldTakes = MakesOrLacks (λ h. h.state) IsNoted (IsWanting LacksRoom)
+module _ (step : Step) (old new : History) where
+  abbrev HeldAnswers : Rendered → Type 0
+  HeldAnswers reply = AnswersOrWants (λ h. h.state) IsNoted LacksRoom step old reply new
 
-pub held_takes : (step : Step) (old new : History) (answer : Answer) → IsServed step → Logs step old answer new → HeldTakes old step answer new
-held_takes step old new (Err Refusal.LogFull) served l = inr (Refusal.LogFull, refl, inr (inl (refl, l.0)), l.1)
-held_takes step old new (Err Refusal.Memory) served l = inr (Refusal.Memory, refl, inl refl, l.1)
-held_takes step old new (Err Refusal.NotEnabled) served l = absurd (served_decides step old.state served l.1)
-held_takes step old new answer served l = inl l.1
+  pub held_answers : {A : Type 0} (receipt : Rendered) (response : Response A) → LogsRendered step old (Ok (receipt, response)) new →
+      HeldAnswers (rendered_of response)
+  held_answers receipt response l = inl (l.1.0, l.1.1, l.1.2.1)
+
+  pub held_wants : (A : Type 0) (refusal : Refusal) → LogsRendered {A = A} step old (Err refusal) new → HeldAnswers (refused refusal)
+  held_wants A Refusal.LogFull l = inr (Refusal.LogFull, inr (refl, l.0), (refl, l.1))
+  held_wants A Refusal.Memory l = inr (Refusal.Memory, inl refl, (refl, l.1))
+  held_wants A _ l = absurd l

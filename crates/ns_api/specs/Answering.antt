@@ -1,5 +1,5 @@
 -- What a request is answered, what a server does of itself after it, and the steps that a connection makes.
-use Rattle.std.specs.Prelude.{◌≡◌, ◌⊎◌, ℕ, List, [], ◌∷◌, ◌++◌, true, Result, Ok, Err}
+use Rattle.std.specs.Prelude.{◌≡◌, ◌⊎◌, ℕ, List, [], ◌∷◌, ◌++◌, Result, Ok, Err}
 use Rattle.ns_types.specs.declared.refusal.Refusal.{Refusal}
 use Rattle.ns_types.specs.declared.refusal.Refusal.TheVariants.{Memory}
 use Rattle.ns_types.specs.declared.reply.Rendered.{Rendered}
@@ -11,7 +11,6 @@ use Rattle.ns_types.specs.Steps.{Answer, Run}
 use Rattle.ns_types.specs.Wire.Responses.{Exchange, refusal_of}
 use Rattle.ns_chains.specs.Chains.{Chain, IsMade}
 use Rattle.ns_json.specs.Replies.{rendered}
-use Rattle.ns_steps.specs.Served.{is_reading}
 use Rattle.ns_asked.specs.Asking.{asked}
 use Rattle.ns_asked.specs.Drawing.{DrawsFor}
 
@@ -31,24 +30,11 @@ AnswersRefused refusal old reply new = (reply ≡ refused refusal) × (new ≡ o
 abbrev pub IsWanting : {S : Type 0} → (S → Refusal → Type 0) → S → Refusal → Type 0
 IsWanting lacks s refusal = (refusal ≡ Memory) ⊎ lacks s refusal
 
--- the rendering of an answer, where that of a reply may be refused for want of memory
-abbrev pub ShowsOrWants : Answer → Rendered → Type 0
-ShowsOrWants (Ok told) reply = (reply ≡ rendered (Ok told)) ⊎ (reply ≡ refused Memory)
-ShowsOrWants (Err refusal) reply = reply ≡ refused refusal
-
 -- by the state for which a server stands, what a step notes besides, and what the server may lack
 module _ {S : Type 0} (state : S → State) (notes : S → Step → Answer → S → Type 0) (lacks : S → Refusal → Type 0) where
-  -- a read that was made finds no memory for its reply, where the server may lack that even then
-  abbrev pub IsUnshown : Step → S → Rendered → Type 0
-  IsUnshown step s reply = (is_reading step ≡ true) × lacks s Memory × (reply ≡ refused Memory)
-
-  -- the rendering of the answer of a step
-  abbrev pub Shows : Step → S → Answer → Rendered → Type 0
-  Shows step s answer reply = (reply ≡ rendered answer) ⊎ IsUnshown step s reply
-
   -- the answer of the step, which was made
   abbrev pub AnswersStep : Step → S → Rendered → S → Type 0
-  AnswersStep step s reply s' = (answer : Answer) × IsMade state notes s step answer s' × Shows step s answer reply
+  AnswersStep step s reply s' = (answer : Answer) × IsMade state notes s step answer s' × (reply ≡ rendered answer)
 
   -- the step was not made, for want of something, which changes nothing
   abbrev pub AnswersWant : S → Rendered → S → Type 0
@@ -84,7 +70,7 @@ module _ {S : Type 0} (state : S → State) (notes : S → Step → Answer → S
       pub wanted : Step
       pub asks_wanted : asks ≡ Ok wanted
       pub draws_made : DrawsFor draws wanted old made new
-      pub shows_told : Shows made s told reply
+      pub shows_told : reply ≡ rendered told
 
     -- the step that a request made itself with its answer, if it made one
     abbrev pub MakesOwn : Result Step Refusal → S → D → Rendered → D → List Step → List Answer → Type 0

@@ -7,12 +7,12 @@ ghost use Rattle.ns_api.specs.Following.{driver_of};
 
 use crate::answering::{Api, Takes};
 use crate::following::{Driven, Driver};
+use crate::responding::respond;
 use ns_asked::Draws;
 use ns_core::Core;
 use ns_held::Held;
 use ns_types::name::Secret;
-use ns_types::refusal::Refusal;
-use ns_types::reply::Reply;
+use ns_types::reply::Response;
 use ns_types::step::Step;
 use std::alloc::{AllocError, Global};
 
@@ -21,10 +21,8 @@ impl Takes for Core {
 
     ghost lacks = { LacksNothing };
 
-    fn take(&mut self, _alloc: Global, step: Step) -> Result<Reply, Refusal> {
-        let answer = self.take(&step);
-        drop(step);
-        answer
+    fn respond(&mut self, alloc: Global, step: Step) -> Response {
+        respond(alloc, self, step)
     }
 }
 
@@ -33,8 +31,14 @@ impl Takes for Held {
 
     ghost lacks = { LacksRoom };
 
-    fn take(&mut self, alloc: Global, step: Step) -> Result<Reply, Refusal> {
-        self.take(alloc, step)
+    fn respond(&mut self, alloc: Global, step: Step) -> Response {
+        match self.take_rendered(alloc, step) {
+            Ok((receipt, response)) => {
+                drop(receipt);
+                response
+            }
+            Err(refusal) => Response::Refused(refusal),
+        }
     }
 }
 

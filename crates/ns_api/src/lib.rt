@@ -5,9 +5,11 @@ mod answering;
 mod cores;
 mod following;
 pub mod laws;
+mod responding;
 mod serving;
 
 pub use answering::{Api, Takes};
 pub use cores::{close, close_held, open, open_held};
 pub use following::{Driven, Driver, Follows, NoFollower};
+pub use responding::respond;
 pub use serving::serve;

@@ -8,7 +8,6 @@ mod noting;
 mod preparing;
 mod rendered;
 mod rendering;
-mod requests;
 mod rotation;
 mod work;
 

@@ -1,10 +1,9 @@
 //! The core that a server lends for one request.
 
-use ns_api::Takes;
+use ns_api::{Takes, respond};
 use ns_chains::Server;
 use ns_core::Core;
-use ns_types::refusal::Refusal;
-use ns_types::reply::Reply;
+use ns_types::reply::Response;
 use ns_types::step::Step;
 use std::alloc::Global;
 
@@ -24,9 +23,7 @@ impl Takes for Lent<'_> {
 
     ghost lacks = { LacksNothing };
 
-    fn take(&mut self, _alloc: Global, step: Step) -> Result<Reply, Refusal> {
-        let answer = self.core.take(&step);
-        drop(step);
-        answer
+    fn respond(&mut self, alloc: Global, step: Step) -> Response {
+        respond(alloc, self.core, step)
     }
 }
