@@ -4,7 +4,8 @@ A part begins by one of these lines:
 
     === log NAME                 requests over one connection, and the log that is printed of them; no worker is driven
     === log driven NAME          the same where a worker is driven after each request
-    === alone NS FROM NAME       a log, and what `nsd alone NS --from FROM` prints of it
+    === alone NS FROM NAME       a log, and what `nsd alone NS --from FROM` prints of it; in front of NAME may stand `--pool POOL` and
+                                 `--quota QUOTA`, each any number of times, as `nsd alone` takes them
     === rounds NS FROM TIMES NAME    requests, then `--- again` and requests that are made TIMES times, a worker driven;
                                  of their log, what `nsd alone` prints last and how many lines there are
 
@@ -78,10 +79,10 @@ def put_quota(name, cpu, memory, secret="root"):
     return admin("PutQuota", {"Doc": {"Description": "", "Limits": [limit], "Name": name}}, secret)
 
 
-def put_namespace(name, default, allowed, quota="", description=""):
+def put_namespace(name, default, allowed, quota="", description="", secret="root"):
     pools = {"Allowed": allowed, "Default": default, "Denied": []}
     doc = {"Description": description, "Name": name, "NodePoolConfiguration": pools, "Quota": quota}
-    return admin("PutNamespace", {"Doc": doc})
+    return admin("PutNamespace", {"Doc": doc}, secret)
 
 
 def put_node(pool, name, cpu=1000, memory=1024, secret="root"):
@@ -96,6 +97,14 @@ def put_policy(name, rules):
 def token_given(policies):
     doc = {"AccessorID": UUID + "8", "Name": "", "Policies": policies, "SecretID": UUID + "1", "Type": "client"}
     return entry(admin("CreateToken", {"Doc": doc}), compact(doc))
+
+
+def refused(step, status, text):
+    return entry(step, text, None, status)
+
+
+def denied(step):
+    return refused(step, 403, "Permission denied")
 
 
 def groups(count, cpu, memory):
@@ -157,16 +166,18 @@ def step_changed(log, place, **members):
 
 
 class Logs(Parts):
-    def alone(self, name, log, printed, status, ns="ta", first=8):
+    def alone(self, name, log, printed, status, ns="ta", first=8, lists=""):
+        """The lists are words: `--pool` or `--quota`, and a name."""
         text = log if isinstance(log, str) else log_of(log)
-        self.add(f"alone {ns} {first} {name}", text, printed, status)
+        head = " ".join(["alone", ns, str(first), *lists.split(), name])
+        self.add(head, text, printed, status)
 
-    def fault(self, name, log, own, fault, ns="ta", first=8):
+    def fault(self, name, log, own, fault, ns="ta", first=8, lists=""):
         """The lines of the own entries at these places, and then the fault."""
-        self.alone(name, log, lines_of(log, own) + fault + "\n", 1, ns, first)
+        self.alone(name, log, lines_of(log, own) + fault + "\n", 1, ns, first, lists)
 
-    def same(self, name, log, own, ns="ta", first=8):
-        self.alone(name, log, lines_of(log, own) + "same\n", 0, ns, first)
+    def same(self, name, log, own, ns="ta", first=8, lists=""):
+        self.alone(name, log, lines_of(log, own) + "same\n", 0, ns, first, lists)
 
     def bad(self, name, text, line):
         self.alone(name, text, f"bad log line {line}\n", 2)
@@ -220,14 +231,15 @@ def before(place):
 
 def lists(parts):
     """Two lists of jobs, and a stranger's registration between them."""
-    parts.same("a_tenant_alone", LISTS, [8, 10])
-    parts.fault("an_altered_reply", changed(LISTS, 10, Body="[1]"), [8], "differs at 10")
-    parts.fault("before_it_is_there", LISTS, [], "premise fails at 0", first=0)
+    parts.alone("replay_alone", LISTS, "8 200 []\n10 200 []\nsame\n", 0)
+    parts.alone("replay_alone_altered", changed(LISTS, 10, Body="[1]"), "8 200 []\ndiffers at 10\n", 1)
+    parts.alone("replay_alone_from_the_beginning", LISTS, "premise fails at 4\n", 1, first=0)
     parts.same("nothing_after_the_base", LISTS, [], first=11)
     parts.same("a_base_of_all", LISTS, [], first=99)
     parts.same("the_other_tenant", LISTS, [9], ns="tb")
-    parts.fault("a_namespace_that_is_not_there", LISTS, [], "premise fails at 8", ns="nobody")
+    parts.same("a_namespace_that_is_not_there", LISTS, [], ns="nobody")
     parts.same("the_first_namespace", LISTS, [], ns="default")
+    parts.fault("the_first_namespace_of_every_pool", LISTS, [], "premise fails at 0", ns="default", first=0)
 
 
 def answers(parts):
@@ -252,9 +264,9 @@ def steps(parts):
     def altered(name, place, own, fault, **members):
         parts.fault(name, step_changed(ROUNDS, place, **members), own, fault)
 
-    altered("asked_by_nobody", 9, [], "not a run at 9", Secret=None)
-    altered("asked_by_a_stranger", 9, [], "not a run at 9", Secret="stranger")
-    altered("asked_with_an_empty_secret", 9, [], "not a run at 9", Secret="")
+    altered("asked_by_nobody", 9, [], "differs at 9", Secret=None)
+    altered("asked_by_a_stranger", 9, [], "differs at 9", Secret="stranger")
+    altered("asked_with_an_empty_secret", 9, [], "differs at 9", Secret="")
     altered("asked_elsewhere", 9, [], "not a run at 9", Ns="tb")
     altered("asked_in_no_namespace", 9, [], "not a run at 9", Ns="")
     altered("taken_by_another_worker", 11, [9, 11], "differs at 12", Worker=2)
@@ -363,42 +375,227 @@ def segments(parts):
 
 
 def administrators(parts):
-    """What administrators may do beside a tenant, and what fails a premise."""
+    """What administrators ask beside a tenant and of it, and what fails a premise."""
 
-    def after(name, between, fault=None):
+    def after(name, between, own, fault=None):
+        """The steps between at the places that are own are so, and so is the list behind them, which comes if there is no fault."""
         log = [*SETUP, *between, LISTED]
         if fault is None:
-            parts.same(name, log, [8 + len(between)])
+            parts.same(name, log, [*own, 8 + len(between)])
         else:
-            parts.fault(name, log, [], f"premise fails at {fault}")
+            parts.fault(name, log, own, f"premise fails at {fault}")
 
     read = 'namespace "%s" { policy = "read" }'
-    after("a_quota_of_another", [entry(put_quota("qb", 5, 5))])
-    after("its_quota_raised", [entry(put_quota("qa", 2000, 1024))], 8)
-    after("its_quota_put_as_it_was", [entry(put_quota("qa", 1000, 1024))])
-    after("its_quota_shared", [entry(put_namespace("tb", "west", ["west"], "qa"))], 8)
-    after("its_pool_shared", [entry(put_namespace("tb", "west", ["west", "east"]))], 8)
-    after("a_namespace_of_every_pool", [entry(put_namespace("tc", "west", None))], 8)
-    after("a_namespace_of_other_pools", [entry(put_namespace("tc", "west", []))])
-    after("its_record_put_as_it_was", [entry(put_namespace("ta", "east", ["east"], "qa"))])
-    after("its_description_changed", [entry(put_namespace("ta", "east", ["east"], "qa", "a"))], 8)
-    after("its_pool_described", [entry(put_pool("east", "a"))], 8)
-    after("a_pool_of_another_described", [entry(put_pool("west", "a"))])
-    after("a_policy_of_nobody", [entry(put_policy("p", read % "ta"))])
-    after("a_policy_for_those_without_a_token", [entry(put_policy("anonymous", read % "ta"))], 8)
-    after("a_token_with_a_right_there", [entry(put_policy("p", read % "t*")), token_given(["p"])], 9)
-    after("a_policy_that_a_token_has", [token_given(["p"]), entry(put_policy("p", read % "ta"))], 9)
-    after("a_token_with_a_right_elsewhere", [entry(put_policy("p", read % "tb")), token_given(["p"])])
+    after("a_quota_of_another", [entry(put_quota("qb", 5, 5))], [])
+    after("its_quota_raised", [entry(put_quota("qa", 2000, 1024))], [8])
+    after("its_quota_put_as_it_was", [entry(put_quota("qa", 1000, 1024))], [8])
+    after("its_quota_shared", [entry(put_namespace("tb", "west", ["west"], "qa"))], [], 8)
+    after("its_pool_shared", [entry(put_namespace("tb", "west", ["west", "east"]))], [], 8)
+    after("a_namespace_of_every_pool", [entry(put_namespace("tc", "west", None))], [], 8)
+    after("a_namespace_of_other_pools", [entry(put_namespace("tc", "west", []))], [])
+    after("its_record_put_as_it_was", [entry(put_namespace("ta", "east", ["east"], "qa"))], [8])
+    after("its_description_changed", [entry(put_namespace("ta", "east", ["east"], "qa", "a"))], [8])
+    after("its_pool_described", [entry(put_pool("east", "a"))], [8])
+    after("a_pool_of_another_described", [entry(put_pool("west", "a"))], [])
+    after("a_policy_of_nobody", [entry(put_policy("p", read % "ta"))], [8])
+    after("a_policy_for_those_without_a_token", [entry(put_policy("anonymous", read % "ta"))], [8])
+    after("a_token_with_a_right_there", [entry(put_policy("p", read % "t*")), token_given(["p"])], [8, 9])
+    after("a_policy_that_a_token_has", [token_given(["p"]), entry(put_policy("p", read % "ta"))], [8, 9])
+    after("a_token_with_a_right_elsewhere", [entry(put_policy("p", read % "tb")), token_given(["p"])], [8, 9])
     pool_rule = 'node_pool "east" { policy = "read" }'
-    after("a_token_with_a_right_on_its_pool", [entry(put_policy("p", pool_rule)), token_given(["p"])], 9)
-    after("a_stranger_is_refused", [entry(list_jobs("ta", "stranger"), "Permission denied", None, 403)])
+    after("a_token_with_a_right_on_its_pool", [entry(put_policy("p", pool_rule)), token_given(["p"])], [8, 9])
+    after("a_stranger_is_refused", [denied(list_jobs("ta", "stranger"))], [8])
     given = [*SETUP, entry(put_policy("p", read % "ta")), token_given(["p"]), LISTED]
     taken = [*given, entry(admin("DeletePolicy", {"Name": "p"})), LISTED]
-    parts.fault("a_right_of_the_base_taken_away", taken, [10], "premise fails at 11", first=10)
+    parts.same("a_right_of_the_base_taken_away", taken, [10, 11, 12], first=10)
     with_token = [*given[:10], entry(list_jobs("ta", UUID + "1"), "[]", 0)]
     parts.same("asked_with_a_token_of_the_base", with_token, [10], first=10)
     shared = entry(put_namespace("tb", "west", ["west"], "qa"), "[]")
     parts.fault("shared_and_logged_otherwise", [*SETUP, shared], [], "premise fails at 8")
+
+
+WEB = compact([{"ID": "web", "JobModifyIndex": 1, "Namespace": "ta", "Priority": 50, "Status": "pending", "Type": "service"}])
+
+
+def records(parts):
+    """What administrators ask of a tenant's record, its pool and its quota."""
+    again = entry(put_namespace("ta", "east", ["east"], "qa"))
+    foreign = put_namespace("ta", "east", ["east", "west"], "qa")
+    unknown = put_namespace("ta", "east", ["east", "north"], "qa")
+    parts.fault("its_record_gets_a_foreign_pool", [*SETUP, LISTED, entry(foreign), LISTED], [8], "premise fails at 9")
+    by_stranger = put_namespace("ta", "east", ["east", "west"], "qa", "", "stranger")
+    parts.same("a_stranger_puts_its_record_with_a_foreign_pool", [*SETUP, LISTED, denied(by_stranger), LISTED], [8, 10])
+    parts.same("its_record_with_a_pool_that_is_not_there", [*SETUP, LISTED, refused(unknown, 400, "bad field: Allowed"), LISTED], [8, 10])
+    in_use = refused(put_namespace("ta", "west", ["west"], "qa"), 400, "in use")
+    web = [entry(register("ta", "web", 1, 400, 256), registered(1, 1), 1)]
+    listed = entry(list_jobs("ta"), WEB, 1)
+    parts.same("its_record_keeps_a_pool_in_use", [*SETUP, *web, in_use, listed], [8, 10])
+    no_quota = refused(put_namespace("ta", "east", ["east"]), 400, "in use")
+    parts.same("its_record_keeps_a_quota_in_use", [*SETUP, *web, no_quota, listed], [8, 9, 10])
+    parts.same("its_record_loses_its_quota", [*SETUP, entry(put_namespace("ta", "east", ["east"])), LISTED], [8, 9])
+    parts.fault("its_record_of_every_pool", [*SETUP, LISTED, entry(put_namespace("ta", "east", None, "qa"))], [8], "premise fails at 9")
+    gone = [entry(admin("DeleteNamespace", {"Name": "ta"})), refused(list_jobs("ta"), 404, "not found")]
+    parts.same("its_record_deleted_and_put_anew", [*SETUP, LISTED, *gone, again, LISTED], [8, 9, 10, 11, 12])
+    kept = refused(admin("DeleteNamespace", {"Name": "ta"}), 400, "in use")
+    parts.same("its_record_with_a_job_stays", [*SETUP, *web, kept, listed], [8, 9, 10])
+    taken = entry(put_namespace("tb", "west", ["west", "east"]))
+    parts.fault("its_pool_given_away_while_it_is_gone", [*SETUP, *gone, taken], [8, 9], "premise fails at 10")
+    other = [entry(admin("DeleteNamespace", {"Name": "tb"})), entry(put_namespace("tb", "west", ["west"]))]
+    parts.same("the_record_of_another_deleted_and_put_anew", [*SETUP, LISTED, *other, LISTED], [8, 11])
+
+
+def owned(parts):
+    """What administrators ask of quotas and pools, and for lists."""
+    limit = {"Region": "global", "RegionLimit": {"CPU": 1000, "DiskMB": 0, "MemoryMB": 1024}}
+    quota = {"Description": "", "Limits": [limit], "Name": "qa"}
+    pools = [{"Description": "", "Name": name} for name in ("default", "east", "west")]
+    spaces = [
+        {"Description": "", "Name": name, "NodePoolConfiguration": {"Allowed": [pool], "Default": pool, "Denied": []}, "Quota": own}
+        for name, pool, own in [("default", "default", ""), ("ta", "east", "qa"), ("tb", "west", "")]
+    ]
+    asked = [
+        entry(admin("ReadQuota", {"Name": "qa"}), compact(quota)),
+        refused(admin("ReadQuota", {"Name": "qb"}), 404, "not found"),
+        denied(admin("ReadQuota", {"Name": "qa"}, "stranger")),
+        refused(admin("DeleteQuota", {"Name": "qa"}), 400, "in use"),
+        refused(admin("DeleteQuota", {"Name": "qb"}), 404, "not found"),
+        refused(admin("DeletePool", {"Name": "east"}), 400, "in use"),
+        refused(admin("DeletePool", {"Name": "west"}), 400, "in use"),
+        entry(admin("ListQuotas", {}), compact([quota])),
+        entry(admin("ListPools", {}), compact(pools)),
+        entry(admin("ListNamespaces", {}), compact(spaces)),
+        denied(admin("ListQuotas", {}, "stranger")),
+        LISTED,
+    ]
+    parts.same("its_quota_and_its_pool", [*SETUP, *asked], [8, 10, 11, 13, 19])
+
+
+def access(parts):
+    """What administrators ask of policies and tokens, which are own steps of each namespace."""
+    rules = 'namespace "tb" { policy = "read" }'
+    policy = {"Description": "", "Name": "p", "Rules": rules}
+    asked = [
+        refused(admin("ReadPolicy", {"Name": "p"}), 404, "not found"),
+        entry(put_policy("p", rules)),
+        entry(admin("ReadPolicy", {"Name": "p"}), compact(policy)),
+        token_given(["p"]),
+        denied(admin("ReadPolicy", {"Name": "p"}, UUID + "1")),
+        denied(list_jobs("ta", UUID + "1")),
+        entry(list_jobs("tb", UUID + "1"), "[]", 0),
+        entry(admin("DeleteToken", {"AccessorID": UUID + "8"})),
+        denied(list_jobs("tb", UUID + "1")),
+        entry(admin("DeletePolicy", {"Name": "p"})),
+        refused(admin("DeletePolicy", {"Name": "p"}), 404, "not found"),
+        LISTED,
+    ]
+    parts.same("policies_and_tokens", [*SETUP, *asked], [8, 9, 10, 11, 12, 13, 15, 17, 18, 19])
+    parts.same("policies_and_tokens_for_the_other", [*SETUP, *asked], [8, 9, 10, 11, 12, 14, 15, 16, 17, 18], ns="tb")
+
+
+def given_lists(parts):
+    """Pools and quotas that are named, in place of those that the namespace has in the base."""
+    parts.same("with_its_pool_and_its_quota", LISTS, [8, 10], lists="--pool east --quota qa")
+    parts.same("with_names_twice_and_of_nothing", LISTS, [8, 10], lists="--quota qz --pool east --pool north --quota qa --pool east")
+    parts.fault("with_its_pool_alone", LISTS, [], "premise fails at 8", lists="--pool east")
+    parts.fault("with_its_quota_alone", LISTS, [], "premise fails at 8", lists="--quota qa")
+    parts.same("with_its_pool_alone_where_it_names_no_quota", LISTS, [9], ns="tb", lists="--pool west")
+    parts.fault("with_a_pool_of_another", LISTS, [], "premise fails at 8", lists="--pool east --pool west --quota qa")
+    parts.fault("with_another_pool", LISTS, [], "premise fails at 8", lists="--pool north --quota qa")
+    south = [*SETUP, entry(put_pool("south"))]
+    both = "--pool east --pool south --quota qa"
+    wider = [*south, entry(put_namespace("ta", "east", ["east", "south"], "qa")), LISTED]
+    parts.same("it_gets_a_pool_of_the_list", wider, [8, 9, 10], lists=both)
+    parts.fault("it_gets_a_pool_that_is_not_listed", wider, [], "premise fails at 9")
+    another = [*south, entry(put_namespace("tb", "west", ["west", "south"])), LISTED]
+    parts.fault("another_gets_a_pool_of_the_list", another, [8], "premise fails at 9", lists=both)
+    parts.same("another_gets_a_pool_that_is_not_listed", another, [10])
+    quotas = [*SETUP, entry(put_quota("qb", 5, 5)), entry(put_namespace("tb", "west", ["west"], "qb")), LISTED]
+    parts.fault("another_gets_a_quota_of_the_list", quotas, [8], "premise fails at 9", lists="--pool east --quota qa --quota qb")
+    parts.same("another_gets_a_quota_that_is_not_listed", quotas, [10])
+
+
+def reports(parts):
+    """A neighbour's allocation in a pool that is the tenant's since, which was told to stop and is reported ended."""
+    moved = [
+        entry(put_pool("east")),
+        entry(put_pool("west")),
+        entry(put_namespace("default", "default", ["default"])),
+        entry(put_namespace("tb", "east", ["east", "west"])),
+        entry(put_node("east", "n1")),
+        entry(register("tb", "x", 1, 400, 256), registered(1, 1), 1),
+        *driven("tb", 1, [1]),
+        entry(ask("tb", "Deregister", {"ID": "x", "Purge": True}), registered(4, 2), 4),
+        took("tb", 0, 2),
+        looked("tb", 0, 2),
+        handed_in("tb", 0, 2),
+        applied("tb", 0, []),
+        finished("tb", 0),
+        entry(put_namespace("tb", "west", ["west"])),
+        entry(put_namespace("ta", "east", ["east"])),
+    ]
+
+    def report(ns):
+        return node("east", "Report", {"ClientStatus": "complete", "Name": "n1", "Namespace": ns, "Number": 1})
+
+    log = [*moved, LISTED, entry(report("tb")), LISTED, entry(report("tb")), refused(report("ta"), 404, "not found")]
+    parts.same("a_report_of_the_allocation_of_another", log, [19, 21, 23], first=19)
+    parts.fault("what_it_was_told_to_stop_may_run_elsewhere", log, [], "premise fails at 19", ns="tb", first=19)
+    parts.same("what_it_was_told_to_stop_has_ended_elsewhere", log, [], ns="tb", first=21)
+
+
+def tenants_administration(parts):
+    """A tenant is laid out, and its quota changed, beside another."""
+    log = [
+        entry(put_namespace("default", "default", ["default"])),
+        entry(put_pool("east")),
+        entry(put_pool("west")),
+        entry(put_quota("qa", 1000, 1024)),
+        entry(put_namespace("ta", "east", ["east"], "qa")),
+        entry(put_namespace("tb", "west", ["west"])),
+        entry(put_node("east", "n1")),
+        entry(put_node("west", "n1")),
+        LISTED,
+        entry(put_quota("qa", 500, 1024)),
+        entry(register("tb", "web", 1, 100, 300), registered(1, 1), 1),
+        LISTED,
+    ]
+    lists = "--pool east --quota qa"
+    printed = "1 200 {}\n3 200 {}\n4 200 {}\n6 200 {}\n8 200 []\n9 200 {}\n11 200 []\nsame\n"
+    parts.alone("tenants_administration", log, printed, 0, first=1, lists=lists)
+    parts.alone("tenants_administration_from_the_beginning", log, "premise fails at 0\n", 1, first=0, lists=lists)
+
+
+def quota_change_wakes(parts):
+    """An evaluation waits for its quota, and is woken by other limits."""
+    evaluation = {
+        **{"BlockedEval": "", "CreateIndex": 2, "EscapedComputedClass": False, "ID": ident(1, 2), "JobID": "web", "ModifyIndex": 3},
+        **{"Namespace": "ta", "NodePool": "east", "PreviousEval": ident(1, 1), "Priority": 50, "QuotaLimitReached": "qa"},
+        **{"Status": "pending", "TriggeredBy": "queued-allocs", "Type": "service"},
+    }
+    log = [
+        *SETUP[:2],
+        entry(put_quota("qa", -1, 1024)),
+        *SETUP[3:],
+        entry(register("ta", "web", 1, 400, 256), registered(1, 1), 1),
+        took("ta", 0, 1),
+        looked("ta", 0, 1),
+        finished("ta", 0, ident(1, 2)),
+        entry(put_quota("qa", 1000, 1024)),
+        entry(ask("ta", "ReadEvaluation", {"Number": 2}), compact(evaluation), 3),
+    ]
+    first, second = "00000000-0000-0001-0000-000000000001", "00000000-0000-0001-0000-000000000002"
+    printed = [
+        f'8 200 {{"EvalCreateIndex":1,"EvalID":"{first}","JobModifyIndex":1}}',
+        f'9 200 {{"Took":"{first}"}}',
+        f'10 200 {{"Snapped":"{first}"}}',
+        f'11 200 {{"Follower":"{second}","Status":"complete"}}',
+        "12 200 {}",
+        f'13 200 {{"BlockedEval":"","CreateIndex":2,"EscapedComputedClass":false,"ID":"{second}","JobID":"web","ModifyIndex":3,'
+        f'"Namespace":"ta","NodePool":"east","PreviousEval":"{first}","Priority":50,"QuotaLimitReached":"qa","Status":"pending",'
+        '"TriggeredBy":"queued-allocs","Type":"service"}',
+        "same",
+    ]
+    parts.alone("quota_change_wakes", log, "\n".join(printed) + "\n", 0)
 
 
 def sharing(parts):
@@ -468,10 +665,10 @@ def connections(parts):
     parts.logged("a_job_registered_and_read", post + last, two)
     parts.logged("the_last_request_cut_short", post + post[:-1], two[:1], 3, "read fault\n")
     parts.logged("no_request", "", [])
-    refused = "GET /v1/nothing HTTP/1.1\n\nGET /v1/job/web HTTP/1.1\n\n" + request("GET", "/v1/job/api") + last
-    denied = entry(ask("default", "ReadJob", {"ID": "web"}, None), "Permission denied", None, 403)
-    missed = entry(ask("default", "ReadJob", {"ID": "api"}), "not found", None, 404)
-    parts.logged("refused_without_the_state_and_by_it", refused, [denied, missed, entry(read, "not found", None, 404)])
+    given = "GET /v1/nothing HTTP/1.1\n\nGET /v1/job/web HTTP/1.1\n\n" + request("GET", "/v1/job/api") + last
+    by_nobody = denied(ask("default", "ReadJob", {"ID": "web"}, None))
+    missed = refused(ask("default", "ReadJob", {"ID": "api"}), 404, "not found")
+    parts.logged("refused_without_the_state_and_by_it", given, [by_nobody, missed, refused(read, 404, "not found")])
 
 
 def tutorial_laid_out(told):
@@ -539,17 +736,10 @@ def tutorial(parts):
     log = []
     for place, (step, (_, (words, body))) in enumerate(zip(steps, pairs, strict=True)):
         log += [entry(step, body, index_in(words), int(words[0])), *after.get(place, [])]
-    own = [place for place, line in enumerate(log) if is_own(line, "tb", "west", TEAM_B)]
-    parts.same("the_tutorial_for_tb", log, [place for place in own if place > 14], ns="tb", first=15)
-    own = [place for place, line in enumerate(log) if is_own(line, "ta", "east", TEAM_A)]
-    parts.fault("the_tutorial_for_ta", log, [place for place in own if 14 < place < 38], "premise fails at 38", first=15)
+    parts.same("the_tutorial_for_tb", log, [*range(21, 27), 30, *range(54, 58)], ns="tb", first=15)
+    own = [*range(15, 21), *range(27, 30), *range(31, 49), 50, 51]
+    parts.same("the_tutorial_for_ta", log, own, first=15)
     parts.same("the_tutorial_for_ta_behind_its_raised_quota", log, [place for place in own if place > 38], first=39)
-
-
-def is_own(line, ns, pool, secret):
-    """Whether the step is own of the namespace that has that pool, where that secret alone has rights there."""
-    step = json.loads(line)["Step"]
-    return step.get("Pool") == pool or (step.get("Ns") == ns and step.get("Secret", secret) == secret)
 
 
 def request(method, path, body=None):
@@ -602,12 +792,15 @@ def pasted(parts):
     """The log that docs/ISOLATION.md shows."""
     parts.same("the_log_to_paste", TWO_LISTS, [3, 5], first=3)
     parts.fault("the_log_to_paste_altered", changed(TWO_LISTS, 5, Body="[1]"), [3], "differs at 5", first=3)
-    parts.fault("the_log_to_paste_from_its_beginning", TWO_LISTS, [], "premise fails at 0", first=0)
+    parts.fault("the_log_to_paste_from_its_beginning", TWO_LISTS, [], "premise fails at 2", first=0)
+    parts.same("the_log_to_paste_with_its_pool", TWO_LISTS, [2, 3, 5], first=2, lists="--pool east")
+    parts.fault("the_log_to_paste_with_its_pool_too_early", TWO_LISTS, [], "premise fails at 1", first=1, lists="--pool east")
 
 
 def stored_parts():
     parts = Logs()
-    for add in (lists, answers, steps, bad_lines, segments, administrators, sharing, connections, tutorial, rounds, pasted):
+    beside = (administrators, records, owned, access, given_lists, reports, tenants_administration, quota_change_wakes, sharing)
+    for add in (lists, answers, steps, bad_lines, segments, *beside, connections, tutorial, rounds, pasted):
         add(parts)
     return parts
 

@@ -104,7 +104,7 @@ class Stored:
 def words_of(head):
     """The words with which the program would do what a stored log is for."""
     if head[0] == "alone":
-        return f"alone {head[1]} --from {head[2]}"
+        return " ".join(["alone", head[1], "--from", *head[2:-1]])
     return "pipe --bootstrap root" + (" --drive" if head[1] == "driven" else "") + " --print log"
 
 

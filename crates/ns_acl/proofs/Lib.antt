@@ -1,4 +1,3 @@
-pub mod Agreeing
 pub mod Answering
 pub mod Copied
 pub mod Counting

@@ -1,4 +1,3 @@
-pub mod Alike
 pub mod Bearers
 pub mod Gathered
 pub mod Tokens

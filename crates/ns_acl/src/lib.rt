@@ -2,7 +2,6 @@
 #![tactic(auto)]
 
 mod acl;
-mod alike;
 mod bearer;
 mod copying;
 mod gathering;

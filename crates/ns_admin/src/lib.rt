@@ -16,7 +16,7 @@ mod writing;
 pub use beginning::opening;
 pub use laws::{administration_makes, administration_settles, administration_stays_within};
 pub use lists::{list_namespaces, list_pools, list_quotas};
-pub use looking::{is_confined_in, permits_in, shares};
+pub use looking::{is_confined_in, is_full, permits_in, shares};
 pub use namespaces::{delete_namespace, put_namespace};
 pub use pools::{delete_pool, put_pool};
 pub use quotas::{change_limits, delete_quota, is_relimited, put_quota, read_quota};

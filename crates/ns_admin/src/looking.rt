@@ -35,7 +35,7 @@ pub(crate) fn is_default(name: &Text) -> bool
 }
 
 /// Whether the table has no room for a new row of that name.
-pub(crate) fn is_full<V: Drop>(table: &NameTable<V>, name: &Text) -> bool
+pub fn is_full<V: Drop>(table: &NameTable<V>, name: &Text) -> bool
     ensures { result ≡ is_full (rows table.now) name.now }
 {
     match table.get(name) {

@@ -13,7 +13,9 @@ pub mod Working
 pub mod Evicting
 pub mod Applying
 pub mod Stepping
-pub mod Owning
+pub mod Orderly
+pub mod Bordering
+pub mod Records
 pub mod Heading
 pub mod Naming
 pub mod Fixed

@@ -1,8 +1,8 @@
-//! A choice of owners over whose border nothing reaches runs as if it were alone, and a namespace that shares no pool
-//! and no quota is such a choice. Every state that the server reaches is valid.
+//! A namespace that has its pools and its quotas to itself runs as if it were alone, administrators' steps on these names among
+//! its own. Every state that the server reaches is valid.
 
-ghost use Rattle.ns_audit.specs.Headline.{OtherStep, OwnStep, ReachedIsSteady, SteadyStep, StruckRun, StruckSteadyRun, UnsharedIsApart, ValidIsSteady};
-ghost use Rattle.ns_audit.specs.Laws.{OwnStepApart, OtherStepApart, StruckRunApart, SettlesAlone, SettlesIdle};
+ghost use Rattle.ns_audit.specs.Headline.{ApartIsFit, OtherStep, OwnStep, ReachedIsSteady, SteadyStep, StruckRun, StruckSteadyRun, ValidIsSteady};
+ghost use Rattle.ns_audit.specs.Laws.{OwnStepApart, OtherStepApart, SettlesAlone, SettlesIdle};
 ghost use Rattle.ns_audit.specs.Valid.{OpeningValid, ReachedIsValid, ValidStep};
 
 /// What a step does at its end, it does to the chosen owners as if there were no others.
@@ -15,19 +15,15 @@ pub fn settling_leaves_the_idle()
     ensures { SettlesIdle }
 {}
 
-/// A step that belongs to the chosen owners is answered alike in the server that holds them alone.
+/// A step of the chosen owners that no administrator asks for is answered alike by the server that holds them alone, and leads to
+/// the state that holds them alone.
 pub fn own_step_apart()
     ensures { OwnStepApart }
 {}
 
-/// Any other step changes nothing of the chosen owners.
+/// Any other step that no administrator asks for changes nothing of the chosen owners.
 pub fn other_step_apart()
     ensures { OtherStepApart }
-{}
-
-/// What remains of a run once the steps of others are struck out is a run of the server that holds the choice alone.
-pub fn struck_run_apart()
-    ensures { StruckRunApart }
 {}
 
 /// A valid state has all that isolation rests on.
@@ -45,26 +41,25 @@ pub fn reached_is_steady()
     ensures { ReachedIsSteady }
 {}
 
-/// A namespace that shares no pool and no quota, with its pools and its quota, is a choice over whose border nothing reaches.
-pub fn unshared_is_apart()
-    ensures { UnsharedIsApart }
+/// A namespace that is apart, with its pools and its quotas, is a choice over whose border nothing reaches.
+pub fn apart_is_fit()
+    ensures { ApartIsFit }
 {}
 
-/// A namespace that shares no pool and no quota, in a state that has what isolation rests on: a step of its own is answered
-/// alike by the server that holds it alone, index included, and the states agree again.
+/// A step of its own, an administrator's on its names or on the access lists among them, is answered alike by the server that
+/// holds it alone, index included, and the states agree again.
 pub fn own_step()
     ensures { OwnStep }
 {}
 
-/// A namespace that shares no pool and no quota, in a state that has what isolation rests on: any other step, if an
-/// administrator's then one that leaves its tables alone, changes nothing that it has.
+/// Any other step that leaves it apart changes nothing that it has, and no access list.
 pub fn other_step()
     ensures { OtherStep }
 {}
 
-/// From every valid state, in every run in which a namespace shares no pool and no quota and administrators leave its
-/// tables alone: what remains once the steps that are not its own are struck out is a run of the server that holds it
-/// alone, with the same answers, and what it has is the same in the end.
+/// From every valid state, in every run in which a namespace, with a list of pools and quotas, shares none of them: what remains
+/// once the steps that are neither its own nor an administrator's on those names or on the access lists are struck out is a run
+/// of the server that holds it alone, with the same answers, and what it has is the same in the end.
 pub fn struck_run()
     ensures { StruckRun }
 {}

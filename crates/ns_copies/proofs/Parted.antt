@@ -1,14 +1,10 @@
 -- The world of which a part is copied.
-use Rattle.std.specs.Prelude.{◌≡◌, Bool, true, false, List, Option, Some, None, filter, option_copied, option_map}
-use Rattle.std.proofs.Common.{Bor, refl, ap, ◌∙◌}
+use Rattle.std.specs.Prelude.{◌≡◌, true, List, filter, option_map}
+use Rattle.std.proofs.Common.{refl, ap, ◌∙◌}
 use Rattle.std.specs.FinMap.{retain_keys}
-use Rattle.std.specs.Option.{option_map_or}
-use Rattle.ns_types.specs.Access.Sharing.{permits}
-use Rattle.ns_types.specs.Isolation.{Part, alone_in, namespace_at, part_of}
-use Rattle.ns_types.specs.declared.records.Namespace.{Namespace}
-use Rattle.ns_types.specs.State.Names.{Key, Name, same_name}
+use Rattle.ns_types.specs.Isolation.{Part, alone_in}
+use Rattle.ns_types.specs.State.Names.{Key}
 use Rattle.ns_types.specs.State.Rows.{World}
-use Rattle.ns_types.specs.State.Sums.{names_quota}
 use Rattle.ns_types.specs.Validity.{IsSound}
 use Rattle.ns_types.proofs.Lists.{each, filter_all}
 use Rattle.ns_types.proofs.Named.{names, one_name}
@@ -57,18 +53,3 @@ all_is_whole w = λ i. record {
   where
     keys_all : (keys : List Key) → filter (λ (key : Key). is_chosen Chosen.All key.0) keys ≡ keys
     keys_all keys = filter_all (λ (key : Key). true) keys (each (λ (key : Key). true ≡ true) (λ _. refl) keys)
-
--- ---- what a namespace has
-
-at_record : (f : Namespace → Bool) (row : Option (Bor Namespace)) (there : Option Namespace) → option_copied row ≡ there →
-    option_map_or (λ namespace. f namespace.now) row false ≡ option_map_or f there false
-at_record f None there is = ap (λ r. option_map_or f r false) is
-at_record f (Some namespace) there is = ap (λ r. option_map_or f r false) is
-
-pub chosen_is_part : (w : World) (ns : Bor Name) (row : Option (Bor Namespace)) → option_copied row ≡ namespace_at w ns.now →
-    chosen_part (Chosen.Only ns) (Chosen.PoolsOf row) (Chosen.QuotaOf row) ≡ part_of w ns.now
-chosen_is_part w ns row is = λ i. record {
-  spaces = same_name ns.now;
-  pools = λ pool. at_record (λ namespace. permits namespace pool) row (namespace_at w ns.now) is i;
-  quotas = λ quota. at_record (names_quota quota) row (namespace_at w ns.now) is i;
-}

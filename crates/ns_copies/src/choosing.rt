@@ -3,8 +3,7 @@
 ghost use Rattle.std.specs.Prelude.{◌≡◌};
 ghost use Rattle.ns_copies.specs.Chosen.{is_chosen};
 
-use ns_admin::{names_quota, permits};
-use ns_types::records::Namespace;
+use ns_alike::has_name;
 use ns_types::text::{Text, same_text};
 
 /// Names whose rows are copied.
@@ -13,10 +12,8 @@ pub(crate) enum Chosen<'a> {
     All,
     /// That name alone.
     Only(&'a Text),
-    /// The pools that the namespace may use, if it is there.
-    PoolsOf(Option<&'a Namespace>),
-    /// The quota that the namespace names, if it is there.
-    QuotaOf(Option<&'a Namespace>),
+    /// Those of the list.
+    Among(&'a [Text]),
 }
 
 impl Chosen<'_> {
@@ -27,9 +24,7 @@ impl Chosen<'_> {
         match self {
             Chosen::All => true,
             Chosen::Only(one) => same_text(one, name),
-            Chosen::PoolsOf(Some(namespace)) => permits(namespace, name),
-            Chosen::QuotaOf(Some(namespace)) => names_quota(name, namespace),
-            Chosen::PoolsOf(None) | Chosen::QuotaOf(None) => false,
+            Chosen::Among(names) => has_name(names, name),
         }
     }
 }

@@ -1,8 +1,8 @@
 //! Copies of the tables.
 
-ghost use Rattle.std.specs.Prelude.{◌≡◌, IfOk, filter, option_copied};
+ghost use Rattle.std.specs.Prelude.{◌≡◌, IfOk, filter};
 ghost use Rattle.std.specs.FinMap.{retain_keys};
-ghost use Rattle.ns_types.specs.Isolation.{alone_in, namespace_at, part_of};
+ghost use Rattle.ns_types.specs.Isolation.{alone_in, part_of};
 ghost use Rattle.ns_types.specs.Validity.{IsSound};
 ghost use Rattle.ns_copies.specs.Chosen.{chosen_part, is_chosen};
 ghost use Rattle.ns_copies.specs.Copied.{seen_rows};
@@ -12,20 +12,9 @@ use crate::choosing::Chosen;
 use crate::lists::copied_keys;
 use crate::tables::copied_names;
 use keyed::{KeyQueue, NameTable, OwnerTable};
-use ns_types::records::Namespace;
 use ns_types::text::Text;
 use ns_world::{PoolRows, QuotaRows, Tables, TenantRows};
 use std::alloc::{AllocError, Global};
-
-/// The namespace's record, if it is there.
-fn namespace_at<'a>(tables: &'a Tables, name: &Text) -> Option<&'a Namespace>
-    ensures { option_copied result ≡ namespace_at (world_of tables.now) name.now }
-{
-    match tables.tenants.get(name) {
-        Some(tenant) => Some(&tenant.namespace),
-        None => None,
-    }
-}
 
 /// The three ordered lists.
 #[derive(Drop)]
@@ -118,19 +107,24 @@ pub fn copy(alloc: Global, tables: &Tables) -> Result<Tables, AllocError>
     copied(alloc, tables, Chosen::All, Chosen::All, Chosen::All)
 }
 
-/// What the namespace has: its rows with those of its pools and its quota, and its entries in the lists. Want of memory is
+/// What the namespace has, with these pools and these quotas: their rows, and its entries in the lists. Want of memory is
 /// the only error.
-pub fn alone(alloc: Global, tables: &Tables, namespace: &Text) -> Result<Tables, AllocError>
+pub fn alone(
+    alloc: Global,
+    tables: &Tables,
+    namespace: &Text,
+    pools: &[Text],
+    quotas: &[Text],
+) -> Result<Tables, AllocError>
     requires { IsSound (world_of tables.now) }
-    ensures { let w = world_of tables.now in
-        IfOk result (λ part. world_of part ≡ alone_in (part_of w namespace.now) w) }
+    ensures { let part = part_of namespace.now pools.now quotas.now in
+        IfOk result (λ copy. world_of copy ≡ alone_in part (world_of tables.now)) }
 {
-    let row = namespace_at(tables, namespace);
     copied(
         alloc,
         tables,
         Chosen::Only(namespace),
-        Chosen::PoolsOf(row),
-        Chosen::QuotaOf(row),
+        Chosen::Among(pools),
+        Chosen::Among(quotas),
     )
 }

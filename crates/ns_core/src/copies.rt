@@ -1,8 +1,8 @@
 //! Copies of a server: with all that it holds, or with what one namespace has.
 
 ghost use Rattle.std.specs.Prelude.{◌≡◌, IfOk, true};
-ghost use Rattle.ns_types.specs.Access.Sharing.{is_unshared};
-ghost use Rattle.ns_types.specs.Isolation.{alone};
+ghost use Rattle.ns_types.specs.Access.Sharing.{is_apart};
+ghost use Rattle.ns_types.specs.Isolation.{alone, part_of};
 ghost use Rattle.ns_core.specs.Held.{IsKept};
 ghost use Rattle.ns_core.specs.Viewed.{state_of, world_of};
 
@@ -32,16 +32,22 @@ impl Parts {
         })
     }
 
-    /// The parts of a server that holds that namespace alone.
-    fn alone(&self, alloc: Global, namespace: &Text) -> Result<Parts, AllocError>
+    /// The parts of a server that holds that namespace alone, with these pools and these quotas.
+    fn alone(
+        &self,
+        alloc: Global,
+        namespace: &Text,
+        pools: &[Text],
+        quotas: &[Text],
+    ) -> Result<Parts, AllocError>
         requires kept { IsKept self.now }
-        requires unshared { is_unshared (world_of self.now) namespace.now ≡ true }
-        ensures part { IfOk result (λ part.
-            state_of part ≡ alone namespace.now (state_of self.now)) }
+        requires apart { is_apart (world_of self.now) namespace.now pools.now quotas.now ≡ true }
+        ensures part { let part = part_of namespace.now pools.now quotas.now in
+            IfOk result (λ copy. state_of copy ≡ alone part (state_of self.now)) }
         ensures kept { IfOk result IsKept }
     {
         let acl = self.acl.copy(alloc)?;
-        let tables = ns_copies::alone(alloc, &self.tables, namespace)?;
+        let tables = ns_copies::alone(alloc, &self.tables, namespace, pools, quotas)?;
         let live = live_of(alloc, &tables)?;
         let turns = Turns::unknown(alloc);
         Ok(Parts {
@@ -62,13 +68,20 @@ impl Core {
         Ok(Core { parts })
     }
 
-    /// A server that holds that namespace alone: its rows with those of its pools and its quota, its entries in the lists, and
+    /// A server that holds that namespace alone, with these pools and these quotas: their rows, its entries in the lists, and
     /// all access lists. Want of memory is the only error.
-    pub fn alone(&self, alloc: Global, namespace: &Text) -> Result<Core, AllocError>
-        requires { is_unshared self.now.world namespace.now ≡ true }
-        ensures { IfOk result (λ part. part ≡ alone namespace.now self.now) }
+    pub fn alone(
+        &self,
+        alloc: Global,
+        namespace: &Text,
+        pools: &[Text],
+        quotas: &[Text],
+    ) -> Result<Core, AllocError>
+        requires { is_apart self.now.world namespace.now pools.now quotas.now ≡ true }
+        ensures { let part = part_of namespace.now pools.now quotas.now in
+            IfOk result (λ core. core ≡ alone part self.now) }
     {
-        let parts = self.parts.alone(alloc, namespace)?;
+        let parts = self.parts.alone(alloc, namespace, pools, quotas)?;
         Ok(Core { parts })
     }
 }

@@ -9,7 +9,6 @@ mod nodes;
 mod parts;
 mod rights;
 mod server;
-mod tables;
 mod workers;
 
 pub use server::Core;

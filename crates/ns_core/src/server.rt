@@ -3,8 +3,8 @@
 ghost use Rattle.std.specs.Prelude.{◌≡◌, IfOk, Some, is_some, option_copied, option_map};
 ghost use Rattle.ns_types.specs.declared.step.Step.TheVariants as Step;
 ghost use Rattle.ns_types.specs.Access.Rights.{pool_rights_of, rights_of};
-ghost use Rattle.ns_types.specs.Access.Sharing.{is_unshared, shares};
-ghost use Rattle.ns_types.specs.Isolation.{has_pool};
+ghost use Rattle.ns_types.specs.Access.Sharing.{has_pool, is_apart, namespace_at, shares};
+ghost use Rattle.ns_types.specs.Isolation.{lacks_room};
 ghost use Rattle.ns_types.specs.Steps.{Makes, opening};
 ghost use Rattle.ns_types.specs.Validity.{IsValid};
 ghost use Rattle.ns_types.specs.Working.Looks.{first_plan, row_of, served_ready, worker_at};
@@ -20,6 +20,7 @@ use ns_types::good::{GoodAdmin, GoodAsk, GoodNodeCommand};
 use ns_types::key::EvalKey;
 use ns_types::name::Secret;
 use ns_types::planned::Planned;
+use ns_types::records::Namespace;
 use ns_types::refusal::Refusal;
 use ns_types::reply::Reply;
 use ns_types::shared::Shared;
@@ -246,6 +247,13 @@ impl Core {
         self.parts.acl.pool_rights(secret, pool)
     }
 
+    /// The namespace's record, if it is there.
+    pub fn namespace_at(&self, name: &Text) -> Option<&Namespace>
+        ensures { option_copied result ≡ namespace_at self.now.world name.now }
+    {
+        ns_sharing::namespace_at(&self.parts.tables, name)
+    }
+
     /// Whether the namespace is there and may use the pool, which need not exist.
     pub fn permits(&self, namespace: &Text, pool: &Text) -> bool
         ensures { result ≡ has_pool self.now.world namespace.now pool.now }
@@ -261,11 +269,20 @@ impl Core {
         ns_admin::shares(&self.parts.tables, namespace)
     }
 
-    /// Whether the namespace has its pools and its quota to itself, and nothing in a pool that it may not use.
-    pub fn unshared(&self, namespace: &Text) -> bool
-        ensures { result ≡ is_unshared self.now.world namespace.now }
+    /// Whether the namespace has these pools and these quotas to itself: no other permits one of the pools or names one of the
+    /// quotas, and if the namespace is there, it is confined to them, names no other quota and has nothing elsewhere. It takes
+    /// no memory.
+    pub fn apart(&self, namespace: &Text, pools: &[Text], quotas: &[Text]) -> bool
+        ensures { result ≡ is_apart self.now.world namespace.now pools.now quotas.now }
     {
-        ns_sharing::unshared(&self.parts.tables, namespace)
+        ns_sharing::apart(&self.parts.tables, namespace, pools, quotas)
+    }
+
+    /// Whether the step puts a namespace, a quota or a pool of a new name, whose table has no room. It takes no memory.
+    pub fn lacks_room(&self, step: &Step) -> bool
+        ensures { result ≡ lacks_room step.now self.now.world }
+    {
+        ns_sharing::lacks_room(&self.parts.tables, step)
     }
 
     /// Says that the state is valid, as that of every core is. It does nothing.

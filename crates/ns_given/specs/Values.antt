@@ -1,8 +1,9 @@
 -- What the values that are given for the program's arguments say.
 use Rattle.std.specs.Prelude.{ℕ, ◌^◌, ◌-◌, ◌&&◌, List, Option, Some, None, nat_le, option_map, if◌then◌else◌}
+use Rattle.std.specs.List.{list_all}
 use Rattle.std.specs.Str.Parse.{digits_value}
 use Rattle.ns_request.specs.Queries.{is_number}
-use Rattle.ns_types.specs.declared.name.NameKind.TheVariants as NameKind
+use Rattle.ns_types.specs.declared.name.NameKind.{NameKind}
 use Rattle.ns_types.specs.State.Name.{is_name}
 
 -- ---- numbers
@@ -17,6 +18,12 @@ number_between first last text =
 abbrev pub number_by : ℕ → ℕ → ℕ → Option (List ℕ) → Option ℕ
 number_by default first last None = Some default
 number_by default first last (Some text) = number_between first last text
+
+-- ---- names
+
+-- the texts that are given, where each is a name of that kind by its rule
+abbrev pub names_by : NameKind → List (List ℕ) → Option (List (List ℕ))
+names_by kind texts = if list_all (is_name kind) texts then Some texts else None
 
 -- ---- of `alone`
 

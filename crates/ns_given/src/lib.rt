@@ -5,5 +5,5 @@ mod alone;
 mod number;
 mod serve;
 
-pub use alone::count;
+pub use alone::{count, names};
 pub use serve::{accept, connections, log_limit, rotate, rotate_bytes, secret, workers};

@@ -1,3 +1,4 @@
 pub mod Beside
 pub mod Held
-pub mod Unshared
+pub mod Apartness
+pub mod Valid

@@ -1,60 +1,68 @@
--- One law for each kind of step: a namespace that shares nothing goes on by its own steps as if it were alone, and any
--- other step leaves what it has.
-use Rattle.std.specs.Prelude.{◌≡◌, ◌≢◌, ◌⊎◌, ℕ, true, false, Option}
+-- One law for each kind of step: a namespace that has its pools and its quotas to itself goes on by its own steps as if it
+-- were alone, and any other step leaves what it has.
+use Rattle.std.specs.Prelude.{◌≡◌, ◌≢◌, ◌⊎◌, ℕ, true, false, List, Option}
 use Rattle.ns_types.specs.declared.step.AdminCommand.{AdminCommand}
 use Rattle.ns_types.specs.declared.step.AskCommand.{AskCommand}
 use Rattle.ns_types.specs.declared.step.NodeCommand.{NodeCommand}
 use Rattle.ns_types.specs.declared.step.Report.{Report}
 use Rattle.ns_types.specs.declared.step.Step.{Step}
-use Rattle.ns_types.specs.Access.Rights.{rights_of, has_any}
-use Rattle.ns_types.specs.Access.Sharing.{is_unshared}
-use Rattle.ns_types.specs.Isolation.{has_pool, Agree, SameTables, alone}
-use Rattle.ns_types.specs.State.Names.{Name}
+use Rattle.ns_types.specs.Access.Sharing.{is_apart}
+use Rattle.ns_types.specs.Isolation.{Part, part_of, alone, Agree, is_own_admin, is_crowded_out}
+use Rattle.ns_types.specs.State.Names.{Name, has_name}
 use Rattle.ns_types.specs.State.Rows.{State}
 use Rattle.ns_types.specs.Steps.{Answer, said, after}
 use Rattle.ns_audit.specs.Orderly.{IsSteady}
 
 -- ---- what all of them rest on, and what they say
 
--- s has what isolation rests on, the namespace is unshared there, and its tables and the rights on them are those of
--- the first state s0; t holds exactly what it has in s
-pub record IsBeside (ns : Name) (s0 s t : State) : Type 0 where
+-- s has what isolation rests on and the namespace is apart there; t holds exactly what it has in s, and all access lists
+pub record IsBeside (ns : Name) (pools quotas : List Name) (s t : State) : Type 0 where
   pub steady : IsSteady s
-  pub unshared : is_unshared s.world ns ≡ true
-  pub tables : SameTables ns s0 s
-  pub agree : Agree ns s t
+  pub apart : is_apart s.world ns pools quotas ≡ true
+  pub agree : Agree (part_of ns pools quotas) s t
 
 -- in t the step is answered alike, index included, and the states agree again
-abbrev pub GoesAlike : Name → State → State → Step → Type 0
-GoesAlike ns s t step = (s' : State) (answer : Answer) → after step s ≡ said answer s' →
-    (t' : State) × (after step t ≡ said answer t') × Agree ns s' t'
+abbrev pub GoesAlike : Part → State → State → Step → Type 0
+GoesAlike part s t step = (s' : State) (answer : Answer) → after step s ≡ said answer s' →
+    (t' : State) × (after step t ≡ said answer t') × Agree part s' t'
 
 -- t holds what the namespace has after the step, too
-abbrev pub LeavesIt : Name → State → State → Step → Type 0
-LeavesIt ns s t step = (s' : State) (answer : Answer) → after step s ≡ said answer s' → Agree ns s' t
+abbrev pub LeavesIt : Part → State → State → Step → Type 0
+LeavesIt part s t step = (s' : State) (answer : Answer) → after step s ≡ said answer s' → Agree part s' t
 
 -- of each such state the server that holds the namespace alone has exactly that
 abbrev pub AloneIsBeside : Type 0
-AloneIsBeside = (ns : Name) (s : State) → IsSteady s → is_unshared s.world ns ≡ true → IsBeside ns s s (alone ns s)
+AloneIsBeside = (ns : Name) (pools quotas : List Name) (s : State) → IsSteady s →
+    is_apart s.world ns pools quotas ≡ true → IsBeside ns pools quotas s (alone (part_of ns pools quotas) s)
 
 -- ---- what is asked in a namespace
 
--- in it, with a right there
+-- in it, with any secret or none
 abbrev pub OwnAsk : Type 0
-OwnAsk = (ns : Name) (s0 s t : State) (secret : Option Name) (command : AskCommand) → IsBeside ns s0 s t →
-    has_any (rights_of s0.acl secret ns) ≡ true → GoesAlike ns s t (Step.Ask ns secret command)
+OwnAsk = (ns : Name) (pools quotas : List Name) (s t : State) (secret : Option Name) (command : AskCommand) →
+    IsBeside ns pools quotas s t → GoesAlike (part_of ns pools quotas) s t (Step.Ask ns secret command)
 
--- in another, or with no right in it
+-- in another
 abbrev pub OtherAsk : Type 0
-OtherAsk = (ns asked : Name) (s0 s t : State) (secret : Option Name) (command : AskCommand) → IsBeside ns s0 s t →
-    (asked ≢ ns) ⊎ (has_any (rights_of s0.acl secret ns) ≡ false) → LeavesIt ns s t (Step.Ask asked secret command)
+OtherAsk = (ns asked : Name) (pools quotas : List Name) (s t : State) (secret : Option Name) (command : AskCommand) →
+    IsBeside ns pools quotas s t → asked ≢ ns → LeavesIt (part_of ns pools quotas) s t (Step.Ask asked secret command)
 
--- ---- what administrators ask: no such step is its own
+-- ---- what administrators ask
 
--- one that leaves its tables alone
+-- of its record within its pools and quotas, of its pools, its quotas or the access lists, and not crowded out
+abbrev pub OwnAdmin : Type 0
+OwnAdmin = (ns : Name) (pools quotas : List Name) (s t s' : State) (secret : Option Name) (command : AdminCommand)
+    (answer : Answer) → IsBeside ns pools quotas s t → is_own_admin (part_of ns pools quotas) command ≡ true →
+    is_crowded_out (part_of ns pools quotas) (Step.Admin secret command) s answer ≡ false →
+    after (Step.Admin secret command) s ≡ said answer s' →
+    (t' : State) × (after (Step.Admin secret command) t ≡ said answer t') × Agree (part_of ns pools quotas) s' t'
+
+-- of anything else, where it is apart afterwards
 abbrev pub OtherAdmin : Type 0
-OtherAdmin = (ns : Name) (s0 s t s' : State) (secret : Option Name) (command : AdminCommand) (answer : Answer) →
-    IsBeside ns s0 s t → SameTables ns s s' → after (Step.Admin secret command) s ≡ said answer s' → Agree ns s' t
+OtherAdmin = (ns : Name) (pools quotas : List Name) (s t s' : State) (secret : Option Name) (command : AdminCommand)
+    (answer : Answer) → IsBeside ns pools quotas s t → is_own_admin (part_of ns pools quotas) command ≡ false →
+    is_apart s'.world ns pools quotas ≡ true → after (Step.Admin secret command) s ≡ said answer s' →
+    Agree (part_of ns pools quotas) s' t
 
 -- ---- what is asked of a pool
 
@@ -72,24 +80,27 @@ pub record ReportsAnother (ns : Name) (command : NodeCommand) : Type 0 where
 
 -- of a pool of it, and no report of another's allocation
 abbrev pub OwnNode : Type 0
-OwnNode = (ns pool : Name) (s0 s t : State) (secret : Option Name) (command : NodeCommand) → IsBeside ns s0 s t →
-    has_pool s0.world ns pool ≡ true → ReportsIts ns command → GoesAlike ns s t (Step.Node pool secret command)
+OwnNode = (ns pool : Name) (pools quotas : List Name) (s t : State) (secret : Option Name) (command : NodeCommand) →
+    IsBeside ns pools quotas s t → has_name pools pool ≡ true → ReportsIts ns command →
+    GoesAlike (part_of ns pools quotas) s t (Step.Node pool secret command)
 
 -- of a pool that is not one of it, or a report of another's allocation
 abbrev pub OtherNode : Type 0
-OtherNode = (ns pool : Name) (s0 s t : State) (secret : Option Name) (command : NodeCommand) → IsBeside ns s0 s t →
-    (has_pool s0.world ns pool ≡ false) ⊎ ReportsAnother ns command → LeavesIt ns s t (Step.Node pool secret command)
+OtherNode = (ns pool : Name) (pools quotas : List Name) (s t : State) (secret : Option Name) (command : NodeCommand) →
+    IsBeside ns pools quotas s t → (has_name pools pool ≡ false) ⊎ ReportsAnother ns command →
+    LeavesIt (part_of ns pools quotas) s t (Step.Node pool secret command)
 
 -- ---- what workers do
 
 -- a worker's step for the namespace
 abbrev pub OwnWork : (Name → Step) → Type 0
-OwnWork made_for = (ns : Name) (s0 s t : State) → IsBeside ns s0 s t → GoesAlike ns s t (made_for ns)
+OwnWork made_for = (ns : Name) (pools quotas : List Name) (s t : State) → IsBeside ns pools quotas s t →
+    GoesAlike (part_of ns pools quotas) s t (made_for ns)
 
 -- a worker's step for another
 abbrev pub OtherWork : (Name → Step) → Type 0
-OtherWork made_for = (ns other : Name) (s0 s t : State) → IsBeside ns s0 s t → other ≢ ns →
-    LeavesIt ns s t (made_for other)
+OtherWork made_for = (ns other : Name) (pools quotas : List Name) (s t : State) → IsBeside ns pools quotas s t →
+    other ≢ ns → LeavesIt (part_of ns pools quotas) s t (made_for other)
 
 -- it takes the evaluation n
 abbrev pub OwnDequeue : Type 0

@@ -1,2 +1,3 @@
 pub mod Kinds
 pub mod Staying
+pub mod Parted

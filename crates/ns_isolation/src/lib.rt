@@ -1,5 +1,6 @@
-//! Laws of a namespace that shares no pool and no quota. Each is the contract of a function that does nothing.
+//! Laws of a namespace that has its pools and its quotas to itself. Each is the contract of a function that does nothing.
 #![tactic(auto)]
 
+pub mod parting;
 pub mod staying;
 pub mod steps;

@@ -1,5 +1,5 @@
-//! Laws of steps, one for each kind: of a namespace that shares no pool and no quota, in a state that has what isolation
-//! rests on, and of a state of the server that holds it alone.
+//! Laws of steps, one for each kind: of a namespace that has its pools and its quotas to itself, in a state that has what
+//! isolation rests on, and of a state of the server that holds it alone.
 
 ghost use Rattle.ns_isolation.specs.Kinds.{
   AloneIsBeside,
@@ -12,6 +12,7 @@ ghost use Rattle.ns_isolation.specs.Kinds.{
   OtherNode,
   OtherSnap,
   OtherSubmit,
+  OwnAdmin,
   OwnApply,
   OwnAsk,
   OwnDequeue,
@@ -22,16 +23,22 @@ ghost use Rattle.ns_isolation.specs.Kinds.{
   OwnSubmit,
 };
 
-/// What all these laws rest on is so at first: a state that has what isolation rests on, where the namespace is unshared, and
-/// the state of the server that holds it alone.
+/// What all these laws rest on is so at first: a state that has what isolation rests on, where the namespace is apart, and the
+/// state of the server that holds it alone.
 pub fn alone_is_beside()
     ensures { AloneIsBeside }
 {}
 
-/// What is asked in the namespace with a right there is answered alike by the server that holds it alone, index included, and
-/// the states agree again.
+/// What is asked in the namespace, with any secret or none, is answered alike by the server that holds it alone, index included,
+/// and the states agree again.
 pub fn own_ask()
     ensures { OwnAsk }
+{}
+
+/// What an administrator asks of its record within its pools and quotas, of its pools, of its quotas or of the access lists is
+/// answered alike, unless it is crowded out of a table, and the states agree again.
+pub fn own_admin()
+    ensures { OwnAdmin }
 {}
 
 /// What is asked of a pool of it, and is no report of another's allocation, is answered alike, and the states agree again.
@@ -69,12 +76,12 @@ pub fn own_nack()
     ensures { OwnNack }
 {}
 
-/// What is asked in another namespace, or with no right in it, changes nothing that it has.
+/// What is asked in another namespace changes nothing that it has.
 pub fn other_ask()
     ensures { OtherAsk }
 {}
 
-/// What an administrator asks that leaves its tables alone changes nothing that it has.
+/// Anything else that an administrator asks changes nothing that it has, where it is apart afterwards.
 pub fn other_admin()
     ensures { OtherAdmin }
 {}

@@ -1,11 +1,11 @@
 -- The orders by which nodes are chosen, and who may be evicted.
 use Rattle.std.specs.Prelude.{◌≡◌, ℕ, ◌-◌, ◌<◌, ◌≤◌, Bool, true, false, cond, List, [], length, Option, Some, None, unwrap_or, is_some, slice_get, option_map}
-use Rattle.std.specs.Prelude.{IsFalse, ◌||◌, ◌==◌, ◌⊎◌, nat_le, max, fold, sum_by, ◌&&◌, ◌+◌, ◌∷◌}
+use Rattle.std.specs.Prelude.{IsFalse, ◌||◌, ◌==◌, ◌⊎◌, max, fold, ◌&&◌, ◌∷◌}
 use Rattle.std.specs.declared.cmp.Ordering.{Ordering}
 use Rattle.std.proofs.Common.{refl, sym, ap, ◌∙◌, arith, Less, Equal, is_lt, subst, inl, inr}
 use Rattle.std.specs.Cmp.{nat_cmp_is}
 use Rattle.std.specs.Ordering.{nat_cmp, ordering_then}
-use Rattle.std.proofs.lemmas.Bool.{leb-true, le-leb, eq-eqb, cases_lt}
+use Rattle.std.proofs.lemmas.Bool.{eq-eqb, cases_lt}
 use Rattle.std.proofs.lemmas.Option.{none-some, same_Some}
 use Rattle.ns_types.proofs.Amounts.{every, within_at, within_from}
 use Rattle.ns_types.specs.declared.resources.Resources.{Resources}

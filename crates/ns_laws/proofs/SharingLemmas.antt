@@ -1,22 +1,21 @@
--- Names in lists, and what follows where no row of another namespace overlaps.
+-- Names in lists, and what follows for a namespace that has its pools and its quotas to itself.
 use Rattle.std.specs.Prelude.{◌≡◌, ◌≢◌, ℕ, zero, suc, ◌<◌, Bool, true, false, not, ◌&&◌, ◌||◌, List, [], ◌∷◌, length, Option, Some, None, is_some}
 use Rattle.std.specs.Prelude.{slice_index_or}
 use Rattle.std.proofs.Common.{refl, sym, ap, ◌∙◌, arith, ◌⊎◌, inl, inr}
-use Rattle.std.specs.FinMap.{get}
-use Rattle.std.specs.List.{Contains, list_any}
+use Rattle.std.specs.List.{Contains}
 use Rattle.std.specs.Option.{option_map_or}
-use Rattle.ns_types.specs.State.Names.{Name, same_name, has_name}
-use Rattle.ns_types.specs.State.Rows.{World, Tenant, is_open, is_held}
-use Rattle.ns_types.specs.Access.Sharing.{permits, permits_by, is_confined, pools_of, overlaps, shares, shares_with_any, strays, is_unshared}
-use Rattle.ns_types.specs.State.Sums.{names_quota}
-use Rattle.ns_types.specs.State.Tables.{any_row}
-use Rattle.std.proofs.lemmas.Bool.{or_right}
-use Rattle.ns_types.proofs.Tests.{either_of, is_no, is_yes}
-use Rattle.ns_types.proofs.Lists.{not_both, left_none, right_none}
-use Rattle.ns_types.proofs.Named.{one_name, same_name_is, same_name_refl, first_of_both, one_number, second_of_both}
-use Rattle.ns_types.proofs.Tables.{none_of_any}
-use Rattle.ns_laws.specs.Sharing as law
 use Rattle.ns_types.specs.declared.snapshot.Snapshot.{Snapshot}
+use Rattle.ns_types.specs.State.Names.{Name, same_name, has_name}
+use Rattle.ns_types.specs.State.Rows.{is_open, is_held}
+use Rattle.ns_types.specs.State.Tables.{any_row}
+use Rattle.ns_types.specs.Access.Sharing.{permits, permits_by}
+use Rattle.std.proofs.lemmas.Bool.{or_right}
+use Rattle.ns_types.proofs.Tests.{either_of, is_yes}
+use Rattle.ns_types.proofs.Lists.{not_both, left_none, right_none}
+use Rattle.ns_types.proofs.Named.{same_name_is, same_name_refl, one_number}
+use Rattle.ns_types.proofs.Tables.{none_of_any}
+use Rattle.ns_audit.proofs.Alone.Bordering.{confined, home, pool_side, foreign_permits, quota_side}
+use Rattle.ns_laws.specs.Sharing as law
 
 -- ---- names in lists
 
@@ -35,15 +34,6 @@ has_at (x ∷ names) name (suc k) lt e = or_right (same_name name x) (has_name n
 
 has_contained : (names : List Name) (name : Name) → Contains names name → has_name names name ≡ true
 has_contained names name h = has_at names name h.0 h.1 h.2
-
--- what no element of a list does, a name that it has does not
-none_at_name : (p : Name → Bool) (names : List Name) (name : Name) → list_any p names ≡ false → has_name names name ≡ true → p name ≡ false
-none_at_name p [] name none e = not_both e refl
-none_at_name p (x ∷ names) name none e = by (same_name name x) refl e (none_at_name p names name (right_none (p x) (list_any p names) none))
-  where
-    by : (b : Bool) → same_name name x ≡ b → (b || has_name names name) ≡ true → (has_name names name ≡ true → p name ≡ false) → p name ≡ false
-    by true f e go = ap p (same_name_is name x f) ∙ left_none (p x) (list_any p names) none
-    by false f e go = go e
 
 -- ---- permitted pools
 
@@ -80,85 +70,59 @@ else_all_but_denied namespace pool is = (to, from)
         by true e = absurd (absent (found_in namespace.denied pool e))
         by false e = meaning ∙ ap not e
 
--- ---- what is not shared
+-- ---- what a namespace has to itself
 
-shares_none : (w : World) (ns : Name) (t : Tenant) → is_unshared w ns ≡ true → get w.tenants ns ≡ Some t → shares_with_any w ns t ≡ false
-unfolding is_unshared shares
-shares_none w ns t e is =
-    ap (λ o. option_map_or (shares_with_any w ns) o true) (sym is)
-    ∙ is_no (shares w ns) (first_of_both (not (shares w ns)) (option_map_or (λ t. not (strays t)) (get w.tenants ns) false) e)
-
-pub unshared_is_confined : law.UnsharedIsConfined
-unshared_is_confined w ns t e is = by t.namespace.allowed refl
-  where
-    confined : is_confined t.namespace ≡ true
-    confined = is_yes (is_confined t.namespace) (left_none (not (is_confined t.namespace))
-        (any_row (λ name other. not (same_name name ns) && overlaps t.namespace other.namespace) w.tenants) (shares_none w ns t e is))
-
-    by : (a : Option (List Name)) → t.namespace.allowed ≡ a → (allowed : List Name) × (t.namespace.allowed ≡ Some allowed)
-    by None f = not_both confined (ap is_some f)
-    by (Some allowed) f = (allowed, f)
-
-other_name : (a b : Name) → a ≢ b → same_name a b ≡ false
+other_name : (a b : Name) → b ≢ a → same_name a b ≡ false
 other_name a b ne = by (same_name a b) refl
   where
     by : (c : Bool) → same_name a b ≡ c → same_name a b ≡ false
-    by true e = absurd (ne (same_name_is a b e))
+    by true e = absurd (ne (sym (same_name_is a b e)))
     by false e = e
 
-no_overlap : (w : World) (ns other : Name) (t o : Tenant) → is_unshared w ns ≡ true → get w.tenants ns ≡ Some t → get w.tenants other ≡ Some o → other ≢ ns
-    → overlaps t.namespace o.namespace ≡ false
-no_overlap w ns other t o e is there ne =
-    ap (λ b. not b && overlaps t.namespace o.namespace) (sym (other_name other ns ne))
-    ∙ none_of_any one_name (λ name other. not (same_name name ns) && overlaps t.namespace other.namespace) w.tenants other o
-    (right_none (not (is_confined t.namespace)) (any_row (λ name other. not (same_name name ns) && overlaps t.namespace other.namespace) w.tenants)
-    (shares_none w ns t e is)) there
+pub apart_is_confined : law.ApartIsConfined
+apart_is_confined w ns pools quotas t apart is = by t.namespace.allowed refl (confined w ns pools quotas apart ns t is (same_name_refl ns))
+  where
+    by : (a : Option (List Name)) → t.namespace.allowed ≡ a → is_some t.namespace.allowed ≡ true → (allowed : List Name) × (t.namespace.allowed ≡ Some allowed)
+    by None e some = not_both some (ap is_some e)
+    by (Some allowed) e some = (allowed, e)
 
-pub unshared_pools_are_its_own : law.UnsharedPoolsAreItsOwn
-unshared_pools_are_its_own w ns other t o pool e is there ne may =
-    let confined = unshared_is_confined w ns t e is in
-    let none = left_none (list_any (permits o.namespace) (pools_of t.namespace))
-    (option_map_or (λ quota. names_quota quota o.namespace) t.namespace.quota false)
-    (no_overlap w ns other t o e is there ne) in
-    none_at_name (permits o.namespace) (t.namespace.default_pool ∷ confined.0) pool
-    (ap (λ (a : Option (List Name)). list_any (permits o.namespace) (option_map_or (λ allowed. t.namespace.default_pool ∷ allowed) a [])) (sym confined.1) ∙
-    none)
-    (ap (λ a. permits_by a t.namespace pool) (sym confined.1) ∙ may)
+pub apart_uses_its_pools : law.ApartUsesItsPools
+apart_uses_its_pools w ns pools quotas t pool apart is may =
+    found_in pools pool (pool_side w ns pools quotas apart ns t pool is may ∙ same_name_refl ns)
 
-pub unshared_quota_is_its_own : law.UnsharedQuotaIsItsOwn
-unshared_quota_is_its_own w ns other t o quota e is there ne its theirs =
-    let none = right_none (list_any (permits o.namespace) (pools_of t.namespace))
-    (option_map_or (λ quota. names_quota quota o.namespace) t.namespace.quota false)
-    (no_overlap w ns other t o e is there ne) in
-    not_both (ap (λ (q : Option Name). option_map_or (same_name quota) q false) theirs ∙ same_name_refl quota)
-    (ap (λ (q : Option Name). option_map_or (λ quota. names_quota quota o.namespace) q false) (sym its) ∙ none)
+pub apart_pools_are_its_own : law.ApartPoolsAreItsOwn
+apart_pools_are_its_own w ns other pools quotas o pool apart there ne has =
+    foreign_permits w ns pools quotas apart other o pool there (other_name ns other ne) (has_contained pools pool has)
+
+pub apart_names_its_quotas : law.ApartNamesItsQuotas
+apart_names_its_quotas w ns pools quotas t quota apart is named =
+    found_in quotas quota (quota_side w ns pools quotas apart ns t quota is named ∙ same_name_refl ns)
+
+pub apart_quotas_are_its_own : law.ApartQuotasAreItsOwn
+apart_quotas_are_its_own w ns other pools quotas o quota apart there ne has named =
+    not_both (has_contained quotas quota has) (quota_side w ns pools quotas apart other o quota there named ∙ other_name ns other ne)
 
 -- ---- what it keeps
-
-strays_not : (w : World) (ns : Name) (t : Tenant) → is_unshared w ns ≡ true → get w.tenants ns ≡ Some t → strays t ≡ false
-unfolding is_unshared
-strays_not w ns t e is =
-    is_no (strays t) (ap (λ (o : Option Tenant). option_map_or (λ x. not (strays x)) o false) (sym is) ∙ second_of_both (not (shares w ns)) _ e)
 
 both_are : (a b : Bool) → (a && not b) ≡ false → a ≡ true → b ≡ true
 both_are true b e f = is_yes b e
 both_are false b e f = not_both f refl
 
-pub unshared_keeps_to_its_pools : law.UnsharedKeepsToItsPools
-unshared_keeps_to_its_pools w ns t e is =
-    let open_ones = any_row (λ _ x. is_open x.status && not (permits t.namespace x.pool)) t.evaluations in
-    let snapshots = any_row (λ _ worker. option_map_or (λ (kept : Snapshot). not (permits t.namespace kept.pool)) worker.kept false) t.workers in
-    let held = any_row (λ _ a. is_held a.client && not (permits t.namespace a.pool)) t.allocations in
-    let none : (open_ones || snapshots || held) ≡ false = strays_not w ns t e is in
+pub apart_keeps_to_its_pools : law.ApartKeepsToItsPools
+apart_keeps_to_its_pools w ns pools quotas t apart is =
+    let open_ones = any_row (λ _ x. is_open x.status && not (has_name pools x.pool)) t.evaluations in
+    let snapshots = any_row (λ _ worker. option_map_or (λ (kept : Snapshot). not (has_name pools kept.pool)) worker.kept false) t.workers in
+    let held = any_row (λ _ a. is_held a.client && not (has_name pools a.pool)) t.allocations in
+    let none : (open_ones || snapshots || held) ≡ false = home w ns pools quotas apart ns t is (same_name_refl ns) in
     let first_two : (open_ones || snapshots) ≡ false = left_none (open_ones || snapshots) held none in record {
-      evaluation = λ n x found is_one. both_are (is_open x.status) (permits t.namespace x.pool)
-          (none_of_any one_number (λ _ x. is_open x.status && not (permits t.namespace x.pool)) t.evaluations n x (left_none open_ones snapshots first_two)
-          found) is_one;
-      snapshot = λ n worker kept found keeps. is_yes (permits t.namespace kept.pool)
-          (ap (λ (o : Option Snapshot). option_map_or (λ (kept : Snapshot). not (permits t.namespace kept.pool)) o false) (sym keeps)
-          ∙ none_of_any one_number (λ _ worker. option_map_or (λ (kept : Snapshot). not (permits t.namespace kept.pool)) worker.kept false) t.workers n worker
-          (right_none open_ones snapshots first_two) found);
-      allocation = λ n a found is_one. both_are (is_held a.client) (permits t.namespace a.pool)
-          (none_of_any one_number (λ _ a. is_held a.client && not (permits t.namespace a.pool)) t.allocations n a
-          (right_none (open_ones || snapshots) held none) found) is_one;
+      evaluation = λ n x found is_one. found_in pools x.pool (both_are (is_open x.status) (has_name pools x.pool)
+          (none_of_any one_number (λ _ x. is_open x.status && not (has_name pools x.pool)) t.evaluations n x (left_none open_ones snapshots first_two)
+          found) is_one);
+      snapshot = λ n worker kept found keeps. found_in pools kept.pool (is_yes (has_name pools kept.pool)
+          (ap (λ (o : Option Snapshot). option_map_or (λ (kept : Snapshot). not (has_name pools kept.pool)) o false) (sym keeps)
+          ∙ none_of_any one_number (λ _ worker. option_map_or (λ (kept : Snapshot). not (has_name pools kept.pool)) worker.kept false) t.workers n worker
+          (right_none open_ones snapshots first_two) found));
+      allocation = λ n a found is_one. found_in pools a.pool (both_are (is_held a.client) (has_name pools a.pool)
+          (none_of_any one_number (λ _ a. is_held a.client && not (has_name pools a.pool)) t.allocations n a
+          (right_none (open_ones || snapshots) held none) found) is_one);
     }

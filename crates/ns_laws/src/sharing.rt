@@ -1,12 +1,14 @@
 //! Laws of pools and quotas: which a namespace may use, and which it has to itself.
 
 ghost use Rattle.ns_laws.specs.Sharing.{
+  ApartIsConfined,
+  ApartKeepsToItsPools,
+  ApartNamesItsQuotas,
+  ApartPoolsAreItsOwn,
+  ApartQuotasAreItsOwn,
+  ApartUsesItsPools,
   ConfinedToItsPools,
   ElseAllButDenied,
-  UnsharedIsConfined,
-  UnsharedPoolsAreItsOwn,
-  UnsharedQuotaIsItsOwn,
-  UnsharedKeepsToItsPools,
 };
 
 /// With a list of allowed pools, a namespace may use its default and those of the list.
@@ -19,22 +21,32 @@ pub fn else_all_but_denied()
     ensures { ElseAllButDenied }
 {}
 
-/// A namespace that shares nothing has a list of allowed pools.
-pub fn unshared_is_confined()
-    ensures { UnsharedIsConfined }
+/// A namespace that has its pools and its quotas to itself has a list of allowed pools.
+pub fn apart_is_confined()
+    ensures { ApartIsConfined }
 {}
 
-/// A pool that it may use, no other may use.
-pub fn unshared_pools_are_its_own()
-    ensures { UnsharedPoolsAreItsOwn }
+/// It may use these pools alone.
+pub fn apart_uses_its_pools()
+    ensures { ApartUsesItsPools }
 {}
 
-/// The quota that it names, no other names.
-pub fn unshared_quota_is_its_own()
-    ensures { UnsharedQuotaIsItsOwn }
+/// No other may use them.
+pub fn apart_pools_are_its_own()
+    ensures { ApartPoolsAreItsOwn }
 {}
 
-/// Nor does it keep anything in a pool that it may not use.
-pub fn unshared_keeps_to_its_pools()
-    ensures { UnsharedKeepsToItsPools }
+/// The quota that it names is one of these quotas.
+pub fn apart_names_its_quotas()
+    ensures { ApartNamesItsQuotas }
+{}
+
+/// No other names one of them.
+pub fn apart_quotas_are_its_own()
+    ensures { ApartQuotasAreItsOwn }
+{}
+
+/// Nor does it keep anything in another pool.
+pub fn apart_keeps_to_its_pools()
+    ensures { ApartKeepsToItsPools }
 {}

@@ -3,6 +3,7 @@ use Rattle.std.specs.Prelude.{◌≡◌, ◌≢◌, ℕ, List, string_bytes}
 use Rattle.ns_api.specs.declared.following.Driven.{Driven}
 use Rattle.ns_pipe.specs.declared.asked.Asked.{Asked}
 use Rattle.ns_pipe.specs.declared.printed.Printed.{Printed}
+use Rattle.ns_replay_print.specs.declared.replay.Replay.{Replay}
 
 -- no connection is to be served
 abbrev pub IsNoConnection : Asked → Type 0
@@ -11,12 +12,12 @@ IsNoConnection asked =
 
 -- no log is to be replayed
 abbrev pub IsNoReplay : Asked → Type 0
-IsNoReplay asked = (namespace : List ℕ) (from : ℕ) → asked ≢ Asked.Alone namespace from
+IsNoReplay asked = (replay : Replay) → asked ≢ Asked.Alone replay
 
 -- to show this help
 abbrev pub IsHelp : Asked → List ℕ → Type 0
 IsHelp (Asked.Pipe secret driven printed) text = ⊥
-IsHelp (Asked.Alone namespace from) text = ⊥
+IsHelp (Asked.Alone replay) text = ⊥
 IsHelp (Asked.Help help) text = string_bytes help ≡ text
 IsHelp (Asked.Mistake reason) text = ⊥
 IsHelp Asked.NoMemory text = ⊥
@@ -24,7 +25,7 @@ IsHelp Asked.NoMemory text = ⊥
 -- nothing that can be done, for this reason
 abbrev pub IsMistake : Asked → List ℕ → Type 0
 IsMistake (Asked.Pipe secret driven printed) text = ⊥
-IsMistake (Asked.Alone namespace from) text = ⊥
+IsMistake (Asked.Alone replay) text = ⊥
 IsMistake (Asked.Help help) text = ⊥
 IsMistake (Asked.Mistake reason) text = string_bytes reason ≡ text
 IsMistake Asked.NoMemory text = ⊥

@@ -2,8 +2,8 @@
 
 use crate::printed::Printed;
 use ns_api::Driven;
+use ns_replay_print::Replay;
 use ns_types::name::Secret;
-use ns_types::text::Text;
 
 /// What the words come to.
 #[derive(Drop)]
@@ -11,8 +11,8 @@ pub enum Asked {
     /// To serve one connection, with that secret as the bootstrap token, to drive whom it says after each request, and to
     /// print what it says.
     Pipe(Secret, Driven, Printed),
-    /// To replay that namespace's own part of a log alone, from this index on.
-    Alone(Text, u64),
+    /// To replay a namespace's own part of a log alone.
+    Alone(Replay),
     /// To show this help.
     Help(String),
     /// Nothing that can be done, for this reason.

@@ -10,6 +10,7 @@ ghost use Rattle.ns_pipe.specs.Ending.{uncounted};
 ghost use Rattle.ns_faults.specs.Lines.{FailsToWrite, TriesToWrite, line_of, status_of};
 ghost use Rattle.ns_pipe.specs.Printing.{EndsPrinted};
 ghost use Rattle.ns_replay_print.specs.Printing.{EndsAlone};
+ghost use Rattle.ns_replay_print.specs.declared.replay.Replay.{Replay};
 
 use crate::asked::Asked;
 use crate::connection::pipe;
@@ -21,9 +22,8 @@ use ns_asked::Draws;
 use ns_faults::status::{BAD_WORDS, OUT_OF_MEMORY, SERVED, WRITE_FAULT};
 use ns_faults::{print_fault, print_text};
 use ns_http::{ConnFault, Counted, write_all};
-use ns_replay_print::print_replay;
+use ns_replay_print::{Replay, print_replay};
 use ns_types::name::Secret;
-use ns_types::text::Text;
 use std::alloc::Global;
 use std::io::{Read, Write};
 
@@ -115,13 +115,12 @@ fn converse<D: Draws + Drop, R: Read + Drop, W: Write + Drop, E: Write>(
 /// Reads a log, and replays what the namespace did alone.
 fn replay<R: Read + Drop, W: Write + Drop, E: Write>(
     alloc: Global,
-    namespace: &Text,
-    from: u64,
+    replay: &Replay,
     reader: R,
     writer: W,
     errors: &mut Counted<E>,
 ) -> Ended<R, W>
-    ensures ended { EndsAlone R.remaining W.contents namespace.now from result.status
+    ensures ended { EndsAlone R.remaining W.contents replay.now result.status
         (uncounted reader) result.reader (uncounted writer) result.writer }
     ensures silent { result.status ≡ SERVED → errors.new ≡ errors.old }
     ensures fault_line { (fault : ConnFault) → result.status ≡ status_of fault
@@ -129,7 +128,7 @@ fn replay<R: Read + Drop, W: Write + Drop, E: Write>(
 {
     let mut reader = Counted::new(reader);
     let mut writer = Counted::new(writer);
-    let status = print_replay(alloc, namespace, from, &mut reader, &mut writer, errors);
+    let status = print_replay(alloc, replay, &mut reader, &mut writer, errors);
     Ended {
         status,
         reader,
@@ -160,8 +159,8 @@ pub fn run<D: Draws + Drop, R: Read + Drop, W: Write + Drop, E: Write>(
     ensures mistake { (text : List ℕ) → IsMistake asked.now text
         → (result.status ≡ BAD_WORDS) × (result.writer ≡ uncounted writer)
         × TriesToWrite E.contents errors.old errors.new text }
-    ensures alone { (namespace : Name) (from : ℕ) → asked.now ≡ Asked.Alone namespace from
-        → EndsAlone R.remaining W.contents namespace from result.status
+    ensures alone { (replay : Replay) → asked.now ≡ Asked.Alone replay
+        → EndsAlone R.remaining W.contents replay result.status
         (uncounted reader) result.reader (uncounted writer) result.writer }
     ensures no_memory { asked.now ≡ Asked.NoMemory
         → (result.status ≡ OUT_OF_MEMORY) × (result.writer ≡ uncounted writer) }
@@ -186,9 +185,9 @@ pub fn run<D: Draws + Drop, R: Read + Drop, W: Write + Drop, E: Write>(
             print_text(errors, text.as_str().as_bytes());
             BAD_WORDS
         }
-        Asked::Alone(namespace, from) => {
+        Asked::Alone(wanted) => {
             let writer = output.into_inner();
-            return replay(alloc, namespace, *from, reader, writer, errors);
+            return replay(alloc, wanted, reader, writer, errors);
         }
         Asked::NoMemory => print_fault(ConnFault::Memory, errors),
     };

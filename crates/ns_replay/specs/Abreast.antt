@@ -1,65 +1,55 @@
 -- The two servers side by side, as a log is replayed.
-use Rattle.std.specs.Prelude.{◌≡◌, ℕ, Bool, true, false, ◌&&◌, ◌==◌, List, ◌∷◌, ◌++◌, [], Option, Some, None}
-use Rattle.std.specs.Prelude.{Err, IfErr}
-use Rattle.ns_types.specs.declared.refusal.Refusal.TheVariants as Refusal
+use Rattle.std.specs.Prelude.{◌≡◌, ℕ, Bool, true, false, not, ◌&&◌, List, [], ◌∷◌, ◌++◌, Option, Some, None, Ok, Err}
 use Rattle.ns_types.specs.declared.reply.Rendered.{Rendered}
-use Rattle.ns_types.specs.Access.Rights.{rights_of}
 use Rattle.ns_types.specs.declared.step.Step.{Step}
-use Rattle.ns_types.specs.Access.Sharing.{is_unshared, shares}
-use Rattle.ns_types.specs.Isolation.{Agree, Keeps, SameTables, is_own, namespace_at}
+use Rattle.ns_types.specs.Access.Sharing.{is_apart}
+use Rattle.ns_types.specs.Isolation.{Agree, Part, is_crowded_out, is_full_answer, is_own, part_of}
 use Rattle.ns_types.specs.State.Names.{Name}
-use Rattle.ns_types.specs.State.Rows.{State}
-use Rattle.ns_types.specs.Steps.{Answer, after}
-use Rattle.ns_alone.specs.Laws.{is_admin}
-use Rattle.ns_answers.specs.Laws.{may_change}
+use Rattle.ns_types.specs.State.Rows.{State, World}
+use Rattle.ns_types.specs.Steps.{Answer, after, said}
 use Rattle.ns_audit.specs.Orderly.{IsSteady}
-use Rattle.ns_json.specs.Replies.{Entry, rendered}
-use Rattle.ns_runs.specs.Running.{is_no_step}
+use Rattle.ns_isolation.specs.Staying.{puts_namespace}
+use Rattle.ns_json.specs.Replies.{Entry}
+use Rattle.ns_rerun.specs.Replying.{Fits, FitsIn}
+use Rattle.ns_replay.specs.declared.claim.Claim.{Claim}
 use Rattle.ns_replay.specs.declared.fault.ReplayFault.{ReplayFault}
 use Rattle.ns_replay.specs.declared.fault.ReplayFault.TheVariants.{Premise, Differs, NotARun, Memory}
-use Rattle.ns_rerun.specs.Replying.{Fits, FitsIn}
-use Rattle.ns_replay.specs.Replay.{Breaks, DiffersAt, IsNoStepAt}
+use Rattle.ns_replay.specs.Replay.{Breaks, DiffersAt, IsFault, IsNoStepAt, IsReplayed, RepliesAlone}
 
--- s has what isolation rests on, the namespace is unshared there, and t holds exactly what it has in s
-pub record StandsBeside (ns : Name) (s t : State) : Type 0 where
+-- s has what isolation rests on, the namespace is apart there, and t holds exactly what it has in s
+pub record StandsBeside (ns : Name) (pools quotas : List Name) (s t : State) : Type 0 where
   pub steady : IsSteady s
-  pub unshared : is_unshared s.world ns ≡ true
-  pub agree : Agree ns s t
-
--- and its record and the rights in it are those of the base, so that the same steps are its own
-pub record IsAbreast (ns : Name) (base s t : State) : Type 0 where
-  pub beside : StandsBeside ns s t
-  pub namespace : namespace_at s.world ns ≡ namespace_at base.world ns
-  pub rights : (secret : Option Name) → rights_of s.acl secret ns ≡ rights_of base.acl secret ns
+  pub apart : is_apart s.world ns pools quotas ≡ true
+  pub agree : Agree (part_of ns pools quotas) s t
 
 -- ---- one step
 
--- an administrator's step that was not refused, and does not only read
-unfoldable pub may_break : Step → Rendered → Bool
-may_break step reply = is_admin step && (reply.status == 200) && may_change step
+-- What is not kept, where the step is answered so: a put of a namespace is made, after which the namespace is not apart;
+-- or a put of its own is refused since its table is full.
+abbrev pub breaks_premise : Bool → Bool → Step → Answer → Bool
+breaks_premise apart crowded step (Ok reply) = puts_namespace step && not apart
+breaks_premise apart crowded step (Err refusal) = crowded && is_full_answer (Err refusal)
 
--- the namespace shares nothing in s', and has the tables of t there
-abbrev pub Holds : Name → State → State → Type 0
-Holds ns t s' = (shares s'.world ns ≡ false) × SameTables ns t s'
+-- the step that was made leaves the namespace apart, and was not crowded out
+abbrev pub KeepsPremises : Name → List Name → List Name → Step → State → Option Rendered → State → Type 0
+KeepsPremises ns pools quotas step s (Some reply) s' = (is_apart s'.world ns pools quotas ≡ true)
+    × ((answer : Answer) → after step s ≡ said answer s' →
+    is_crowded_out (part_of ns pools quotas) step s answer ≡ false)
+KeepsPremises ns pools quotas step s None s' = Unit {0}
 
--- the step that was made keeps the premises
-abbrev pub KeepsPremises : Name → Step → State → Option Rendered → State → Type 0
-KeepsPremises ns step s (Some reply) s' = Keeps ns step s s' × (is_unshared s'.world ns ≡ true)
-KeepsPremises ns step s None s' = Unit {0}
-
--- it was made, and keeps none
-abbrev pub IsBreach : Name → Step → State → ℕ → ReplayFault → Type 0
-IsBreach ns step s place (Premise i) = (i ≡ place) × Breaks ns step s
-IsBreach ns step s place (Differs i) = ⊥
-IsBreach ns step s place (NotARun i) = ⊥
-IsBreach ns step s place Memory = Unit {0}
+-- it was made, and does not
+abbrev pub IsBreach : Name → List Name → List Name → Step → State → ℕ → ReplayFault → Type 0
+IsBreach ns pools quotas step s place (Premise i) = (i ≡ place) × Breaks ns pools quotas step s
+IsBreach ns pools quotas step s place (Differs i) = ⊥
+IsBreach ns pools quotas step s place (NotARun i) = ⊥
+IsBreach ns pools quotas step s place Memory = Unit {0}
 
 -- the own entry does not fit in t
-abbrev pub IsDifference : Name → State → Entry → State → ℕ → ReplayFault → Type 0
-IsDifference ns base entry t place (Differs i) = (i ≡ place) × (is_own ns base entry.0 ≡ true) × (FitsIn entry t → ⊥)
-IsDifference ns base entry t place (Premise i) = ⊥
-IsDifference ns base entry t place (NotARun i) = ⊥
-IsDifference ns base entry t place Memory = Unit {0}
+abbrev pub IsDifference : Part → Entry → State → ℕ → ReplayFault → Type 0
+IsDifference part entry t place (Differs i) = (i ≡ place) × (is_own part entry.0 ≡ true) × (FitsIn entry t → ⊥)
+IsDifference part entry t place (Premise i) = ⊥
+IsDifference part entry t place (NotARun i) = ⊥
+IsDifference part entry t place Memory = Unit {0}
 
 -- ---- one entry
 
@@ -69,12 +59,11 @@ Strikes true entry t t' reply = Fits entry t t' × (reply ≡ Some entry.1)
 Strikes false entry t t' reply = (t' ≡ t) × (reply ≡ None)
 
 -- an entry with which all is as it should be leads from s to s', and from t to t'
-pub record Advances (ns : Name) (base : State) (entry : Entry) (s t s' t' : State) (reply : Option Rendered) : Type 0
-  where
-    pub fits : Fits entry s s'
-    pub keeps : Keeps ns entry.0 s s'
-    pub unshared : is_unshared s'.world ns ≡ true
-    pub strikes : Strikes (is_own ns base entry.0) entry t t' reply
+pub record Advances (ns : Name) (pools quotas : List Name) (entry : Entry) (s t s' t' : State) (reply : Option Rendered) : Type 0 where
+  pub fits : Fits entry s s'
+  pub uncrowded : is_crowded_out (part_of ns pools quotas) entry.0 s fits.answer ≡ false
+  pub apart : is_apart s'.world ns pools quotas ≡ true
+  pub strikes : Strikes (is_own (part_of ns pools quotas) entry.0) entry t t' reply
 
 -- the replies, with that of an own step
 abbrev pub with_reply : List Rendered → Option Rendered → List Rendered
@@ -82,8 +71,45 @@ with_reply replies (Some reply) = replies ++ reply ∷ []
 with_reply replies None = replies
 
 -- it is the first of the faults at the entry, which stands at the place
-abbrev pub IsFaultAt : Name → State → Entry → State → State → ℕ → ReplayFault → Type 0
-IsFaultAt ns base entry s t place (Premise i) = (i ≡ place) × Breaks ns entry.0 s
-IsFaultAt ns base entry s t place (Differs i) = (i ≡ place) × DiffersAt ns base entry s t
-IsFaultAt ns base entry s t place (NotARun i) = (i ≡ place) × IsNoStepAt ns base entry s t
-IsFaultAt ns base entry s t place Memory = Unit {0}
+abbrev pub IsFaultAt : Name → List Name → List Name → Entry → State → State → ℕ → ReplayFault → Type 0
+IsFaultAt ns pools quotas entry s t place (Premise i) = (i ≡ place) × Breaks ns pools quotas entry.0 s
+IsFaultAt ns pools quotas entry s t place (Differs i) = (i ≡ place) × DiffersAt ns pools quotas entry s t
+IsFaultAt ns pools quotas entry s t place (NotARun i) = (i ≡ place) × IsNoStepAt ns pools quotas entry s t
+IsFaultAt ns pools quotas entry s t place Memory = Unit {0}
+
+-- ---- for a claim
+
+abbrev pub its_part : Claim → Part
+its_part claim = part_of claim.namespace.now claim.pools.now claim.quotas.now
+
+abbrev pub is_apart_by : Claim → World → Bool
+is_apart_by claim w = is_apart w claim.namespace.now claim.pools.now claim.quotas.now
+
+abbrev pub IsBesideBy : Claim → State → State → Type 0
+IsBesideBy claim s t = StandsBeside claim.namespace.now claim.pools.now claim.quotas.now s t
+
+abbrev pub KeepsPremisesBy : Claim → Step → State → Option Rendered → State → Type 0
+KeepsPremisesBy claim step s told s' =
+    KeepsPremises claim.namespace.now claim.pools.now claim.quotas.now step s told s'
+
+abbrev pub IsBreachBy : Claim → Step → State → ℕ → ReplayFault → Type 0
+IsBreachBy claim step s place fault =
+    IsBreach claim.namespace.now claim.pools.now claim.quotas.now step s place fault
+
+abbrev pub AdvancesBy : Claim → Entry → State → State → State → State → Option Rendered → Type 0
+AdvancesBy claim entry s t s' t' reply =
+    Advances claim.namespace.now claim.pools.now claim.quotas.now entry s t s' t' reply
+
+abbrev pub IsFaultAtBy : Claim → Entry → State → State → ℕ → ReplayFault → Type 0
+IsFaultAtBy claim entry s t place fault =
+    IsFaultAt claim.namespace.now claim.pools.now claim.quotas.now entry s t place fault
+
+abbrev pub IsReplayedBy : Claim → State → List Entry → State → State → Type 0
+IsReplayedBy claim base log s t = IsReplayed claim.namespace.now claim.pools.now claim.quotas.now base log s t
+
+abbrev pub RepliesAloneBy : Claim → State → List Entry → List Rendered → Type 0
+RepliesAloneBy claim base log replies =
+    RepliesAlone claim.namespace.now claim.pools.now claim.quotas.now base log replies
+
+abbrev pub IsFaultBy : Claim → State → List Entry → ReplayFault → Type 0
+IsFaultBy claim base log fault = IsFault claim.namespace.now claim.pools.now claim.quotas.now base log fault

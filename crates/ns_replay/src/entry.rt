@@ -2,8 +2,9 @@
 
 ghost use Rattle.std.specs.Prelude.{◌≡◌, IfErr, IfOk};
 ghost use Rattle.ns_types.specs.Isolation.{is_own};
-ghost use Rattle.ns_replay.specs.Abreast.{Advances, IsAbreast, IsDifference, IsFaultAt, Strikes};
+ghost use Rattle.ns_replay.specs.Abreast.{AdvancesBy, IsBesideBy, IsDifference, IsFaultAtBy, Strikes, its_part};
 
+use crate::claim::Claim;
 use crate::fault::ReplayFault;
 use crate::own::is_own;
 use crate::premises::step_whole;
@@ -11,25 +12,22 @@ use ns_core::Core;
 use ns_log::Entry;
 use ns_rerun::{is_logged, reply_to};
 use ns_types::reply::Rendered;
-use ns_types::text::Text;
 use std::alloc::Global;
 
 /// If the step is an own one, makes it on the server that holds the namespace alone, and says what it is answered there, if
 /// that is what is logged.
 fn step_alone(
     alloc: Global,
-    base: &Core,
     alone: &mut Core,
-    namespace: &Text,
+    claim: &Claim<'_>,
     place: u64,
     entry: &Entry,
 ) -> Result<Option<Rendered>, ReplayFault>
-    ensures strikes { IfOk result (λ reply. let own = is_own namespace.now base.now entry.now.0 in
+    ensures strikes { IfOk result (λ reply. let own = is_own (its_part claim.now) entry.now.0 in
         Strikes own entry.now alone.old alone.new reply) }
-    ensures differs { IfErr result
-        (IsDifference namespace.now base.now entry.now alone.old place) }
+    ensures differs { IfErr result (IsDifference (its_part claim.now) entry.now alone.old place) }
 {
-    if !is_own(base, entry.step(), namespace) {
+    if !is_own(entry.step(), claim.namespace, claim.pools, claim.quotas) {
         return Ok(None);
     }
     let told = reply_to(alloc, alone, entry.step())?;
@@ -41,26 +39,24 @@ fn step_alone(
 
 /// Makes the step of the entry on the whole server, and if it is an own one on the server that holds the namespace alone. Says
 /// what it is answered there. The faults come in this order: a premise, a difference, no step of the whole server.
-pub fn replay_entry(
+pub(crate) fn replay_entry(
     alloc: Global,
-    base: &Core,
     whole: &mut Core,
     alone: &mut Core,
-    namespace: &Text,
+    claim: &Claim<'_>,
     place: u64,
     entry: &Entry,
 ) -> Result<Option<Rendered>, ReplayFault>
-    requires { IsAbreast namespace.now base.now whole.old alone.old }
-    ensures advances { IfOk result (λ reply. Advances namespace.now base.now entry.now
-        whole.old alone.old whole.new alone.new reply) }
-    ensures fault { IfErr result
-        (IsFaultAt namespace.now base.now entry.now whole.old alone.old place) }
+    requires { IsBesideBy claim.now whole.old alone.old }
+    ensures advances { IfOk result (λ reply.
+        AdvancesBy claim.now entry.now whole.old alone.old whole.new alone.new reply) }
+    ensures fault { IfErr result (IsFaultAtBy claim.now entry.now whole.old alone.old place) }
 {
-    let told = match step_whole(alloc, whole, alone, namespace, place, entry.step()) {
+    let told = match step_whole(alloc, whole, claim, place, entry.step()) {
         Ok(told) => told,
         Err(fault) => return Err(fault),
     };
-    let reply = match step_alone(alloc, base, alone, namespace, place, entry) {
+    let reply = match step_alone(alloc, alone, claim, place, entry) {
         Ok(reply) => reply,
         Err(fault) => return Err(fault),
     };

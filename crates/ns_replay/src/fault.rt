@@ -10,7 +10,8 @@ use thiserror::Error;
 /// The first fault of a log. Places count entries from 0.
 #[derive(Clone, Copy, Debug, PartialEq, Eq, Error)]
 pub enum ReplayFault {
-    /// The namespace shares a pool or its quota, or keeps something elsewhere, or an administrator changed its tables.
+    /// The namespace does not have its pools and its quotas to itself before or after the entry, or the entry is a put of its
+    /// own whose table is full on the whole server.
     #[error("a premise fails at place {0}")]
     Premise(u64),
     /// The server that holds the namespace alone does not make the step, or answers otherwise than is logged.

@@ -8,8 +8,8 @@ ghost use Rattle.ns_replay.specs.Laws.{
   ReplayedHasNoFault,
 };
 
-/// What fits in the whole server is answered alike by the server that holds the namespace alone: where an own entry does not fit
-/// there, it does not fit in the whole server either.
+/// What fits in the whole server and breaks no premise is answered alike by the server that holds the namespace alone: where an
+/// own entry does not fit there, it does not fit in the whole server either.
 pub fn differs_from_both()
     ensures { DiffersFromBoth }
 {}

@@ -1,24 +1,16 @@
-//! Which steps are a namespace's own.
+//! Which steps are a namespace's own, with a list of pools and a list of quotas.
 
 ghost use Rattle.std.specs.Prelude.{◌≡◌};
-ghost use Rattle.ns_types.specs.Access.Rights.{has_any};
-ghost use Rattle.ns_types.specs.Isolation.{concerns, is_own};
+ghost use Rattle.ns_types.specs.Isolation.{concerns, is_own, is_own_admin, part_of};
 
-use ns_core::Core;
-use ns_types::acl::Rights;
-use ns_types::step::{NodeCommand, Step};
+use ns_alike::has_name;
+use ns_sharing::names_within;
+use ns_types::step::{AdminCommand, NodeCommand, Step};
 use ns_types::text::{Text, same_text};
 
-/// Whether there is any right.
-fn has_any(rights: Rights) -> bool
-    ensures { result ≡ has_any rights }
-{
-    rights.list_jobs || rights.read_job || rights.submit_job || rights.alloc_lifecycle
-}
-
 /// Whether the command concerns the namespace, of whose pool it is: a report of another's allocation does not.
-fn concerns(namespace: &Text, command: &NodeCommand) -> bool
-    ensures { result ≡ concerns namespace.now command.now }
+fn concerns(namespace: &Text, pools: &[Text], quotas: &[Text], command: &NodeCommand) -> bool
+    ensures { result ≡ concerns (part_of namespace.now pools.now quotas.now) command.now }
 {
     match command {
         NodeCommand::Report(_, report) => same_text(namespace, &report.namespace),
@@ -26,19 +18,41 @@ fn concerns(namespace: &Text, command: &NodeCommand) -> bool
     }
 }
 
-/// Whether the step is the namespace's own: asked in it with a right there in the base, asked of a pool that is its own in the
-/// base, if it is no report of another's allocation, or made by a worker for it. No administrator's step is.
+/// Whether what an administrator asks is of its record, its quotas or its pools, or of policies and tokens. A put of its record
+/// that names another pool or quota is not its own, and no list of what there is.
+#[tactic(auto, unfolding(ns_types::specs::Isolation::is_own_admin))]
+fn is_own_admin(namespace: &Text, pools: &[Text], quotas: &[Text], command: &AdminCommand) -> bool
+    ensures { result ≡ is_own_admin (part_of namespace.now pools.now quotas.now) command.now }
+{
+    match command {
+        AdminCommand::ListNamespaces | AdminCommand::ListQuotas | AdminCommand::ListPools => false,
+        AdminCommand::PutNamespace(name, record) => {
+            same_text(namespace, name) && names_within(record, pools, quotas)
+        }
+        AdminCommand::DeleteNamespace(name) => same_text(namespace, name),
+        AdminCommand::ReadQuota(name)
+        | AdminCommand::PutQuota(name, _)
+        | AdminCommand::DeleteQuota(name) => has_name(quotas, name),
+        AdminCommand::PutPool(name, _) | AdminCommand::DeletePool(name) => has_name(pools, name),
+        AdminCommand::ReadPolicy(_)
+        | AdminCommand::PutPolicy(_, _)
+        | AdminCommand::DeletePolicy(_)
+        | AdminCommand::CreateToken(_)
+        | AdminCommand::DeleteToken(_) => true,
+    }
+}
+
+/// Whether the step is the namespace's own: asked in it, asked of one of the pools, if it is no report of another's allocation,
+/// asked by an administrator of its record, the quotas, the pools or the access lists, or made by a worker for it.
 #[tactic(auto, unfolding(ns_types::specs::Isolation::is_own))]
-pub fn is_own(base: &Core, step: &Step, namespace: &Text) -> bool
-    ensures { result ≡ is_own namespace.now base.now step.now }
+pub fn is_own(step: &Step, namespace: &Text, pools: &[Text], quotas: &[Text]) -> bool
+    ensures { result ≡ is_own (part_of namespace.now pools.now quotas.now) step.now }
 {
     match step {
-        Step::Ask(asked, secret, _) => {
-            same_text(namespace, asked) && has_any(base.rights(secret.as_ref(), namespace))
-        }
-        Step::Admin(_, _) => false,
+        Step::Ask(asked, _, _) => same_text(namespace, asked),
+        Step::Admin(_, command) => is_own_admin(namespace, pools, quotas, command.get()),
         Step::Node(pool, _, command) => {
-            base.permits(namespace, pool) && concerns(namespace, command.get())
+            has_name(pools, pool) && concerns(namespace, pools, quotas, command.get())
         }
         Step::Dequeue(_, label, _)
         | Step::Snap(_, label)

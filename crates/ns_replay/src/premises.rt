@@ -1,82 +1,83 @@
 //! Whether the premises hold after a step. They are looked at only where the step may have changed what they speak of.
 
-ghost use Rattle.std.specs.Prelude.{◌≡◌, ◌↔◌, ◌⊎◌, true, false};
-ghost use Rattle.std.specs.Prelude.{IfErr, IfOk, IfSome, IsFalse, IsSomeAnd, IsTrue};
-ghost use Rattle.std.specs.Option.{option_map_or};
-ghost use Rattle.ns_types.specs.Access.Sharing.{is_confined};
-ghost use Rattle.ns_types.specs.Isolation.{namespace_at};
+ghost use Rattle.std.specs.Prelude.{◌≡◌, ◌&&◌, IfErr, IfOk, true};
+ghost use Rattle.ns_audit.specs.Orderly.{IsSteady};
+ghost use Rattle.ns_isolation.specs.Staying.{puts_namespace};
+ghost use Rattle.ns_types.specs.Isolation.{is_own, lacks_room};
 ghost use Rattle.ns_rerun.specs.Replying.{Replies};
-ghost use Rattle.ns_replay.specs.Abreast.{Holds, IsBreach, KeepsPremises, StandsBeside};
-ghost use Rattle.ns_replay.specs.Abreast.{may_break};
+ghost use Rattle.ns_replay.specs.Abreast.{IsBreachBy, KeepsPremisesBy, breaks_premise, is_apart_by, its_part};
 
+use crate::claim::Claim;
 use crate::fault::ReplayFault;
-use ns_answers::may_change;
+use crate::own::is_own;
 use ns_core::Core;
-use ns_rerun::reply_to;
-use ns_types::reply::Rendered;
-use ns_types::step::Step;
-use ns_types::text::Text;
+use ns_rerun::shown;
+use ns_types::refusal::Refusal;
+use ns_types::reply::{Rendered, Reply};
+use ns_types::step::{AdminCommand, Step};
 use std::alloc::Global;
 
-/// Whether the step, answered so, may have changed what the premises speak of: it is an administrator's, was not refused, and
-/// does not only read.
-#[tactic(auto, unfolding(crate::specs::Abreast::may_break))]
-fn may_break(step: &Step, reply: &Rendered) -> bool
-    ensures { result ≡ may_break step.now reply.now }
+/// Whether the step puts a namespace: no other takes away that one is apart.
+fn puts_namespace(step: &Step) -> bool
+    ensures { result ≡ puts_namespace step.now }
 {
-    matches!(step, Step::Admin(_, _)) && reply.status == 200 && may_change(step)
+    match step {
+        Step::Admin(_, command) => matches!(command.get(), AdminCommand::PutNamespace(_, _)),
+        _ => false,
+    }
 }
 
-/// Whether the namespace shares nothing in the whole server, and has there the tables that it has where it is alone.
-fn hold(whole: &Core, alone: &Core, namespace: &Text) -> bool
-    requires confined { let w = alone.now.world in
-        option_map_or is_confined (namespace_at w namespace.now) true ≡ true }
-    ensures { IsTrue result ↔ Holds namespace.now alone.now whole.now }
+/// Whether the step is a put of its own of a new name, whose table has no room.
+fn is_crowded(whole: &Core, claim: &Claim<'_>, step: &Step) -> bool
+    ensures { result ≡ (is_own (its_part claim.now) step.now
+        && lacks_room step.now whole.now.world) }
 {
-    !whole.shares(namespace) && alone.has_same_tables(whole, namespace)
+    is_own(step, claim.namespace, claim.pools, claim.quotas) && whole.lacks_room(step)
 }
 
-/// Whether the step, answered so, changed what the premises speak of, and they do not hold after it.
+/// Whether the step, answered so, breaks a premise: a put of a namespace was made, after which the claim is shared, or a put of
+/// its own was refused since its table is full.
 fn is_broken(
     whole: &Core,
-    alone: &Core,
-    namespace: &Text,
+    claim: &Claim<'_>,
     step: &Step,
-    told: &Option<Rendered>,
+    crowded: bool,
+    answer: &Result<Reply, Refusal>,
 ) -> bool
-    requires confined { let w = alone.now.world in
-        option_map_or is_confined (namespace_at w namespace.now) true ≡ true }
-    ensures broken { IsTrue result → IsSomeAnd told.now (λ reply.
-        (may_break step.now reply ≡ true)
-        × (Holds namespace.now alone.now whole.now → ⊥)) }
-    ensures kept { IsFalse result → IfSome told.now (λ reply.
-        (may_break step.now reply ≡ false)
-        ⊎ Holds namespace.now alone.now whole.now) }
+    ensures { let apart = is_apart_by claim.now whole.now.world in
+        result ≡ breaks_premise apart crowded step.now answer.now }
 {
-    match told {
-        Some(reply) => may_break(step, reply) && !hold(whole, alone, namespace),
-        None => false,
+    match answer {
+        Ok(_) => {
+            puts_namespace(step) && !whole.apart(claim.namespace, claim.pools, claim.quotas)
+        }
+        Err(refusal) => crowded && matches!(refusal, Refusal::Full),
     }
 }
 
 /// Makes the step on the whole server, and says what it is answered, if the premises hold after it.
-pub fn step_whole(
+pub(crate) fn step_whole(
     alloc: Global,
     whole: &mut Core,
-    alone: &Core,
-    namespace: &Text,
+    claim: &Claim<'_>,
     place: u64,
     step: &Step,
 ) -> Result<Option<Rendered>, ReplayFault>
-    requires { StandsBeside namespace.now whole.old alone.now }
+    requires steady { IsSteady whole.old }
+    requires apart { is_apart_by claim.now whole.old.world ≡ true }
     ensures told { IfOk result (λ told. Replies step.now whole.old told whole.new) }
     ensures premises { IfOk result
-        (λ told. KeepsPremises namespace.now step.now whole.old told whole.new) }
-    ensures breach { IfErr result (IsBreach namespace.now step.now whole.old place) }
+        (λ told. KeepsPremisesBy claim.now step.now whole.old told whole.new) }
+    ensures breach { IfErr result (IsBreachBy claim.now step.now whole.old place) }
 {
-    let told = reply_to(alloc, whole, step)?;
-    if is_broken(whole, alone, namespace, step, &told) {
+    let crowded = is_crowded(whole, claim, step);
+    let answer = ns_runs::step(alloc, whole, step);
+    let broken = is_broken(whole, claim, step, crowded, &answer);
+    let told = shown(alloc, &answer);
+    drop(answer);
+    if broken {
+        drop(told);
         return Err(ReplayFault::Premise(place));
     }
-    Ok(told)
+    Ok(told?)
 }

@@ -1,10 +1,11 @@
 //! A whole log, replayed by both servers.
 
 ghost use Rattle.std.specs.Prelude.{◌≡◌, [], IfErr, IfOk, IsOk, OnOk, true};
-ghost use Rattle.ns_replay.specs.Abreast.{with_reply};
-ghost use Rattle.ns_replay.specs.Replay.{IsFault, IsReplayed, RepliesAlone, own_entries, replies_of};
-ghost use Rattle.ns_types.specs.Access.Sharing.{is_unshared};
+ghost use Rattle.ns_replay.specs.Abreast.{IsFaultBy, IsReplayedBy, RepliesAloneBy, is_apart_by, its_part, with_reply};
+ghost use Rattle.ns_replay.specs.Replay.{IsFault, RepliesAlone, own_entries, replies_of};
+ghost use Rattle.ns_types.specs.Isolation.{part_of};
 
+use crate::claim::Claim;
 use crate::entry::replay_entry;
 use crate::fault::ReplayFault;
 use ns_core::Core;
@@ -31,20 +32,19 @@ fn replay_all(
     whole: &mut Core,
     alone: &mut Core,
     entries: &[Entry],
-    namespace: &Text,
+    claim: &Claim<'_>,
 ) -> Result<Vec<Rendered>, ReplayFault>
-    requires { IsReplayed namespace.now base.now [] whole.old alone.old }
+    requires { IsReplayedBy claim.now base.now [] whole.old alone.old }
     ensures replayed { OnOk result
-        (IsReplayed namespace.now base.now entries.now whole.new alone.new) }
+        (IsReplayedBy claim.now base.now entries.now whole.new alone.new) }
     ensures logged { IfOk result (λ replies.
-        replies.items ≡ replies_of (own_entries namespace.now base.now entries.now)) }
-    ensures fault { IfErr result (IsFault namespace.now base.now entries.now) }
+        replies.items ≡ replies_of (own_entries (its_part claim.now) entries.now)) }
+    ensures fault { IfErr result (IsFaultBy claim.now base.now entries.now) }
 {
     base.is_valid();
     let mut replies = Vec::new(alloc);
     for (place, entry) in entries.iter().enumerate() {
-        let place = place as u64;
-        match replay_entry(alloc, base, whole, alone, namespace, place, entry) {
+        match replay_entry(alloc, whole, alone, claim, place as u64, entry) {
             Ok(reply) => push_reply(&mut replies, reply)?,
             Err(fault) => return Err(fault),
         }
@@ -58,51 +58,59 @@ fn replay_on(
     base: &Core,
     mut whole: Core,
     entries: &[Entry],
-    namespace: &Text,
+    claim: &Claim<'_>,
 ) -> Result<Vec<Rendered>, ReplayFault>
     requires same { whole ≡ base.now }
-    requires unshared { is_unshared base.now.world namespace.now ≡ true }
+    requires apart { is_apart_by claim.now base.now.world ≡ true }
     ensures replies { IfOk result
-        (λ replies. RepliesAlone namespace.now base.now entries.now replies.items) }
+        (λ replies. RepliesAloneBy claim.now base.now entries.now replies.items) }
     ensures logged { IfOk result (λ replies.
-        replies.items ≡ replies_of (own_entries namespace.now base.now entries.now)) }
-    ensures fault { IfErr result (IsFault namespace.now base.now entries.now) }
+        replies.items ≡ replies_of (own_entries (its_part claim.now) entries.now)) }
+    ensures fault { IfErr result (IsFaultBy claim.now base.now entries.now) }
 {
-    let Ok(mut alone) = base.alone(alloc, namespace) else {
+    let Ok(mut alone) = base.alone(alloc, claim.namespace, claim.pools, claim.quotas) else {
         drop(whole);
         return Err(ReplayFault::Memory);
     };
-    let replayed = replay_all(alloc, base, &mut whole, &mut alone, entries, namespace);
+    let replayed = replay_all(alloc, base, &mut whole, &mut alone, entries, claim);
     drop(whole);
     drop(alone);
     replayed
 }
 
-/// Makes the steps of the log on a copy of the base, and beside that the namespace's own steps on the server that holds the
-/// namespace alone. Says what these are answered there, which is what is logged. The first fault ends it: at a place a premise
-/// that fails, before a step of the namespace alone that differs, before an entry that is no step of the whole server. An empty
-/// log has no replies, and no fault.
+/// Makes the steps of the log on a copy of the base, and beside that the namespace's own steps, with these pools and these
+/// quotas, on the server that holds it alone. Says what these are answered there, which is what is logged. The first fault ends
+/// it: at a place a premise that fails, before a step of the namespace alone that differs, before an entry that is no step of
+/// the whole server. An empty log has no replies, and no fault.
 pub fn replay_alone(
     alloc: Global,
     base: &Core,
     entries: &[Entry],
     namespace: &Text,
+    pools: &[Text],
+    quotas: &[Text],
 ) -> Result<Vec<Rendered>, ReplayFault>
     ensures empty { entries.now ≡ [] → IsOk result }
-    ensures replies { IfOk result
-        (λ replies. RepliesAlone namespace.now base.now entries.now replies.items) }
-    ensures logged { IfOk result (λ replies.
-        replies.items ≡ replies_of (own_entries namespace.now base.now entries.now)) }
-    ensures fault { IfErr result (IsFault namespace.now base.now entries.now) }
+    ensures replies { IfOk result (λ replies.
+        RepliesAlone namespace.now pools.now quotas.now base.now entries.now replies.items) }
+    ensures logged { let part = part_of namespace.now pools.now quotas.now in
+        IfOk result (λ replies. replies.items ≡ replies_of (own_entries part entries.now)) }
+    ensures fault { IfErr result
+        (IsFault namespace.now pools.now quotas.now base.now entries.now) }
 {
     if entries.is_empty() {
         return Ok(Vec::new(alloc));
     }
-    if !base.unshared(namespace) {
+    if !base.apart(namespace, pools, quotas) {
         return Err(ReplayFault::Premise(0));
     }
+    let claim = Claim {
+        namespace,
+        pools,
+        quotas,
+    };
     match base.copy(alloc) {
-        Ok(whole) => replay_on(alloc, base, whole, entries, namespace),
+        Ok(whole) => replay_on(alloc, base, whole, entries, &claim),
         Err(_) => Err(ReplayFault::Memory),
     }
 }

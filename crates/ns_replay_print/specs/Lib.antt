@@ -1,3 +1,4 @@
 pub mod Text
+pub mod Claimed
 pub mod Outcome
 pub mod Printing

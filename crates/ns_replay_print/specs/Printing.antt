@@ -7,33 +7,34 @@ use Rattle.ns_http.specs.declared.counting.Counted.{Counted}
 use Rattle.ns_faults.specs.Lines.{FailsToWrite}
 use Rattle.ns_faults.specs.declared.status.TheConstants.{READ_FAULT, WRITE_FAULT, OUT_OF_MEMORY}
 use Rattle.ns_replay_print.specs.Outcome.{IsPrintout}
+use Rattle.ns_replay_print.specs.declared.replay.Replay.{Replay}
 
 module _ {R W : Type 0} (remaining : R → Option (List ℕ)) (contents : W → Option (List ℕ)) where
   -- all of the input was read, and the text was written of what it comes to
   pub record Prints
-      (ns : Name) (from : ℕ) (reader reader' : Counted R) (writer writer' : Counted W) (status : ℕ) : Type 0 where
+      (replay : Replay) (reader reader' : Counted R) (writer writer' : Counted W) (status : ℕ) : Type 0 where
     pub bytes : Name
     pub text : Name
     pub reads : ReadsAll remaining reader reader' bytes
-    pub is_printout : IsPrintout bytes from ns text status
+    pub is_printout : IsPrintout bytes replay text status
     pub writes : WritesAll contents writer writer' text
 
   -- the same, up to a fault of the writer
   pub record PrintsPart
-      (ns : Name) (from : ℕ) (reader reader' : Counted R) (writer writer' : Counted W) : Type 0 where
+      (replay : Replay) (reader reader' : Counted R) (writer writer' : Counted W) : Type 0 where
     pub bytes : Name
     pub text : Name
     pub status : ℕ
     pub reads : ReadsAll remaining reader reader' bytes
-    pub is_printout : IsPrintout bytes from ns text status
+    pub is_printout : IsPrintout bytes replay text status
     pub writes : FailsToWrite contents writer writer' text
 
   -- A replay ended with this status. A fault of the reader, or want of memory, leaves the writer as it was.
   pub record EndsAlone
-      (ns : Name) (from status : ℕ) (reader reader' : Counted R) (writer writer' : Counted W) : Type 0 where
+      (replay : Replay) (status : ℕ) (reader reader' : Counted R) (writer writer' : Counted W) : Type 0 where
     pub is_end : status ≤ OUT_OF_MEMORY
-    pub printed : status < READ_FAULT → Prints ns from reader reader' writer writer' status
+    pub printed : status < READ_FAULT → Prints replay reader reader' writer writer' status
     pub read_fault : status ≡ READ_FAULT → FailsToRead reader.counts reader'.counts
     pub unread : status ≡ READ_FAULT → writer' ≡ writer
-    pub write_fault : status ≡ WRITE_FAULT → PrintsPart ns from reader reader' writer writer'
+    pub write_fault : status ≡ WRITE_FAULT → PrintsPart replay reader reader' writer writer'
     pub out_of_memory : status ≡ OUT_OF_MEMORY → writer' ≡ writer

@@ -2,9 +2,8 @@
 use Rattle.std.specs.Prelude.{ℕ, List, ◌++◌, codes, decimal, filter}
 use Rattle.std.specs.List.{enumerate_from, flat_map}
 use Rattle.ns_types.specs.declared.reply.Rendered.{Rendered}
-use Rattle.ns_types.specs.Isolation.{is_own}
+use Rattle.ns_types.specs.Isolation.{Part, is_own}
 use Rattle.ns_types.specs.State.Names.{Name}
-use Rattle.ns_types.specs.State.Rows.{State}
 use Rattle.ns_json.specs.Replies.{Entry}
 use Rattle.ns_replay_print.specs.declared.ending.Ending.{Ending}
 use Rattle.ns_replay_print.specs.declared.ending.Ending.TheVariants.{Same, BadLine, NotARun, PremiseFails, Differs}
@@ -13,10 +12,10 @@ use Rattle.ns_replay_print.specs.declared.ending.Ending.TheVariants.{Same, BadLi
 abbrev pub answer_line : ℕ → Rendered → Name
 answer_line place r = decimal place ++ codes " " ++ decimal r.status ++ codes " " ++ r.body ++ codes "\n"
 
--- the lines of those entries whose steps are the namespace's own, as the base has it; the first stands at this place
-abbrev pub own_lines : Name → State → ℕ → List Entry → Name
-own_lines ns base first entries =
-    flat_map (λ e. answer_line e.0 e.1.1) (filter (λ e. is_own ns base e.1.0) (enumerate_from first entries))
+-- the lines of those entries whose steps are the namespace's own; the first stands at this place
+abbrev pub own_lines : Part → ℕ → List Entry → Name
+own_lines part first entries =
+    flat_map (λ e. answer_line e.0 e.1.1) (filter (λ e. is_own part e.1.0) (enumerate_from first entries))
 
 -- the line of an ending
 abbrev pub last_line : Ending → Name

@@ -14,7 +14,7 @@ pub enum Ending {
     BadLine(u64),
     /// The entry is no step of the server, or is answered otherwise.
     NotARun(u64),
-    /// The namespace shares something, or an administrator changed its tables.
+    /// The namespace does not have its pools and its quotas to itself, or a put of its own is refused since its table is full.
     PremiseFails(u64),
     /// A server that holds the namespace alone answers its own step otherwise.
     Differs(u64),

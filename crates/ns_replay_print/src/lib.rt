@@ -3,10 +3,13 @@
 #![tactic(auto)]
 
 mod base;
+mod claimed;
 mod ending;
 mod lines;
 mod outcome;
 mod printing;
+mod replay;
 
 pub use ending::Ending;
 pub use printing::print_replay;
+pub use replay::Replay;

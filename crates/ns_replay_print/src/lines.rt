@@ -1,9 +1,9 @@
 //! The lines of a namespace's own entries.
 
 ghost use Rattle.std.specs.Prelude.{◌≡◌, ◌+◌, ◌^◌, ◌<◌, ◌++◌, IfOk, OnOk, length, string_bytes};
+ghost use Rattle.ns_types.specs.Isolation.{part_of};
 ghost use Rattle.ns_replay_print.specs.Text.{answer_line, own_lines};
 
-use ns_core::Core;
 use ns_log::Entry;
 use ns_replay::is_own;
 use ns_types::reply::Rendered;
@@ -19,22 +19,23 @@ fn push_answer(text: &mut String, place: u64, answer: &Rendered) -> Result<(), A
     writeln!(text, "{place} {} {body}", answer.status)
 }
 
-/// The lines of those entries whose steps are the namespace's own, as the base has it. The first
-/// entry stands at the place `first`.
+/// The lines of those entries whose steps are the namespace's own, with these pools and these
+/// quotas. The first entry stands at the place `first`.
 pub fn own_lines(
     alloc: Global,
-    base: &Core,
     first: u64,
     entries: &[Entry],
     namespace: &Text,
+    pools: &[Text],
+    quotas: &[Text],
 ) -> Result<String, AllocError>
     requires { first + length entries.now < 2 ^ 64 }
-    ensures { IfOk result (λ text.
-        string_bytes text ≡ own_lines namespace.now base.now first entries.now) }
+    ensures { let part = part_of namespace.now pools.now quotas.now in
+        IfOk result (λ text. string_bytes text ≡ own_lines part first entries.now) }
 {
     let mut text = String::new(alloc);
     for (index, entry) in entries.iter().enumerate() {
-        if is_own(base, entry.step(), namespace) {
+        if is_own(entry.step(), namespace, pools, quotas) {
             push_answer(&mut text, first + index as u64, entry.rendered())?;
         }
     }

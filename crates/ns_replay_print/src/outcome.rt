@@ -1,11 +1,14 @@
 //! What a log comes to.
 
 ghost use Rattle.std.specs.Prelude.{◌≡◌, ◌+◌, ◌^◌, ◌<◌, IfOk, length, string_bytes};
+ghost use Rattle.ns_replay_print.specs.Claimed.{pools_for, quotas_for};
 ghost use Rattle.ns_replay_print.specs.Outcome.{ComesTo, IsPrintout, ReplaysTo, ending_of, place_of};
 
 use crate::base::base_of;
+use crate::claimed::claimed_in;
 use crate::ending::{Ending, push_ending};
 use crate::lines::own_lines;
+use crate::replay::Replay;
 use ns_core::Core;
 use ns_log::Entry;
 use ns_log_read::{LogFault, log_read};
@@ -46,19 +49,22 @@ fn ending_of(first: u64, fault: ReplayFault) -> Option<Ending>
     }
 }
 
-/// Replays the entries after those of the base. The first of them stands at the place `first`.
+/// Replays the entries after those of the base, with these pools and these quotas. The first of them stands at the place
+/// `first`.
 fn replay_from(
     alloc: Global,
     base: &Core,
     first: u64,
     entries: &[Entry],
     namespace: &Text,
+    pools: &[Text],
+    quotas: &[Text],
 ) -> Result<Outcome, AllocError>
     requires { first + length entries.now < 2 ^ 64 }
-    ensures { IfOk result (λ o. let bytes = string_bytes o.lines in
-        ReplaysTo namespace.now base.now first entries.now bytes o.ending) }
+    ensures { IfOk result (λ o. ReplaysTo namespace.now pools.now quotas.now
+        base.now first entries.now (string_bytes o.lines) o.ending) }
 {
-    let (end, ending) = match replay_alone(alloc, base, entries, namespace) {
+    let (end, ending) = match replay_alone(alloc, base, entries, namespace, pools, quotas) {
         Ok(replies) => {
             drop(replies);
             (entries.len(), Ending::Same)
@@ -68,19 +74,39 @@ fn replay_from(
             None => return Err(AllocError),
         },
     };
-    let lines = own_lines(alloc, base, first, &entries[..end], namespace)?;
+    let lines = own_lines(alloc, first, &entries[..end], namespace, pools, quotas)?;
     Ok(Outcome { lines, ending })
 }
 
-/// What the bytes come to.
-fn outcome_of(
+/// Replays the entries after those of the base, with the pools and the quotas that are named, or else with those that the
+/// namespace has in the base.
+fn replay_behind(
     alloc: Global,
-    bytes: &[u8],
-    from: u64,
-    namespace: &Text,
+    base: &Core,
+    first: u64,
+    entries: &[Entry],
+    replay: &Replay,
 ) -> Result<Outcome, AllocError>
-    ensures { IfOk result (λ o.
-        ComesTo bytes.now from namespace.now (string_bytes o.lines) o.ending) }
+    requires { first + length entries.now < 2 ^ 64 }
+    ensures { IfOk result (λ o. ReplaysTo replay.now.namespace
+        (pools_for replay.now base.now) (quotas_for replay.now base.now)
+        base.now first entries.now (string_bytes o.lines) o.ending) }
+{
+    let namespace = &replay.namespace;
+    let pools = replay.pools.as_slice();
+    let quotas = replay.quotas.as_slice();
+    if !pools.is_empty() || !quotas.is_empty() {
+        return replay_from(alloc, base, first, entries, namespace, pools, quotas);
+    }
+    let claimed = claimed_in(alloc, base, namespace)?;
+    let pools = claimed.pools.as_slice();
+    let quotas = claimed.quotas.as_slice();
+    replay_from(alloc, base, first, entries, namespace, pools, quotas)
+}
+
+/// What the bytes come to.
+fn outcome_of(alloc: Global, bytes: &[u8], replay: &Replay) -> Result<Outcome, AllocError>
+    ensures { IfOk result (λ o. ComesTo bytes.now replay.now (string_bytes o.lines) o.ending) }
 {
     let lines = String::new(alloc);
     let log = match log_read(alloc, bytes) {
@@ -92,10 +118,10 @@ fn outcome_of(
         Err(LogFault::Memory) => return Err(AllocError),
     };
     let entries = log.entries.as_slice();
-    let first = from.min(entries.len() as u64);
+    let first = replay.from.min(entries.len() as u64);
     let (front, rest) = entries.split_at(first as usize);
     match base_of(alloc, &log.secret, front) {
-        Ok(base) => replay_from(alloc, &base, first, rest, namespace),
+        Ok(base) => replay_behind(alloc, &base, first, rest, replay),
         Err(ReplayFault::NotARun(place)) => {
             let ending = Ending::NotARun(place);
             Ok(Outcome { lines, ending })
@@ -111,22 +137,16 @@ pub struct Printout {
     pub status: u8,
 }
 
-/// What is printed of the bytes of a log for the namespace alone, where the first entries, `from`
-/// or all if there are fewer, make the base.
-pub fn printout_of(
-    alloc: Global,
-    bytes: &[u8],
-    from: u64,
-    namespace: &Text,
-) -> Result<Printout, AllocError>
+/// What is printed of the bytes of a log for this replay.
+pub fn printout_of(alloc: Global, bytes: &[u8], replay: &Replay) -> Result<Printout, AllocError>
     ensures printout { IfOk result (λ printout.
-        IsPrintout bytes.now from namespace.now (string_bytes printout.text) printout.status) }
+        IsPrintout bytes.now replay.now (string_bytes printout.text) printout.status) }
     ensures status { IfOk result (λ printout. printout.status < 3) }
 {
     let Outcome {
         lines: mut text,
         ending,
-    } = outcome_of(alloc, bytes, from, namespace)?;
+    } = outcome_of(alloc, bytes, replay)?;
     push_ending(&mut text, ending)?;
     Ok(Printout {
         text,

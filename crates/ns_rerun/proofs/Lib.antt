@@ -1,3 +1,3 @@
 pub mod Determined
 mod Kept
-mod Replied
+pub mod Replied

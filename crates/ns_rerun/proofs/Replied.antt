@@ -12,7 +12,7 @@ use Rattle.ns_runs.specs.Running.{is_no_step}
 use Rattle.ns_rerun.specs.Replying.{Replies, Shows}
 
 module _ (step : Step) (s s' : State) where
-  made_so : (answer : Answer) → IfErr answer (λ refusal. is_no_step refusal ≡ false) → MakesAny step s answer s' → after step s ≡ said answer s'
+  pub made_so : (answer : Answer) → IfErr answer (λ refusal. is_no_step refusal ≡ false) → MakesAny step s answer s' → after step s ≡ said answer s'
   made_so (Ok reply) goes m = m
   made_so (Err Refusal.Memory) goes m = not_both refl goes
   made_so (Err Refusal.NotEnabled) goes m = not_both refl goes

@@ -4,5 +4,5 @@
 mod replying;
 mod rerunning;
 
-pub use replying::{is_logged, reply_to};
+pub use replying::{is_logged, reply_to, shown};
 pub use rerunning::{RerunFault, rerun, rerun_from};

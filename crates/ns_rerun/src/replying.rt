@@ -34,7 +34,7 @@ fn shown_refusal(alloc: Global, refusal: Refusal) -> Result<Option<Rendered>, Al
 }
 
 /// The bytes of a step's answer. None: the call was out of turn.
-fn shown(alloc: Global, answer: &Result<Reply, Refusal>) -> Result<Option<Rendered>, AllocError>
+pub fn shown(alloc: Global, answer: &Result<Reply, Refusal>) -> Result<Option<Rendered>, AllocError>
     ensures { IfOk result (Shows answer.now) }
 {
     match answer {

@@ -1,16 +1,21 @@
-//! What a namespace may use, and whether it has that to itself. Nothing here takes memory.
+//! What a namespace may use, and whether it has a list of pools and a list of quotas to itself. Nothing here takes memory.
 #![tactic(auto)]
 
-ghost use Rattle.std.specs.Prelude.{◌≡◌};
-ghost use Rattle.ns_sharing.specs.Straying.{has_none_astray};
-ghost use Rattle.ns_types.specs.Access.Sharing.{is_unshared, strays};
-ghost use Rattle.ns_types.specs.Isolation.{has_pool};
+ghost use Rattle.std.specs.Prelude.{◌≡◌, option_copied};
+ghost use Rattle.ns_types.specs.Isolation.{lacks_room};
+ghost use Rattle.ns_types.specs.Access.Sharing.{has_pool, is_apart, namespace_at, stays_within, strays_from};
+ghost use Rattle.ns_sharing.specs.Straying.{stays_there};
 ghost use Rattle.ns_world.specs.World.{tenant_of, world_of};
 
+mod intruding;
 mod straying;
 
+use crate::intruding::any_intrudes;
+pub use crate::intruding::names_within;
 use crate::straying::{has_allocation_astray, has_evaluation_astray, has_worker_astray};
-use ns_admin::{permits_in, shares};
+use ns_admin::{is_confined, is_full, permits_in};
+use ns_types::records::Namespace;
+use ns_types::step::{AdminCommand, Step};
 use ns_types::text::Text;
 use ns_world::{Tables, TenantRows};
 
@@ -21,29 +26,65 @@ pub fn permits(tables: &Tables, namespace: &Text, pool: &Text) -> bool
     permits_in(tables, namespace, pool)
 }
 
-/// Whether something of the namespace names a pool that it may not use: an open evaluation, a kept snapshot, or an
-/// allocation that the client has not ended, whatever is desired.
-pub fn strays(tenant: &TenantRows) -> bool
-    ensures { result ≡ strays (tenant_of tenant.now) }
+/// The namespace's record, if it is there.
+pub fn namespace_at<'a>(tables: &'a Tables, name: &Text) -> Option<&'a Namespace>
+    ensures { option_copied result ≡ namespace_at (world_of tables.now) name.now }
 {
-    has_evaluation_astray(tenant) || has_worker_astray(tenant) || has_allocation_astray(tenant)
-}
-
-/// Whether the namespace is there, with nothing in a pool that it may not use.
-fn has_none_astray(tables: &Tables, namespace: &Text) -> bool
-    ensures { result ≡ has_none_astray (world_of tables.now) namespace.now }
-{
-    match tables.tenants.get(namespace) {
-        Some(tenant) => !strays(tenant),
-        None => false,
+    match tables.tenants.get(name) {
+        Some(tenant) => Some(&tenant.namespace),
+        None => None,
     }
 }
 
-/// Whether the namespace has its pools and its quota to itself, and nothing in a pool that it may not use. One that is not
-/// there has nothing to itself.
-#[tactic(auto, unfolding(ns_types::specs::Access::Sharing::is_unshared))]
-pub fn unshared(tables: &Tables, namespace: &Text) -> bool
-    ensures { result ≡ is_unshared (world_of tables.now) namespace.now }
+/// Whether something of the namespace names another pool: an open evaluation, a kept snapshot, or an allocation that the client
+/// has not ended, whatever is desired.
+pub fn strays(tenant: &TenantRows, pools: &[Text]) -> bool
+    ensures { result ≡ strays_from pools.now (tenant_of tenant.now) }
 {
-    !shares(tables, namespace) && has_none_astray(tables, namespace)
+    has_evaluation_astray(tenant, pools)
+        || has_worker_astray(tenant, pools)
+        || has_allocation_astray(tenant, pools)
+}
+
+/// Whether the namespace is confined to these pools, has no other quota, and nothing elsewhere.
+fn stays_within(tenant: &TenantRows, pools: &[Text], quotas: &[Text]) -> bool
+    ensures { result ≡ stays_within pools.now quotas.now (tenant_of tenant.now) }
+{
+    is_confined(&tenant.namespace)
+        && names_within(&tenant.namespace, pools, quotas)
+        && !strays(tenant, pools)
+}
+
+/// Whether the namespace, if it is there, stays within them.
+fn stays_there(tables: &Tables, namespace: &Text, pools: &[Text], quotas: &[Text]) -> bool
+    ensures { result ≡ stays_there pools.now quotas.now namespace.now (world_of tables.now) }
+{
+    match tables.tenants.get(namespace) {
+        Some(tenant) => stays_within(tenant, pools, quotas),
+        None => true,
+    }
+}
+
+/// Whether the namespace has these pools and these quotas to itself: no other permits one of the pools, has it as its default or
+/// names one of the quotas, and if the namespace is there, it is confined to them, names no other quota and has nothing elsewhere.
+#[tactic(auto, unfolding(ns_types::specs::Access::Sharing::is_apart))]
+pub fn apart(tables: &Tables, namespace: &Text, pools: &[Text], quotas: &[Text]) -> bool
+    ensures { result ≡ is_apart (world_of tables.now) namespace.now pools.now quotas.now }
+{
+    !any_intrudes(tables, namespace, pools, quotas) && stays_there(tables, namespace, pools, quotas)
+}
+
+/// Whether the step puts a namespace, a quota or a pool of a new name, whose table has no room.
+pub fn lacks_room(tables: &Tables, step: &Step) -> bool
+    ensures { result ≡ lacks_room step.now (world_of tables.now) }
+{
+    let Step::Admin(_, command) = step else {
+        return false;
+    };
+    match command.get() {
+        AdminCommand::PutNamespace(name, _) => is_full(tables.tenants.as_table(), name),
+        AdminCommand::PutQuota(name, _) => is_full(&tables.quotas, name),
+        AdminCommand::PutPool(name, _) => is_full(tables.pools.as_table(), name),
+        _ => false,
+    }
 }

@@ -1,2 +1,1 @@
-mod Alone
 mod Fresh

@@ -1,6 +1,6 @@
-// A namespace that has its pool and its quota to itself: what it has alone, and its own steps, replayed.
-use crate::made::text;
-use crate::owned::{seen, with};
+// A namespace that has a list of pools and a list of quotas to itself: what it has alone, and its own steps, replayed.
+use crate::made::{digits, only, text};
+use crate::owned::{push, seen, with};
 use crate::server::with_core;
 use crate::settling::{REGISTERED, TOOK};
 use crate::turns::is_served;
@@ -8,6 +8,7 @@ use ns_core::Core;
 use ns_log_read::{Log, log_read};
 use ns_replay::{ReplayFault, replay_alone};
 use ns_rerun::rerun;
+use ns_types::records::Namespace;
 use ns_types::reply::Rendered;
 use ns_types::text::Text;
 use std::alloc::Global;
@@ -15,17 +16,26 @@ use std::process::Abort;
 
 // ---- lines of logs
 
-/// `ta` has the pool `east` and the quota `qa` to itself, and `default` has its own pool.
-const APART: &str =
+/// `default` has its own pool.
+const CONFINED: &str =
+    r#"{"Body":"{}","Index":null,"Status":200,"Step":{"Args":{"Doc":{"Description":"","Name":"default","NodePoolConfiguration":{"Allowed":["default"],"Default":"default","Denied":[]},"Quota":""}},"Do":"PutNamespace","Kind":"Admin","Secret":"root"}}
+"#;
+
+/// `ta` has the pool `east` and the quota `qa`.
+const LAID_OUT: &str =
     r#"{"Body":"{}","Index":null,"Status":200,"Step":{"Args":{"Doc":{"Description":"","Name":"east"}},"Do":"PutPool","Kind":"Admin","Secret":"root"}}
 {"Body":"{}","Index":null,"Status":200,"Step":{"Args":{"Doc":{"Description":"","Limits":[{"Region":"global","RegionLimit":{"CPU":1000,"DiskMB":0,"MemoryMB":1024}}],"Name":"qa"}},"Do":"PutQuota","Kind":"Admin","Secret":"root"}}
-{"Body":"{}","Index":null,"Status":200,"Step":{"Args":{"Doc":{"Description":"","Name":"default","NodePoolConfiguration":{"Allowed":["default"],"Default":"default","Denied":[]},"Quota":""}},"Do":"PutNamespace","Kind":"Admin","Secret":"root"}}
 {"Body":"{}","Index":null,"Status":200,"Step":{"Args":{"Doc":{"Description":"","Name":"ta","NodePoolConfiguration":{"Allowed":["east"],"Default":"east","Denied":[]},"Quota":"qa"}},"Do":"PutNamespace","Kind":"Admin","Secret":"root"}}
 "#;
 
 /// `default` may use the pool `east` too.
 const TOGETHER: &str =
     r#"{"Body":"{}","Index":null,"Status":200,"Step":{"Args":{"Doc":{"Description":"","Name":"default","NodePoolConfiguration":{"Allowed":["east"],"Default":"default","Denied":[]},"Quota":""}},"Do":"PutNamespace","Kind":"Admin","Secret":"root"}}
+"#;
+
+/// `default` has the quota `qa` too.
+const LIMITED: &str =
+    r#"{"Body":"{}","Index":null,"Status":200,"Step":{"Args":{"Doc":{"Description":"","Name":"default","NodePoolConfiguration":{"Allowed":["default"],"Default":"default","Denied":[]},"Quota":"qa"}},"Do":"PutNamespace","Kind":"Admin","Secret":"root"}}
 "#;
 
 /// Each registers a job, `default` first.
@@ -48,6 +58,44 @@ const EAST: &str =
     r#"{"Body":"{}","Index":null,"Status":200,"Step":{"Args":{"Doc":{"Description":"x","Name":"east"}},"Do":"PutPool","Kind":"Admin","Secret":"root"}}
 "#;
 
+/// The same is refused, since there are too many pools.
+const FULL: &str =
+    r#"{"Body":"full","Index":null,"Status":400,"Step":{"Args":{"Doc":{"Description":"x","Name":"east"}},"Do":"PutPool","Kind":"Admin","Secret":"root"}}
+"#;
+
+/// All that is there besides jobs is the namespace `ta`, the pool `east` and the quota `qa`.
+const LISTED: &str =
+    r#"{"Body":"[{\"Description\":\"\",\"Name\":\"ta\",\"NodePoolConfiguration\":{\"Allowed\":[\"east\"],\"Default\":\"east\",\"Denied\":[]},\"Quota\":\"qa\"}]","Index":null,"Status":200,"Step":{"Args":{},"Do":"ListNamespaces","Kind":"Admin","Secret":"root"}}
+{"Body":"[{\"Description\":\"\",\"Name\":\"east\"}]","Index":null,"Status":200,"Step":{"Args":{},"Do":"ListPools","Kind":"Admin","Secret":"root"}}
+{"Body":"[{\"Description\":\"\",\"Limits\":[{\"Region\":\"global\",\"RegionLimit\":{\"CPU\":1000,\"DiskMB\":0,\"MemoryMB\":1024}}],\"Name\":\"qa\"}]","Index":null,"Status":200,"Step":{"Args":{},"Do":"ListQuotas","Kind":"Admin","Secret":"root"}}
+"#;
+
+/// `ta` has the pools `east` and `west`. A job of it is placed in `west` and purged, so its allocation is to stop, and then `ta` has
+/// `east` alone.
+const MOVED: &str =
+    r#"{"Body":"{}","Index":null,"Status":200,"Step":{"Args":{"Doc":{"Description":"","Name":"west"}},"Do":"PutPool","Kind":"Admin","Secret":"root"}}
+{"Body":"{}","Index":null,"Status":200,"Step":{"Args":{"Doc":{"Description":"","Name":"ta","NodePoolConfiguration":{"Allowed":["east"],"Default":"west","Denied":[]},"Quota":"qa"}},"Do":"PutNamespace","Kind":"Admin","Secret":"root"}}
+{"Body":"{}","Index":null,"Status":200,"Step":{"Args":{"Doc":{"Attributes":{},"CPU":1000,"DiskMB":1000,"MemoryMB":1024,"NodeClass":""},"Name":"n1"},"Do":"PutNode","Kind":"Node","Pool":"west","Secret":"root"}}
+{"Body":"{\"EvalCreateIndex\":1,\"EvalID\":\"00000000-0000-0001-0000-000000000001\",\"JobModifyIndex\":1}","Index":1,"Status":200,"Step":{"Args":{"Doc":{"Constraints":[],"ID":"b","NodePool":"","Priority":50,"TaskGroups":[{"Count":1,"EphemeralDisk":{"SizeMB":300},"Name":"g","Tasks":[{"Name":"t","Resources":{"CPU":100,"MemoryMB":300}}]}],"Type":"service"},"Enforce":null},"Do":"Register","Kind":"Ask","Ns":"ta","Secret":"root"}}
+{"Body":"{\"Took\":\"00000000-0000-0001-0000-000000000001\"}","Index":null,"Status":200,"Step":{"Eval":1,"Kind":"Dequeue","Ns":"ta","Worker":0}}
+{"Body":"{\"Snapped\":\"00000000-0000-0001-0000-000000000001\"}","Index":null,"Status":200,"Step":{"Kind":"Snap","Ns":"ta","Worker":0}}
+{"Body":"{\"Queued\":\"00000000-0000-0001-0000-000000000001\"}","Index":null,"Status":200,"Step":{"Kind":"Submit","Ns":"ta","Worker":0}}
+{"Body":"{\"Committed\":[\"00000000-0000-0002-0000-000000000001\"],\"Dropped\":[]}","Index":null,"Status":200,"Step":{"Kind":"Apply","Ns":"ta","Worker":0}}
+{"Body":"{\"Follower\":\"\",\"Status\":\"complete\"}","Index":null,"Status":200,"Step":{"Kind":"Finish","Ns":"ta","Worker":0}}
+{"Body":"{\"EvalCreateIndex\":4,\"EvalID\":\"00000000-0000-0001-0000-000000000002\",\"JobModifyIndex\":4}","Index":4,"Status":200,"Step":{"Args":{"ID":"b","Purge":true},"Do":"Deregister","Kind":"Ask","Ns":"ta","Secret":"root"}}
+{"Body":"{\"Took\":\"00000000-0000-0001-0000-000000000002\"}","Index":null,"Status":200,"Step":{"Eval":2,"Kind":"Dequeue","Ns":"ta","Worker":0}}
+{"Body":"{\"Snapped\":\"00000000-0000-0001-0000-000000000002\"}","Index":null,"Status":200,"Step":{"Kind":"Snap","Ns":"ta","Worker":0}}
+{"Body":"{\"Queued\":\"00000000-0000-0001-0000-000000000002\"}","Index":null,"Status":200,"Step":{"Kind":"Submit","Ns":"ta","Worker":0}}
+{"Body":"{\"Committed\":[],\"Dropped\":[]}","Index":null,"Status":200,"Step":{"Kind":"Apply","Ns":"ta","Worker":0}}
+{"Body":"{\"Follower\":\"\",\"Status\":\"complete\"}","Index":null,"Status":200,"Step":{"Kind":"Finish","Ns":"ta","Worker":0}}
+{"Body":"{}","Index":null,"Status":200,"Step":{"Args":{"Doc":{"Description":"","Name":"ta","NodePoolConfiguration":{"Allowed":["east"],"Default":"east","Denied":[]},"Quota":"qa"}},"Do":"PutNamespace","Kind":"Admin","Secret":"root"}}
+"#;
+
+/// That allocation is reported ended.
+const ENDED: &str =
+    r#"{"Body":"{}","Index":null,"Status":200,"Step":{"Args":{"ClientStatus":"complete","Name":"n1","Namespace":"ta","Number":1},"Do":"Report","Kind":"Node","Pool":"west","Secret":"root"}}
+"#;
+
 fn log_of(rt: &impl Abort, alloc: Global, lines: &[&str]) -> Log {
     let mut text = String::from_str(alloc, "nsd-log 3 0 root\n").expect(rt, "memory");
     for line in lines {
@@ -64,39 +112,158 @@ fn make(rt: &impl Abort, alloc: Global, core: &mut Core, lines: &[&str]) {
     assert!(rt; made.is_ok());
 }
 
-/// Whether the tables of the namespace are the same at both. None: it has nothing to itself.
-#[tactic(auto, using(crate::proofs::Alone::unshared_is_confined))]
-fn same_tables(core: &Core, other: &Core, namespace: &Text) -> Option<bool> {
-    if core.unshared(namespace) {
-        Some(core.has_same_tables(other, namespace))
-    } else {
-        None
+// ---- apart
+
+/// A namespace, pools and quotas, and whether the namespace has them to itself.
+type Case<'a> = (&'a str, &'a [&'a str], &'a [&'a str], bool);
+
+/// Who may use every pool is not confined, and intrudes on each.
+static FRESH: [Case; 5] = [
+    ("ta", &[], &[], true),
+    ("ta", &[], &["qa"], true),
+    ("ta", &["east"], &[], false),
+    ("default", &["default"], &[], false),
+    ("default", &[], &[], false),
+];
+
+static APART: [Case; 10] = [
+    ("ta", &["east"], &["qa"], true),
+    ("ta", &["west", "east"], &["qa", "qb"], true),
+    ("ta", &["east"], &["qb"], false),
+    ("ta", &[], &["qa"], false),
+    ("ta", &["east", "default"], &["qa"], false),
+    ("default", &["default"], &[], true),
+    ("default", &["default"], &["qa"], false),
+    ("tb", &["west"], &["qb"], true),
+    ("tb", &["east"], &[], false),
+    ("tb", &[], &["qa"], false),
+];
+
+/// The pool `east` is also that of `default`.
+static SHARED_POOL: [Case; 3] = [
+    ("ta", &["east"], &["qa"], false),
+    ("default", &["default", "east"], &[], false),
+    ("default", &["default"], &[], false),
+];
+
+/// The quota `qa` is also that of `default`.
+static SHARED_QUOTA: [Case; 3] = [
+    ("ta", &["east"], &["qa"], false),
+    ("default", &["default"], &["qa"], false),
+    ("default", &["default"], &[], false),
+];
+
+/// What was told to stop may still run.
+static ASTRAY: [Case; 2] = [
+    ("ta", &["east"], &["qa"], false),
+    ("ta", &["east", "west"], &["qa"], true),
+];
+
+static ENDED_THERE: [Case; 2] = [
+    ("ta", &["east"], &["qa"], true),
+    ("ta", &["east", "west"], &["qa"], true),
+];
+
+fn texts(rt: &impl Abort, alloc: Global, words: &[&str]) -> Vec<Text> {
+    let mut texts = Vec::new(alloc);
+    for word in words {
+        push(rt, &mut texts, text(rt, alloc, *word));
+    }
+    texts
+}
+
+fn is_as_said(rt: &impl Abort, alloc: Global, core: &Core, case: Case) -> bool {
+    let namespace = text(rt, alloc, case.0);
+    let pools = texts(rt, alloc, case.1);
+    let quotas = texts(rt, alloc, case.2);
+    core.apart(&namespace, pools.as_slice(), quotas.as_slice()) == case.3
+}
+
+fn are_as_said(rt: &impl Abort, alloc: Global, core: &Core, cases: &[Case]) -> bool {
+    let mut right = true;
+    for case in cases {
+        right &= is_as_said(rt, alloc, core, *case);
+    }
+    right
+}
+
+fn intrude(rt: &impl Abort, alloc: Global, core: &mut Core, _root: &Text) -> bool {
+    let mut right = are_as_said(rt, alloc, core, &FRESH);
+    make(rt, alloc, core, &[CONFINED, LAID_OUT]);
+    right &= are_as_said(rt, alloc, core, &APART);
+    make(rt, alloc, core, &[TOGETHER]);
+    right &= are_as_said(rt, alloc, core, &SHARED_POOL);
+    make(rt, alloc, core, &[LIMITED]);
+    right & are_as_said(rt, alloc, core, &SHARED_QUOTA)
+}
+
+#[test]
+fn others_intrude_on_pools_and_quotas(rt: HostRuntime) {
+    let alloc = rt.alloc();
+    assert!(rt; with_core(&rt, alloc, intrude));
+}
+
+fn strays(rt: &impl Abort, alloc: Global, core: &mut Core, _root: &Text) -> bool {
+    make(rt, alloc, core, &[CONFINED, LAID_OUT, MOVED]);
+    let right = are_as_said(rt, alloc, core, &ASTRAY);
+    make(rt, alloc, core, &[ENDED]);
+    right & are_as_said(rt, alloc, core, &ENDED_THERE)
+}
+
+#[test]
+fn what_was_told_to_stop_is_astray_until_it_has_ended(rt: HostRuntime) {
+    let alloc = rt.alloc();
+    assert!(rt; with_core(&rt, alloc, strays));
+}
+
+// ---- alone
+
+/// Whether the record is that of `ta`.
+fn is_of_ta(record: &Namespace) -> bool {
+    let quota = match &record.quota {
+        Some(quota) => quota.as_str() == "qa",
+        None => false,
+    };
+    quota && record.default_pool.as_str() == "east" && record.allowed.is_some()
+}
+
+fn has_ta(core: &Core, ta: &Text) -> bool {
+    match core.namespace_at(ta) {
+        Some(record) => is_of_ta(record),
+        None => false,
     }
 }
 
-/// Whether the part has the tables of `ta` alone, until its pool changes there, and serves it as if there were no other.
-fn is_part(rt: &impl Abort, alloc: Global, core: &Core, part: &mut Core, ta: &Text) -> bool {
+/// Whether the part has what is of `ta` and nothing else, and serves it as if there were no other.
+fn is_part(rt: &impl Abort, alloc: Global, part: &mut Core, ta: &Text) -> bool {
     let default = text(rt, alloc, "default");
-    let mut right = same_tables(core, part, ta) == Some(true);
-    right &= same_tables(core, part, &default) == Some(false);
-    right &= is_served(core, ("default", 1)) & is_served(part, ("ta", 1));
-    make(rt, alloc, part, &[SECOND, EAST]);
-    right && part.served().is_none() && same_tables(core, part, ta) == Some(false)
+    let right = has_ta(part, ta) && part.namespace_at(&default).is_none();
+    let serves = is_served(part, ("ta", 1));
+    make(rt, alloc, part, &[LISTED, SECOND, EAST]);
+    right & serves & part.served().is_none()
 }
 
-fn parts(rt: &impl Abort, alloc: Global, core: &Core, ta: &Text) -> bool {
-    assert!(rt; core.unshared(ta));
-    let part = core.alone(alloc, ta);
-    with(rt, part, |part| is_part(rt, alloc, core, part, ta))
+fn parts(
+    rt: &impl Abort,
+    alloc: Global,
+    core: &Core,
+    ta: &Text,
+    pools: &[Text],
+    quotas: &[Text],
+) -> bool {
+    assert!(rt; core.apart(ta, pools, quotas));
+    let part = core.alone(alloc, ta, pools, quotas);
+    with(rt, part, |part| is_part(rt, alloc, part, ta))
 }
 
 fn stands_alone(rt: &impl Abort, alloc: Global, core: &mut Core, _root: &Text) -> bool {
-    let (ta, default) = (text(rt, alloc, "ta"), text(rt, alloc, "default"));
-    let mut right = !core.unshared(&ta) & !core.unshared(&default);
-    make(rt, alloc, core, &[APART, JOBS]);
-    right &= core.unshared(&default) && parts(rt, alloc, core, &ta);
-    make(rt, alloc, core, &[TOGETHER]);
-    right & !core.unshared(&ta) & !core.unshared(&default)
+    let ta = text(rt, alloc, "ta");
+    let pools = only(rt, alloc, text(rt, alloc, "east"));
+    let quotas = only(rt, alloc, text(rt, alloc, "qa"));
+    let mut right = core.namespace_at(&ta).is_none();
+    make(rt, alloc, core, &[CONFINED, LAID_OUT, JOBS]);
+    right &= has_ta(core, &ta) & is_served(core, ("default", 1));
+    right & parts(rt, alloc, core, &ta, pools.as_slice(), quotas.as_slice())
 }
 
 #[test]
@@ -105,37 +272,129 @@ fn a_namespace_with_its_own_pool_stands_alone(rt: HostRuntime) {
     assert!(rt; with_core(&rt, alloc, stands_alone));
 }
 
-fn are_told(replies: &[Rendered]) -> bool {
-    match replies {
-        [first, last] => first.body.as_str() == REGISTERED && last.body.as_str() == TOOK,
-        _ => false,
+// ---- replays
+
+fn are_told(replies: &[Rendered], bodies: &[&str]) -> bool {
+    let mut right = replies.len() == bodies.len();
+    for (reply, body) in replies.iter().zip(bodies) {
+        right &= reply.body.as_str() == *body;
     }
+    right
 }
 
-/// Whether the two steps of `ta` are answered so, or the fault.
-fn replayed(alloc: Global, core: &Core, ta: &Text, log: &Log) -> Result<bool, ReplayFault> {
-    match replay_alone(alloc, core, log.entries.as_slice(), ta) {
-        Ok(replies) => Ok(seen(replies, |all| are_told(all.as_slice()))),
+/// Pools and quotas.
+type Lists<'a> = (&'a [&'a str], &'a [&'a str]);
+
+const OWN: Lists = (&["east"], &["qa"]);
+
+const NONE: Lists = (&[], &[]);
+
+/// Whether the own steps of `ta`, with these pools and quotas, are answered so, or the fault.
+fn replayed(
+    rt: &impl Abort,
+    alloc: Global,
+    core: &Core,
+    lists: Lists,
+    lines: &[&str],
+    bodies: &[&str],
+) -> Result<bool, ReplayFault> {
+    let log = log_of(rt, alloc, lines);
+    let ta = text(rt, alloc, "ta");
+    let pools = texts(rt, alloc, lists.0);
+    let quotas = texts(rt, alloc, lists.1);
+    let entries = log.entries.as_slice();
+    match replay_alone(
+        alloc,
+        core,
+        entries,
+        &ta,
+        pools.as_slice(),
+        quotas.as_slice(),
+    ) {
+        Ok(replies) => Ok(seen(replies, |all| are_told(all.as_slice(), bodies))),
         Err(fault) => Err(fault),
     }
 }
 
+const WRITTEN: &str = "{}";
+
 fn replays(rt: &impl Abort, alloc: Global, core: &mut Core, _root: &Text) -> bool {
-    let ta = text(rt, alloc, "ta");
-    let told = |core: &Core, lines: &[&str]| {
-        let log = log_of(rt, alloc, lines);
-        replayed(alloc, core, &ta, &log)
+    let told = |core: &Core, lists: Lists, lines: &[&str], bodies: &[&str]| {
+        replayed(rt, alloc, core, lists, lines, bodies)
     };
-    let mut right = told(core, &[JOBS]) == Err(ReplayFault::Premise(0));
-    make(rt, alloc, core, &[APART]);
-    right &= told(core, &[JOBS, FIRST, SECOND]) == Ok(true);
-    right &= told(core, &[JOBS, SECOND]) == Err(ReplayFault::NotARun(2));
-    right &= told(core, &[SECOND]) == Err(ReplayFault::Differs(0));
-    right & (told(core, &[JOBS, TOGETHER]) == Err(ReplayFault::Premise(2)))
+    let mut right = told(core, OWN, &[JOBS], &[]) == Err(ReplayFault::Premise(0));
+    right &= told(core, NONE, &[JOBS], &[]) == Err(ReplayFault::Differs(1));
+    right &= told(core, NONE, &[LAID_OUT], &[]) == Err(ReplayFault::Premise(2));
+    make(rt, alloc, core, &[CONFINED]);
+    right &= told(core, OWN, &[LAID_OUT, EAST], &[WRITTEN; 4]) == Ok(true);
+    make(rt, alloc, core, &[LAID_OUT]);
+    right &= told(core, NONE, &[JOBS], &[]) == Err(ReplayFault::Premise(0));
+    right &= told(core, OWN, &[JOBS, FIRST, SECOND], &[REGISTERED, TOOK]) == Ok(true);
+    right &= told(core, OWN, &[JOBS, SECOND], &[]) == Err(ReplayFault::NotARun(2));
+    right &= told(core, OWN, &[SECOND], &[]) == Err(ReplayFault::Differs(0));
+    right & (told(core, OWN, &[JOBS, TOGETHER], &[]) == Err(ReplayFault::Premise(2)))
 }
 
 #[test]
 fn own_steps_are_answered_the_same_alone(rt: HostRuntime) {
     let alloc = rt.alloc();
     assert!(rt; with_core(&rt, alloc, replays));
+}
+
+// ---- a full table
+
+/// The numbers that name 9,999 pools: with `default` as many as there may be.
+const FIRST_POOL: u64 = 10_000;
+
+const END: u64 = 19_999;
+
+const BEFORE_NAME: &str =
+    r#"{"Body":"{}","Index":null,"Status":200,"Step":{"Args":{"Doc":{"Description":"","Name":""#;
+
+const BEHIND_NAME: &str = r#""}},"Do":"PutPool","Kind":"Admin","Secret":"root"}}
+"#;
+
+/// The line of a pool whose name is the number.
+fn push_pool(rt: &impl Abort, alloc: Global, text: &mut String, number: u64) {
+    let digits = digits(rt, alloc, number);
+    text.push_str(BEFORE_NAME).expect(rt, "memory");
+    text.push_str(digits.as_str()).expect(rt, "memory");
+    text.push_str(BEHIND_NAME).expect(rt, "memory");
+}
+
+fn fill(rt: &impl Abort, alloc: Global, core: &mut Core) {
+    let mut lines = String::new(alloc);
+    for number in FIRST_POOL..END {
+        push_pool(rt, alloc, &mut lines, number);
+    }
+    make(rt, alloc, core, &[lines.as_str()]);
+}
+
+/// Whether the step of the line is a put that has no room.
+fn lacks_room(rt: &impl Abort, alloc: Global, core: &Core, line: &str) -> bool {
+    let log = log_of(rt, alloc, &[line]);
+    match log.entries.as_slice() {
+        [entry] => core.lacks_room(entry.step()),
+        _ => false,
+    }
+}
+
+/// A put of a pool that is there has room, and so has one of another table. An own put without it breaks a premise, and one of
+/// another does not.
+fn crowds_out(rt: &impl Abort, alloc: Global, core: &mut Core, _root: &Text) -> bool {
+    make(rt, alloc, core, &[CONFINED]);
+    let mut right = !lacks_room(rt, alloc, core, EAST);
+    fill(rt, alloc, core);
+    right &= lacks_room(rt, alloc, core, EAST) & !lacks_room(rt, alloc, core, CONFINED);
+    let mut known = String::new(alloc);
+    push_pool(rt, alloc, &mut known, FIRST_POOL);
+    right &= !lacks_room(rt, alloc, core, known.as_str());
+    right &= replayed(rt, alloc, core, NONE, &[FULL], &[]) == Ok(true);
+    right & (replayed(rt, alloc, core, OWN, &[FULL], &[]) == Err(ReplayFault::Premise(0)))
+}
+
+#[test]
+fn an_own_put_without_room_breaks_a_premise(rt: HostRuntime) {
+    let alloc = rt.alloc();
+    assert!(rt; with_core(&rt, alloc, crowds_out));
 }

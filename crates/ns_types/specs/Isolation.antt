@@ -1,18 +1,16 @@
--- What a namespace has to itself: its rows with those of its pools and its quota, and the steps that are its own.
-use Rattle.std.specs.Prelude.{◌≡◌, Bool, true, false, ◌&&◌, if◌then◌else◌, List, [], ◌∷◌, Option, filter, option_map}
-use Rattle.std.specs.Option.{option_map_or}
-use Rattle.std.specs.FinMap.{get, retain_keys}
-use Rattle.ns_types.specs.declared.records.Namespace.{Namespace}
-use Rattle.ns_types.specs.declared.records.Pool.{Pool}
-use Rattle.ns_types.specs.declared.records.Quota.{Quota}
+-- A namespace with a list of pools and a list of quotas: the server that holds it alone, the steps that are its own, and
+-- what isolation requires of a run.
+use Rattle.std.specs.Prelude.{◌≡◌, Bool, true, false, ◌&&◌, if◌then◌else◌, List, [], ◌∷◌, filter, Err}
+use Rattle.std.specs.FinMap.{retain_keys}
+use Rattle.ns_types.specs.declared.refusal.Refusal.{Refusal}
+use Rattle.ns_types.specs.declared.step.AdminCommand.{AdminCommand}
 use Rattle.ns_types.specs.declared.step.NodeCommand.{NodeCommand}
 use Rattle.ns_types.specs.declared.step.Step.{Step}
-use Rattle.ns_types.specs.State.Names.{Name, same_name}
-use Rattle.ns_types.specs.Access.Rights.{rights_of, pool_rights_of, has_any}
+use Rattle.ns_types.specs.Access.Sharing.{is_apart, names_within}
+use Rattle.ns_types.specs.Asking.Admins.{is_full}
+use Rattle.ns_types.specs.State.Names.{Name, same_name, has_name}
 use Rattle.ns_types.specs.State.Rows.{State, World}
-use Rattle.ns_types.specs.Access.Sharing.{permits, is_unshared}
 use Rattle.ns_types.specs.Steps.{Answer, said, after}
-use Rattle.ns_types.specs.State.Sums.{names_quota}
 
 -- ---- a choice of owners
 
@@ -32,88 +30,89 @@ alone_in part w = record {
   blocked = filter (λ key. part.spaces key.0) w.blocked;
 }
 
--- ---- a namespace with its pools and its quota
+-- the namespace with these pools and these quotas
+abbrev pub part_of : Name → List Name → List Name → Part
+part_of ns pools quotas = record { spaces = same_name ns; pools = has_name pools; quotas = has_name quotas }
 
-abbrev pub namespace_at : World → Name → Option Namespace
-namespace_at w ns = option_map (λ t. t.namespace) (get w.tenants ns)
+-- the state in which the server holds the chosen owners alone, and all access lists
+unfoldable pub alone : Part → State → State
+alone part s = record s { world = alone_in part s.world }
 
-abbrev pub has_pool : World → Name → Name → Bool
-has_pool w ns pool = option_map_or (λ namespace. permits namespace pool) (namespace_at w ns) false
-
-abbrev pub has_quota : World → Name → Name → Bool
-has_quota w ns quota = option_map_or (names_quota quota) (namespace_at w ns) false
-
-abbrev pub part_of : World → Name → Part
-part_of w ns = record { spaces = same_name ns; pools = has_pool w ns; quotas = has_quota w ns }
-
--- the state in which the server holds that namespace alone, and all access lists
-unfoldable pub alone : Name → State → State
-alone ns s = record s { world = alone_in (part_of s.world ns) s.world }
-
--- ---- tables
-
-abbrev pub quota_record : World → Name → Option Quota
-quota_record w quota = option_map (λ q. q.quota) (get w.quotas quota)
-
-abbrev pub pool_record : World → Name → Option Pool
-pool_record w pool = option_map (λ p. p.pool) (get w.pools pool)
-
--- the same record, records of its quota and its pools, and rights of each secret there
-pub record SameTables (ns : Name) (s t : State) : Type 0 where
-  pub namespace : namespace_at t.world ns ≡ namespace_at s.world ns
-  pub quota : (quota : Name) → has_quota s.world ns quota ≡ true →
-      quota_record t.world quota ≡ quota_record s.world quota
-  pub pool : (pool : Name) → has_pool s.world ns pool ≡ true → pool_record t.world pool ≡ pool_record s.world pool
-  pub rights : (secret : Option Name) → rights_of t.acl secret ns ≡ rights_of s.acl secret ns
-  pub pool_rights : (secret : Option Name) (pool : Name) → has_pool s.world ns pool ≡ true →
-      pool_rights_of t.acl secret pool ≡ pool_rights_of s.acl secret pool
-
--- besides access lists, t holds exactly what the namespace has in s
-pub record Agree (ns : Name) (s t : State) : Type 0 where
-  pub world : t.world ≡ (alone ns s).world
-  pub tables : SameTables ns s t
+-- t holds exactly what the chosen owners have in s, and all access lists
+abbrev pub Agree : Part → State → State → Type 0
+Agree part s t = t ≡ alone part s
 
 -- ---- own steps
 
 -- a report of another namespace's allocation is that namespace's affair
-abbrev pub concerns : Name → NodeCommand → Bool
-concerns ns (NodeCommand.Report name report) = same_name ns report.namespace
-concerns ns _ = true
+abbrev pub concerns : Part → NodeCommand → Bool
+concerns part (NodeCommand.Report name report) = part.spaces report.namespace
+concerns part _ = true
 
--- asked in the namespace with a right there in the first state, asked of a pool of it, or made by a worker for it
-unfoldable pub is_own : Name → State → Step → Bool
-is_own ns s0 (Step.Ask asked secret command) = same_name ns asked && has_any (rights_of s0.acl secret ns)
-is_own ns s0 (Step.Admin secret command) = false
-is_own ns s0 (Step.Node pool secret command) = has_pool s0.world ns pool && concerns ns command
-is_own ns s0 (Step.Dequeue worker label n) = same_name ns label
-is_own ns s0 (Step.Snap worker label) = same_name ns label
-is_own ns s0 (Step.Submit worker label) = same_name ns label
-is_own ns s0 (Step.Apply worker label) = same_name ns label
-is_own ns s0 (Step.Finish worker label) = same_name ns label
-is_own ns s0 (Step.Nack worker label) = same_name ns label
+-- What administrators ask of its record, its quotas and its pools, and all that they ask of policies and tokens.
+-- A put of its record that names another pool or quota is not its own, and no list of what there is on the server.
+unfoldable pub is_own_admin : Part → AdminCommand → Bool
+is_own_admin part AdminCommand.ListNamespaces = false
+is_own_admin part (AdminCommand.PutNamespace name namespace) = part.spaces name && names_within part.pools part.quotas namespace
+is_own_admin part (AdminCommand.DeleteNamespace name) = part.spaces name
+is_own_admin part AdminCommand.ListQuotas = false
+is_own_admin part (AdminCommand.ReadQuota name) = part.quotas name
+is_own_admin part (AdminCommand.PutQuota name quota) = part.quotas name
+is_own_admin part (AdminCommand.DeleteQuota name) = part.quotas name
+is_own_admin part AdminCommand.ListPools = false
+is_own_admin part (AdminCommand.PutPool name pool) = part.pools name
+is_own_admin part (AdminCommand.DeletePool name) = part.pools name
+is_own_admin part (AdminCommand.ReadPolicy name) = true
+is_own_admin part (AdminCommand.PutPolicy name policy) = true
+is_own_admin part (AdminCommand.DeletePolicy name) = true
+is_own_admin part (AdminCommand.CreateToken new) = true
+is_own_admin part (AdminCommand.DeleteToken accessor) = true
+
+-- asked in a chosen namespace, whoever asks; asked of a chosen pool, or by an administrator of the chosen owners or the
+-- access lists; or made by a worker for a chosen namespace
+unfoldable pub is_own : Part → Step → Bool
+is_own part (Step.Ask ns secret command) = part.spaces ns
+is_own part (Step.Admin secret command) = is_own_admin part command
+is_own part (Step.Node pool secret command) = part.pools pool && concerns part command
+is_own part (Step.Dequeue worker ns n) = part.spaces ns
+is_own part (Step.Snap worker ns) = part.spaces ns
+is_own part (Step.Submit worker ns) = part.spaces ns
+is_own part (Step.Apply worker ns) = part.spaces ns
+is_own part (Step.Finish worker ns) = part.spaces ns
+is_own part (Step.Nack worker ns) = part.spaces ns
 
 -- what remains once the others are struck out
-abbrev pub struck : Name → State → List Step → List Step
-struck ns s0 steps = filter (is_own ns s0) steps
+abbrev pub struck : Part → List Step → List Step
+struck part steps = filter (is_own part) steps
 
 -- the answers of the own steps
-abbrev pub struck_answers : Name → State → List Step → List Answer → List Answer
-struck_answers ns s0 (step ∷ steps) (answer ∷ answers) =
-    if is_own ns s0 step then answer ∷ struck_answers ns s0 steps answers else struck_answers ns s0 steps answers
-struck_answers ns s0 _ _ = []
+abbrev pub struck_answers : Part → List Step → List Answer → List Answer
+struck_answers part (step ∷ steps) (answer ∷ answers) =
+    if is_own part step then answer ∷ struck_answers part steps answers else struck_answers part steps answers
+struck_answers part _ _ = []
 
 -- ---- premises
 
--- an administrator's step leaves the tables as they are
-abbrev pub Keeps : Name → Step → State → State → Type 0
-Keeps ns (Step.Admin secret command) s s' = SameTables ns s s'
-Keeps ns _ s s' = Unit {0}
+-- a put of a new name, whose table has no room on the whole server
+abbrev pub lacks_room : Step → World → Bool
+lacks_room (Step.Admin secret (AdminCommand.PutNamespace name namespace)) w = is_full w.tenants name
+lacks_room (Step.Admin secret (AdminCommand.PutQuota name quota)) w = is_full w.quotas name
+lacks_room (Step.Admin secret (AdminCommand.PutPool name pool)) w = is_full w.pools name
+lacks_room _ w = false
 
--- a run in which the namespace shares nothing at any state, and administrators leave its tables alone
-abbrev pub IsIsolated : Name → State → List Step → List Answer → State → Type 0
-IsIsolated ns s [] [] s' = (is_unshared s.world ns ≡ true) × (s' ≡ s)
-IsIsolated ns s (step ∷ steps) (answer ∷ answers) s' =
-    (mid : State) × (is_unshared s.world ns ≡ true) × (after step s ≡ said answer mid) × Keeps ns step s mid ×
-    IsIsolated ns mid steps answers s'
-IsIsolated ns s [] (answer ∷ answers) s' = ⊥
-IsIsolated ns s (step ∷ steps) [] s' = ⊥
+abbrev pub is_full_answer : Answer → Bool
+is_full_answer (Err Refusal.Full) = true
+is_full_answer _ = false
+
+-- an own put is refused because its table is full on the whole server
+abbrev pub is_crowded_out : Part → Step → State → Answer → Bool
+is_crowded_out part step s answer = is_own part step && lacks_room step s.world && is_full_answer answer
+
+-- a run at each state of which the namespace has these pools and quotas to itself, and no put of its own is crowded out
+abbrev pub IsIsolated : Name → List Name → List Name → State → List Step → List Answer → State → Type 0
+IsIsolated ns pools quotas s [] [] s' = (is_apart s.world ns pools quotas ≡ true) × (s' ≡ s)
+IsIsolated ns pools quotas s (step ∷ steps) (answer ∷ answers) s' =
+    (mid : State) × (is_apart s.world ns pools quotas ≡ true) × (after step s ≡ said answer mid)
+    × (is_crowded_out (part_of ns pools quotas) step s answer ≡ false) × IsIsolated ns pools quotas mid steps answers s'
+IsIsolated ns pools quotas s [] (answer ∷ answers) s' = ⊥
+IsIsolated ns pools quotas s (step ∷ steps) [] s' = ⊥

@@ -1,6 +1,7 @@
 // What good words come to.
 use ns_api::Driven;
 use ns_pipe::{Asked, Printed};
+use ns_types::text::Text;
 use ns_words::{Wanted, read};
 use std::net::{Ipv4Addr, Ipv6Addr, SocketAddr};
 use std::rt::HostRuntime;
@@ -24,10 +25,23 @@ fn pipe(rt: HostRuntime) {
     assert!(rt; is_pipe(&logged, Driven::Worker, Printed::Log));
 }
 
-/// Whether the namespace `ta` is to run alone from that entry on.
-fn is_alone(wanted: &Wanted, count: u64) -> bool {
+fn are_words(texts: &[Text], words: &[&str]) -> bool {
+    let mut right = texts.len() == words.len();
+    for (text, word) in texts.iter().zip(words) {
+        right &= text.as_str() == *word;
+    }
+    right
+}
+
+/// Whether the namespace `ta` is to run alone from that entry on, with these pools and these quotas.
+fn is_alone(wanted: &Wanted, count: u64, pools: &[&str], quotas: &[&str]) -> bool {
     match wanted {
-        Wanted::Run(Asked::Alone(namespace, from)) => namespace.as_str() == "ta" && *from == count,
+        Wanted::Run(Asked::Alone(replay)) => {
+            replay.namespace.as_str() == "ta"
+                && replay.from == count
+                && are_words(replay.pools.as_slice(), pools)
+                && are_words(replay.quotas.as_slice(), quotas)
+        }
         _ => false,
     }
 }
@@ -35,14 +49,38 @@ fn is_alone(wanted: &Wanted, count: u64) -> bool {
 #[test]
 fn alone(rt: HostRuntime) {
     let whole = read(rt.alloc(), &["nsd", "alone", "ta"]);
-    assert!(rt; is_alone(&whole, 0));
+    assert!(rt; is_alone(&whole, 0, &[], &[]));
     let late = read(rt.alloc(), &["nsd", "alone", "--from", "008", "ta"]);
-    assert!(rt; is_alone(&late, 8));
+    assert!(rt; is_alone(&late, 8, &[], &[]));
     let last = read(
         rt.alloc(),
         &["nsd", "alone", "ta", "--from=18446744073709551615"],
     );
-    assert!(rt; is_alone(&last, u64::MAX));
+    assert!(rt; is_alone(&last, u64::MAX, &[], &[]));
+}
+
+#[test]
+fn alone_with_pools_and_quotas(rt: HostRuntime) {
+    let pool = read(rt.alloc(), &["nsd", "alone", "ta", "--pool", "east"]);
+    assert!(rt; is_alone(&pool, 0, &["east"], &[]));
+    let quota = read(rt.alloc(), &["nsd", "alone", "--quota=qa", "ta"]);
+    assert!(rt; is_alone(&quota, 0, &[], &["qa"]));
+    let words = [
+        "nsd",
+        "alone",
+        "--quota",
+        "q_2",
+        "--pool=east",
+        "ta",
+        "--pool",
+        "p-1",
+        "--from",
+        "1",
+        "--quota=qa",
+        "--pool=east",
+    ];
+    let both = read(rt.alloc(), &words);
+    assert!(rt; is_alone(&both, 1, &["east", "p-1", "east"], &["q_2", "qa"]));
 }
 
 /// Whether this server is asked for, with these workers, connections, connections to accept, entries, and entries and bytes to

@@ -110,6 +110,30 @@ Usage: nsd <COMMAND>
 For more information, try '--help'.
 ";
 
+const NO_POOL: &str = "error: a value is required for '--pool <NAME>' but none was supplied
+
+For more information, try '--help'.
+";
+
+const BAD_POOL: &str = "error: a pool has 1 to 128 letters, digits, hyphens and underscores
+
+Usage: nsd <COMMAND>
+
+For more information, try '--help'.
+";
+
+const NO_QUOTA: &str = "error: a value is required for '--quota <NAME>' but none was supplied
+
+For more information, try '--help'.
+";
+
+const BAD_QUOTA: &str = "error: a quota has 1 to 128 letters, digits, hyphens and underscores
+
+Usage: nsd <COMMAND>
+
+For more information, try '--help'.
+";
+
 #[test]
 fn bad_words(rt: HostRuntime) {
     let alloc = rt.alloc();
@@ -133,8 +157,8 @@ fn bad_words_of_pipe(rt: HostRuntime) {
     assert!(rt; is_bad_pipe(alloc, "--print=", BAD_PRINT));
 }
 
-/// Whether `alone` with these words after a good name is bad, for this reason.
-fn is_bad_count(alloc: Global, word: &str, text: &str) -> bool {
+/// Whether `alone` with this word after a good name is bad, for this reason.
+fn is_bad_alone(alloc: Global, word: &str, text: &str) -> bool {
     are_bad(alloc, &["nsd", "alone", "ta", word], text)
 }
 
@@ -144,10 +168,25 @@ fn bad_words_of_alone(rt: HostRuntime) {
     assert!(rt; are_bad(alloc, &["nsd", "alone"], NO_NAMESPACE));
     assert!(rt; are_bad(alloc, &["nsd", "alone", "t_a"], BAD_NAMESPACE));
     assert!(rt; are_bad(alloc, &["nsd", "alone", ""], BAD_NAMESPACE));
-    assert!(rt; is_bad_count(alloc, "--from", NO_COUNT));
-    assert!(rt; is_bad_count(alloc, "--from=", BAD_COUNT));
-    assert!(rt; is_bad_count(alloc, "--from=+1", BAD_COUNT));
-    assert!(rt; is_bad_count(alloc, "--from=18446744073709551616", BAD_COUNT));
+    assert!(rt; is_bad_alone(alloc, "--from", NO_COUNT));
+    assert!(rt; is_bad_alone(alloc, "--from=", BAD_COUNT));
+    assert!(rt; is_bad_alone(alloc, "--from=+1", BAD_COUNT));
+    assert!(rt; is_bad_alone(alloc, "--from=18446744073709551616", BAD_COUNT));
+}
+
+#[test]
+fn bad_pools_and_quotas_of_alone(rt: HostRuntime) {
+    let alloc = rt.alloc();
+    assert!(rt; is_bad_alone(alloc, "--pool", NO_POOL));
+    assert!(rt; is_bad_alone(alloc, "--pool=", BAD_POOL));
+    assert!(rt; is_bad_alone(alloc, "--pool=e*", BAD_POOL));
+    assert!(rt; is_bad_alone(alloc, "--quota", NO_QUOTA));
+    assert!(rt; is_bad_alone(alloc, "--quota=", BAD_QUOTA));
+    assert!(rt; is_bad_alone(alloc, "--quota=q a", BAD_QUOTA));
+    let second = ["nsd", "alone", "ta", "--pool=east", "--pool", ""];
+    assert!(rt; are_bad(alloc, &second, BAD_POOL));
+    let both = ["nsd", "alone", "ta", "--quota=q.a", "--pool=e.t"];
+    assert!(rt; are_bad(alloc, &both, BAD_POOL));
 }
 
 const HELP: &str = "A scheduling server for many tenants
@@ -182,15 +221,25 @@ Arguments:
 
 Options:
       --from <COUNT>  How many entries of the log set up the server first: 0 without this word
+      --pool <NAME>   A pool that the namespace is to have to itself, once for each: without --pool and --quota, those that it may use after COUNT entries
+      --quota <NAME>  A quota that it is to have to itself, once for each: without --pool and --quota, the one that it names after COUNT entries
   -h, --help          Print help
 
-The log stands on standard input, as `pipe --print log` prints it. What was asked in the namespace
-or of its pools, and what workers did for it, is done again by a server that holds nobody else.
+The log stands on standard input, as `pipe --print log` prints it. After COUNT entries, what is the
+namespace's own is done again by a server that holds nobody else.
 
-Promised: a namespace that has its pools and its quota to itself gets the same replies alone.
-To be kept, from COUNT on: it is confined to pools that no other namespace may use, no other names
-its quota, and nobody changes its record, those of its pools and its quota, or a right on them.
-Not promised: how long it takes, what administrators are answered, anything where this is not kept.
+Its pools and quotas are those of --pool and --quota. Its own is what is asked in the namespace or
+of its pools, with any token, and what workers did for it; and what administrators ask of its
+record, within these pools and quotas, of its pools, of its quotas, or of policies and tokens.
+
+Promised: a namespace that has these pools and quotas to itself gets the same replies alone.
+To be kept, from COUNT on:
+  no other namespace may use one of the pools or names one of the quotas
+  the namespace is confined to these pools and names no other quota
+  nothing of it runs or waits in another pool
+  no put of its record, pools or quotas is refused because a table of the server is full
+Administrators may change its record, its quotas, its pools, policies and tokens meanwhile.
+Not promised: how long it takes, replies to what is not its own, anything where this is not kept.
 
 Printed: place in the log, status and body of each step that is done again, and at the end
   same                each reply is the one in the log

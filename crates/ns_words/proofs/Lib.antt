@@ -1,3 +1,4 @@
 mod Errors
+mod Given
 pub mod Serving
 mod Wanting

@@ -1,5 +1,5 @@
 -- The words ask for one thing at most.
-use Rattle.std.proofs.Common.{◌≡◌, ◌∙◌, ap, sym, refl, subst, ℕ, List, Option, Some, None}
+use Rattle.std.proofs.Common.{◌≡◌, ◌∙◌, ap, sym, refl, subst, List, Option, Some, None}
 use Rattle.std.proofs.Common.{Bool, true, false, true≢false, if◌then◌else◌, codes}
 use Rattle.std.proofs.NetLemmas.Theorems.{IsSocketText_unique}
 use Rattle.std.proofs.lemmas.Slice.Eq.{bytes_eq-Decides}
@@ -9,6 +9,7 @@ use Rattle.clap.specs.Words.{Text, first_of, subcommand_of}
 use Rattle.ns_api.specs.declared.following.Driven.{Driven}
 use Rattle.ns_pipe.specs.declared.asked.Asked.{Asked}
 use Rattle.ns_pipe.specs.declared.printed.Printed.{Printed}
+use Rattle.ns_replay_print.specs.declared.replay.Replay.{Replay}
 use Rattle.ns_serve.specs.declared.service.Service.{Service}
 use Rattle.ns_words.specs.declared.wanted.Wanted.{Wanted}
 use Rattle.ns_words.specs.Given.{Named, given_for}
@@ -51,12 +52,13 @@ pipe_unique named secret secret' driven driven' printed printed' x y =
     let prints = some_unique _ _ _ x.prints y.prints in
     λ i. Asked.Pipe (same i) (drives i) (prints i)
 
-alone_unique : (named : Named) (namespace namespace' : Text) (from from' : ℕ) →
-    IsAlone named namespace from → IsAlone named namespace' from' → Asked.Alone namespace from ≡ Asked.Alone namespace' from'
-alone_unique named namespace namespace' from from' x y =
-    let same = some_unique _ _ _ x.given y.given in
-    let begins = some_unique _ _ _ x.begins y.begins in
-    λ i. Asked.Alone (same i) (begins i)
+alone_unique : (named : Named) (r s : Replay) → IsAlone named r → IsAlone named s → r ≡ s
+alone_unique named r s x y =
+    let namespace = some_unique _ _ _ x.given y.given in
+    let from = some_unique _ _ _ x.begins y.begins in
+    let pools = some_unique _ _ _ x.its_pools y.its_pools in
+    let quotas = some_unique _ _ _ x.its_quotas y.its_quotas in
+    λ i. record { namespace = namespace i; from = from i; pools = pools i; quotas = quotas i }
 
 is_chosen : {A : Type 0} (b : Bool) (o : Option A) (x : A) → (if b then o else None) ≡ Some x → b ≡ true
 is_chosen true o x e = refl
@@ -74,12 +76,12 @@ other_command (Some p) one other id id' x y differ e f =
 -- ---- what is asked for, by what is given
 
 only_alone : (named : Named) (wanted : Wanted) (given : Text) → given_for (codes "alone") (codes "namespace") named ≡ Some given →
-    IsWanted named wanted → (namespace : Text) × (from : ℕ) × (wanted ≡ Wanted.Run (Asked.Alone namespace from)) × IsAlone named namespace from
+    IsWanted named wanted → (replay : Replay) × (wanted ≡ Wanted.Run (Asked.Alone replay)) × IsAlone named replay
 only_alone named (Wanted.Serve service) given e is =
     absurd (other_command named (codes "alone") (codes "serve") _ _ given is.address refl e is.given)
 only_alone named (Wanted.Run (Asked.Pipe secret driven printed)) given e is =
     absurd (other_command named (codes "alone") (codes "pipe") _ _ given secret refl e is.given)
-only_alone named (Wanted.Run (Asked.Alone namespace from)) given e is = (namespace, from, refl, is)
+only_alone named (Wanted.Run (Asked.Alone replay)) given e is = (replay, refl, is)
 only_alone named (Wanted.Run (Asked.Help help)) given e is = absurd is
 only_alone named (Wanted.Run (Asked.Mistake reason)) given e is = absurd is
 only_alone named (Wanted.Run Asked.NoMemory) given e is = absurd is
@@ -89,8 +91,8 @@ only_serve : (named : Named) (wanted : Wanted) (given : Text) → given_for (cod
 only_serve named (Wanted.Serve service) given e is = (service, refl, is)
 only_serve named (Wanted.Run (Asked.Pipe secret driven printed)) given e is =
     absurd (other_command named (codes "serve") (codes "pipe") _ _ given secret refl e is.given)
-only_serve named (Wanted.Run (Asked.Alone namespace from)) given e is =
-    absurd (other_command named (codes "serve") (codes "alone") _ _ given namespace refl e is.given)
+only_serve named (Wanted.Run (Asked.Alone replay)) given e is =
+    absurd (other_command named (codes "serve") (codes "alone") _ _ given replay.namespace refl e is.given)
 only_serve named (Wanted.Run (Asked.Help help)) given e is = absurd is
 only_serve named (Wanted.Run (Asked.Mistake reason)) given e is = absurd is
 only_serve named (Wanted.Run Asked.NoMemory) given e is = absurd is
@@ -101,8 +103,8 @@ pipe_or_other named secret driven printed (Wanted.Serve service) x is =
     absurd (other_command named (codes "pipe") (codes "serve") _ _ secret is.address refl x.given is.given)
 pipe_or_other named secret driven printed (Wanted.Run (Asked.Pipe secret' driven' printed')) x is =
     ap Wanted.Run (pipe_unique named _ _ _ _ _ _ x is)
-pipe_or_other named secret driven printed (Wanted.Run (Asked.Alone namespace from)) x is =
-    absurd (other_command named (codes "pipe") (codes "alone") _ _ secret namespace refl x.given is.given)
+pipe_or_other named secret driven printed (Wanted.Run (Asked.Alone replay)) x is =
+    absurd (other_command named (codes "pipe") (codes "alone") _ _ secret replay.namespace refl x.given is.given)
 pipe_or_other named secret driven printed (Wanted.Run (Asked.Help help)) x is = absurd is
 pipe_or_other named secret driven printed (Wanted.Run (Asked.Mistake reason)) x is = absurd is
 pipe_or_other named secret driven printed (Wanted.Run Asked.NoMemory) x is = absurd is
@@ -112,9 +114,9 @@ wanted_unique named (Wanted.Serve service) w x y =
     let other = only_serve named w x.address x.given y in
     ap Wanted.Serve (serve_unique named service other.0 x other.2) ∙ sym other.1
 wanted_unique named (Wanted.Run (Asked.Pipe secret driven printed)) w x y = pipe_or_other named secret driven printed w x y
-wanted_unique named (Wanted.Run (Asked.Alone namespace from)) w x y =
-    let other = only_alone named w namespace x.given y in
-    ap Wanted.Run (alone_unique named _ _ _ _ x other.3) ∙ sym other.2
+wanted_unique named (Wanted.Run (Asked.Alone replay)) w x y =
+    let other = only_alone named w replay.namespace x.given y in
+    ap (λ r. Wanted.Run (Asked.Alone r)) (alone_unique named replay other.0 x other.2) ∙ sym other.1
 wanted_unique named (Wanted.Run (Asked.Help help)) w x y = absurd x
 wanted_unique named (Wanted.Run (Asked.Mistake reason)) w x y = absurd x
 wanted_unique named (Wanted.Run Asked.NoMemory) w x y = absurd x
@@ -123,7 +125,7 @@ wanted_unique named (Wanted.Run Asked.NoMemory) w x y = absurd x
 pub nothing_wanted : (words : List Text) (wanted : Wanted) → IsMisgiven words → IsWanted (subcommand_of program_words words) wanted → ⊥
 nothing_wanted words (Wanted.Serve service) bad is = bad.no_serve service is
 nothing_wanted words (Wanted.Run (Asked.Pipe secret driven printed)) bad is = bad.no_pipe secret driven printed is
-nothing_wanted words (Wanted.Run (Asked.Alone namespace from)) bad is = bad.no_alone namespace from is
+nothing_wanted words (Wanted.Run (Asked.Alone replay)) bad is = bad.no_alone replay is
 nothing_wanted words (Wanted.Run (Asked.Help help)) bad is = is
 nothing_wanted words (Wanted.Run (Asked.Mistake reason)) bad is = is
 nothing_wanted words (Wanted.Run Asked.NoMemory) bad is = is

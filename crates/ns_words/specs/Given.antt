@@ -1,7 +1,7 @@
 -- What the words give to the subcommand that they name.
-use Rattle.std.specs.Prelude.{List, Option, None, option_and_then, if◌then◌else◌}
+use Rattle.std.specs.Prelude.{List, [], Option, None, option_and_then, unwrap_or, if◌then◌else◌}
 use Rattle.std.specs.Str.{bytes_eq}
-use Rattle.clap.specs.Words.{Row, Text, first_of}
+use Rattle.clap.specs.Words.{Row, Text, all_of, first_of}
 
 -- the subcommand that the words name, and what is given to it
 abbrev pub Named : Type 0
@@ -11,3 +11,8 @@ Named = Option (Text × List Row)
 abbrev pub given_for : Text → Text → Named → Option Text
 given_for command id named =
     option_and_then (λ p. if bytes_eq p.0 command then first_of id p.1 else None) named
+
+-- all that is given for it, in order: nothing, where it is not given
+abbrev pub all_given_for : Text → Text → Named → List Text
+all_given_for command id named =
+    unwrap_or (option_and_then (λ p. if bytes_eq p.0 command then all_of id p.1 else None) named) []

@@ -11,6 +11,7 @@ use Rattle.ns_pipe.specs.Printing.{EndsPrinted}
 use Rattle.ns_pipe.specs.declared.printed.Printed.{Printed}
 use Rattle.ns_pipe.specs.declared.running.Ended.{Ended}
 use Rattle.ns_replay_print.specs.Printing.{EndsAlone}
+use Rattle.ns_replay_print.specs.declared.replay.Replay.{Replay}
 use Rattle.ns_serve.specs.declared.service.Service.{Service}
 use Rattle.ns_words.specs.Words.{Asks, AsksAlone, AsksServe}
 
@@ -21,11 +22,11 @@ EndsPiped draws remaining contents secret driven printed drawer reader writer en
     EndsPrinted draws remaining contents printed secret drawer driven ended.status
     (uncounted reader) ended.reader ended.unprinted (uncounted writer) ended.writer
 
--- what this namespace did, behind so many entries of a log, was replayed
+-- this replay was made
 abbrev pub EndsReplayed : {R W : Type 0} → (R → Option (List ℕ)) → (W → Option (List ℕ)) →
-    Text → ℕ → R → W → Ended R W → Type 0
-EndsReplayed remaining contents namespace from reader writer ended =
-    EndsAlone remaining contents namespace from ended.status
+    Replay → R → W → Ended R W → Type 0
+EndsReplayed remaining contents replay reader writer ended =
+    EndsAlone remaining contents replay ended.status
     (uncounted reader) ended.reader (uncounted writer) ended.writer
 
 -- nothing was read and nothing was written, for want of memory
@@ -62,8 +63,8 @@ module _ {D R W E : Type 0} (draws : D → List ℕ → D → Type 0) (remaining
   DoesAsked ended =
       ((secret : Text) × (driven : Driven) × (printed : Printed) × Asks words secret driven printed
       × EndsPiped draws remaining contents secret driven printed drawer reader writer ended)
-      ⊎ ((namespace : Text) × (from : ℕ) × AsksAlone words namespace from
-      × EndsReplayed remaining contents namespace from reader writer ended)
+      ⊎ ((replay : Replay) × AsksAlone words replay
+      × EndsReplayed remaining contents replay reader writer ended)
       ⊎ EndsHelped contents reader writer ended
       ⊎ EndsRefused error_text reader writer errors errors' ended
       ⊎ EndsUnserved reader writer ended

@@ -1,21 +1,22 @@
 -- The words that the program takes, as `clap` reads them.
-use Rattle.std.specs.Prelude.{◌≡◌, ◌⊎◌, ℕ, List, [], ◌∷◌, Option, Some, None, codes, true, if◌then◌else◌}
+use Rattle.std.specs.Prelude.{◌≡◌, ◌⊎◌, List, [], ◌∷◌, Option, Some, None, codes, true, if◌then◌else◌}
 use Rattle.std.specs.Str.{bytes_eq}
 use Rattle.clap.specs.Simple.{on_top}
 use Rattle.clap.specs.Words.{App, Rule, Text}
 use Rattle.clap.specs.Words.{IsAmong, fault_of, kind_of, new_app, new_rule, subcommand_of, with_rule, with_subcommand}
-use Rattle.clap.specs.declared.builder.action.ArgAction.TheVariants.{SetTrue}
+use Rattle.clap.specs.declared.builder.action.ArgAction.TheVariants.{Append, SetTrue}
 use Rattle.clap.specs.declared.error.Error.{Error}
 use Rattle.clap.specs.declared.error.kind.ErrorKind.{ErrorKind}
 use Rattle.ns_api.specs.declared.following.Driven.{Driven}
 use Rattle.ns_pipe.specs.declared.asked.Asked.{Asked}
 use Rattle.ns_pipe.specs.declared.printed.Printed.{Printed}
+use Rattle.ns_replay_print.specs.declared.replay.Replay.{Replay}
 use Rattle.ns_serve.specs.declared.service.Service.{Service}
 use Rattle.ns_types.specs.declared.name.NameKind.TheVariants as NameKind
 use Rattle.ns_types.specs.State.Name.{is_name}
 use Rattle.ns_words.specs.declared.wanted.Wanted.{Wanted}
-use Rattle.ns_given.specs.Values.{count_by}
-use Rattle.ns_words.specs.Given.{Named, given_for}
+use Rattle.ns_given.specs.Values.{count_by, names_by}
+use Rattle.ns_words.specs.Given.{Named, all_given_for, given_for}
 use Rattle.ns_words.specs.Serve.{IsServe, serve_words}
 
 -- `--bootstrap SECRET`, which has to be there
@@ -42,8 +43,17 @@ namespace_rule = record (new_rule (codes "namespace")) { value_names = 1; requir
 abbrev pub from_rule : Rule
 from_rule = record (new_rule (codes "from")) { long = Some (codes "from"); value_names = 1 }
 
+-- `--pool NAME`, any number of times
+abbrev pub pool_rule : Rule
+pool_rule = record (new_rule (codes "pool")) { long = Some (codes "pool"); value_names = 1; action = Some Append }
+
+-- `--quota NAME`, any number of times
+abbrev pub quota_rule : Rule
+quota_rule = record (new_rule (codes "quota")) { long = Some (codes "quota"); value_names = 1; action = Some Append }
+
 abbrev pub alone_words : App
-alone_words = with_rule (with_rule (new_app (codes "alone")) namespace_rule) from_rule
+alone_words =
+    with_rule (with_rule (with_rule (with_rule (new_app (codes "alone")) namespace_rule) from_rule) pool_rule) quota_rule
 
 -- without its subcommands, of which one has to be there
 abbrev pub bare_words : App
@@ -103,19 +113,22 @@ pub record Asks (words : List Text) (secret : Text) (driven : Driven) (printed :
 
 -- ---- `alone`
 
--- `alone` is given this namespace, whose name is one by its rule, and this count
-pub record IsAlone (named : Named) (namespace : Text) (from : ℕ) : Type 0 where
-  pub given : given_for (codes "alone") (codes "namespace") named ≡ Some namespace
-  pub is_namespace : is_name NameKind.Namespace namespace ≡ true
-  pub begins : count_by (given_for (codes "alone") (codes "from") named) ≡ Some from
+-- `alone` is given what this replay is to be: the namespace, the count, and all pools and all quotas in order; each name
+-- is one by its rule
+pub record IsAlone (named : Named) (replay : Replay) : Type 0 where
+  pub given : given_for (codes "alone") (codes "namespace") named ≡ Some replay.namespace
+  pub is_namespace : is_name NameKind.Namespace replay.namespace ≡ true
+  pub begins : count_by (given_for (codes "alone") (codes "from") named) ≡ Some replay.from
+  pub its_pools : names_by NameKind.Pool (all_given_for (codes "alone") (codes "pool") named) ≡ Some replay.pools
+  pub its_quotas : names_by NameKind.Quota (all_given_for (codes "alone") (codes "quota") named) ≡ Some replay.quotas
 
-abbrev pub GivesAlone : List Text → Text → ℕ → Type 0
+abbrev pub GivesAlone : List Text → Replay → Type 0
 GivesAlone words = IsAlone (subcommand_of program_words words)
 
--- good words: `clap` takes them, and they give this namespace and this count
-pub record AsksAlone (words : List Text) (namespace : Text) (from : ℕ) : Type 0 where
+-- good words: `clap` takes them, and they give what this replay is to be
+pub record AsksAlone (words : List Text) (replay : Replay) : Type 0 where
   pub taken : AreTaken words
-  pub gives : GivesAlone words namespace from
+  pub gives : GivesAlone words replay
 
 -- ---- `serve`
 
@@ -133,7 +146,7 @@ pub record AsksServe (words : List Text) (service : Service) : Type 0 where
 abbrev pub IsWanted : Named → Wanted → Type 0
 IsWanted named (Wanted.Serve service) = IsServe named service
 IsWanted named (Wanted.Run (Asked.Pipe secret driven printed)) = IsPipe named secret driven printed
-IsWanted named (Wanted.Run (Asked.Alone namespace from)) = IsAlone named namespace from
+IsWanted named (Wanted.Run (Asked.Alone replay)) = IsAlone named replay
 IsWanted named (Wanted.Run (Asked.Help help)) = ⊥
 IsWanted named (Wanted.Run (Asked.Mistake reason)) = ⊥
 IsWanted named (Wanted.Run Asked.NoMemory) = ⊥
@@ -144,7 +157,7 @@ IsWanted named (Wanted.Run Asked.NoMemory) = ⊥
 pub record IsMisgiven (words : List Text) : Type 0 where
   pub taken : AreTaken words
   pub no_pipe : (secret : Text) (driven : Driven) (printed : Printed) → Gives words secret driven printed → ⊥
-  pub no_alone : (namespace : Text) (from : ℕ) → GivesAlone words namespace from → ⊥
+  pub no_alone : (replay : Replay) → GivesAlone words replay → ⊥
   pub no_serve : (service : Service) → GivesServe words service → ⊥
 
 -- `clap` refuses the words, or a value among them is bad

@@ -5,7 +5,9 @@ mod serve;
 ghost use Rattle.std.specs.Prelude.{◌≡◌, IfOk, codes, false};
 ghost use Rattle.clap.specs.Words.{app_of, new_app, rule_of};
 ghost use Rattle.clap.specs.declared.builder.command.Command.TheViews.{out-Command};
-ghost use Rattle.ns_words.specs.Words.{alone_words, bare_words, bootstrap_rule, drive_rule, from_rule, namespace_rule, pipe_words, print_rule, program_words};
+ghost use Rattle.ns_words.specs.Words.{alone_words, bare_words, pipe_words, program_words};
+ghost use Rattle.ns_words.specs.Words.{bootstrap_rule, drive_rule, from_rule, namespace_rule};
+ghost use Rattle.ns_words.specs.Words.{pool_rule, print_rule, quota_rule};
 
 use clap::{Arg, ArgAction, Command};
 use std::alloc::{AllocError, Global};
@@ -22,13 +24,21 @@ const STATUSES: &str = "Exit statuses:
   5  out of memory; serve: or no thread could be made";
 
 const ALONE: &str = "\
-The log stands on standard input, as `pipe --print log` prints it. What was asked in the namespace
-or of its pools, and what workers did for it, is done again by a server that holds nobody else.
+The log stands on standard input, as `pipe --print log` prints it. After COUNT entries, what is the
+namespace's own is done again by a server that holds nobody else.
 
-Promised: a namespace that has its pools and its quota to itself gets the same replies alone.
-To be kept, from COUNT on: it is confined to pools that no other namespace may use, no other names
-its quota, and nobody changes its record, those of its pools and its quota, or a right on them.
-Not promised: how long it takes, what administrators are answered, anything where this is not kept.
+Its pools and quotas are those of --pool and --quota. Its own is what is asked in the namespace or
+of its pools, with any token, and what workers did for it; and what administrators ask of its
+record, within these pools and quotas, of its pools, of its quotas, or of policies and tokens.
+
+Promised: a namespace that has these pools and quotas to itself gets the same replies alone.
+To be kept, from COUNT on:
+  no other namespace may use one of the pools or names one of the quotas
+  the namespace is confined to these pools and names no other quota
+  nothing of it runs or waits in another pool
+  no put of its record, pools or quotas is refused because a table of the server is full
+Administrators may change its record, its quotas, its pools, policies and tokens meanwhile.
+Not promised: how long it takes, replies to what is not its own, anything where this is not kept.
 
 Printed: place in the log, status and body of each step that is done again, and at the end
   same                each reply is the one in the log
@@ -98,6 +108,34 @@ fn from<'a>(alloc: Global) -> Arg<'a>
         .help("How many entries of the log set up the server first: 0 without this word")
 }
 
+fn pool<'a>(alloc: Global) -> Arg<'a>
+    ensures rule { rule_of result ≡ pool_rule }
+    ensures local { result.global ≡ false }
+{
+    Arg::new(alloc, "pool")
+        .long("pool")
+        .value_name("NAME")
+        .action(ArgAction::Append)
+        .help(
+            "A pool that the namespace is to have to itself, once for each: without --pool and \
+             --quota, those that it may use after COUNT entries",
+        )
+}
+
+fn quota<'a>(alloc: Global) -> Arg<'a>
+    ensures rule { rule_of result ≡ quota_rule }
+    ensures local { result.global ≡ false }
+{
+    Arg::new(alloc, "quota")
+        .long("quota")
+        .value_name("NAME")
+        .action(ArgAction::Append)
+        .help(
+            "A quota that it is to have to itself, once for each: without --pool and --quota, the \
+             one that it names after COUNT entries",
+        )
+}
+
 /// `pipe` without its arguments.
 fn bare_pipe<'a>(alloc: Global) -> Command<'a>
     ensures shape { app_of result ≡ new_app (codes "pipe") }
@@ -134,7 +172,9 @@ fn alone<'a>(alloc: Global) -> Result<Command<'a>, AllocError>
     ensures local { IfOk result (λ command. (out-Command command).has_globals ≡ false) }
 {
     let command = bare_alone(alloc).arg(namespace(alloc))?;
-    command.arg(from(alloc))
+    let command = command.arg(from(alloc))?;
+    let command = command.arg(pool(alloc))?;
+    command.arg(quota(alloc))
 }
 
 /// The program without its subcommands.

@@ -5,6 +5,7 @@ ghost use Rattle.clap.specs.Walk.{texts};
 ghost use Rattle.ns_api.specs.declared.following.Driven.{Driven};
 ghost use Rattle.ns_pipe.specs.declared.printed.Printed.{Printed};
 ghost use Rattle.ns_faults.specs.Lines.{TriesToWrite, line_of, status_of};
+ghost use Rattle.ns_replay_print.specs.declared.replay.Replay.{Replay};
 ghost use Rattle.ns_serve.specs.declared.service.Service.{Service};
 ghost use Rattle.ns_words.specs.declared.outcome.Outcome.{Outcome};
 ghost use Rattle.ns_words.specs.Outcome.{IfEnded, IsEnded, MatchOutcome};
@@ -22,9 +23,8 @@ use std::alloc::Global;
 use std::io::{Read, Write};
 
 /// Runs the program with these words, of which the first is its own name: serves a connection with the secret that they
-/// give, drives whom they say and prints what they say; or replays what the namespace that they give did alone, behind as many
-/// entries as they say; or writes what they ask for or what is wrong with them, and then reads no input. A server over TCP is
-/// left to `conclude`.
+/// give, drives whom they say and prints what they say; or makes the replay that they ask for; or writes what they ask for or
+/// what is wrong with them, and then reads no input. A server over TCP is left to `conclude`.
 pub fn run_words<D: Draws + Drop, R: Read + Drop, W: Write + Drop, E: Write>(
     alloc: Global,
     words: &[&str],
@@ -42,9 +42,8 @@ pub fn run_words<D: Draws + Drop, R: Read + Drop, W: Write + Drop, E: Write>(
     ensures served { (secret : List ℕ) (driven : Driven) (printed : Printed)
         → Asks (texts words.entry.now) secret driven printed → IsEnded result
         (EndsPiped D.draws R.remaining W.contents secret driven printed draws reader writer) }
-    ensures replayed { (namespace : List ℕ) (from : ℕ)
-        → AsksAlone (texts words.entry.now) namespace from → IsEnded result
-        (EndsReplayed R.remaining W.contents namespace from reader writer) }
+    ensures replayed { (replay : Replay) → AsksAlone (texts words.entry.now) replay
+        → IsEnded result (EndsReplayed R.remaining W.contents replay reader writer) }
     ensures to_serve { (service : Service) → AsksServe (texts words.entry.now) service
         → (result ≡ Outcome.Serve service reader writer)
         ⊎ IsEnded result (EndsUnserved reader writer) }

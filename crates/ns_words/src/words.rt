@@ -12,6 +12,7 @@ ghost use Rattle.ns_api.specs.declared.following.Driven.{Driven};
 ghost use Rattle.ns_pipe.specs.Asking.{IsHelp, IsMistake};
 ghost use Rattle.ns_pipe.specs.declared.asked.Asked.{Asked};
 ghost use Rattle.ns_pipe.specs.declared.printed.Printed.{Printed};
+ghost use Rattle.ns_replay_print.specs.declared.replay.Replay.{Replay};
 ghost use Rattle.ns_serve.specs.declared.service.Service.{Service};
 ghost use Rattle.ns_words.specs.declared.wanted.Wanted.{Wanted};
 ghost use Rattle.ns_words.specs.Words.{AreBad, AreTaken, AskHelp, Asks, AsksAlone, AsksServe, IsRefusal, IsWanted, IsWish, program_words};
@@ -36,8 +37,8 @@ fn wanted(alloc: Global, command: &mut Command, matches: &ArgMatches) -> Result<
     ensures bad { IfErr result IsRefusal }
 {
     if let Some(namespace) = given(matches, "alone", "namespace") {
-        let (namespace, from) = alone_given(alloc, command, matches, namespace)?;
-        return Ok(Wanted::Run(Asked::Alone(namespace, from)));
+        let replay = alone_given(alloc, command, matches, namespace)?;
+        return Ok(Wanted::Run(Asked::Alone(replay)));
     }
     if let Some(address) = given(matches, "serve", "listen") {
         return Ok(Wanted::Serve(serve_given(alloc, command, matches, address)?));
@@ -68,7 +69,7 @@ fn asked(alloc: Global, words: &[&str]) -> Result<Wanted, Error>
 fn help_or_mistake(alloc: Global, error: &Error) -> Asked
     ensures no_pipe { (secret : List ℕ) (driven : Driven) (printed : Printed)
         → result ≢ Asked.Pipe secret driven printed }
-    ensures no_alone { (namespace : List ℕ) (from : ℕ) → result ≢ Asked.Alone namespace from }
+    ensures no_alone { (replay : Replay) → result ≢ Asked.Alone replay }
     ensures memory { kind_of error.now ≡ ErrorKind.OutOfMemory → result ≡ Asked.NoMemory }
     ensures help { IsWish (kind_of error.now)
         → ((text : List ℕ) × IsHelp result text) ⊎ (result ≡ Asked.NoMemory) }
@@ -97,13 +98,10 @@ pub fn read(alloc: Global, words: &[&str]) -> Wanted
         → Asks (texts words.entry.now) secret driven printed
         → (result ≡ Wanted.Run (Asked.Pipe secret driven printed))
         ⊎ (result ≡ Wanted.Run Asked.NoMemory) }
-    ensures gives_alone { (namespace : List ℕ) (from : ℕ)
-        → result ≡ Wanted.Run (Asked.Alone namespace from)
-        → AsksAlone (texts words.entry.now) namespace from }
-    ensures good_alone { (namespace : List ℕ) (from : ℕ)
-        → AsksAlone (texts words.entry.now) namespace from
-        → (result ≡ Wanted.Run (Asked.Alone namespace from))
-        ⊎ (result ≡ Wanted.Run Asked.NoMemory) }
+    ensures gives_alone { (replay : Replay) → result ≡ Wanted.Run (Asked.Alone replay)
+        → AsksAlone (texts words.entry.now) replay }
+    ensures good_alone { (replay : Replay) → AsksAlone (texts words.entry.now) replay
+        → (result ≡ Wanted.Run (Asked.Alone replay)) ⊎ (result ≡ Wanted.Run Asked.NoMemory) }
     ensures gives_serve { (service : Service) → result ≡ Wanted.Serve service
         → AsksServe (texts words.entry.now) service }
     ensures good_serve { (service : Service) → AsksServe (texts words.entry.now) service

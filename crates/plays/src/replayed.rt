@@ -4,27 +4,44 @@ use crate::ended::Ended;
 use crate::words::{BAD_HEAD, first_word};
 use anyhow::Context;
 use ns_http::Counted;
-use ns_replay_print::print_replay;
+use ns_replay_print::{Replay, print_replay};
+use ns_types::rows::Rows;
 use ns_types::text::Text;
 use std::alloc::Global;
 
-/// Replays the log. The words are the namespace, how many of the first entries make the base, and others that are not read.
-pub fn alone(alloc: Global, words: &str, log: &[u8]) -> anyhow::Result<Ended> {
+/// The words that stand behind that one.
+fn behind(alloc: Global, words: &str, wanted: &str) -> anyhow::Result<Rows<Text>> {
+    let mut names = Rows::new(alloc);
+    let mut is_behind = false;
+    for word in words.split(' ') {
+        if is_behind {
+            names.push(Text::from_str(alloc, word)?)?;
+        }
+        is_behind = word == wanted;
+    }
+    Ok(names)
+}
+
+/// The words are the namespace, how many of the first entries make the base, and others, of which those are read that stand behind
+/// `--pool` and `--quota`.
+fn replay_of(alloc: Global, words: &str) -> anyhow::Result<Replay> {
     let (namespace, words) = first_word(words);
-    let (from, _) = first_word(words);
-    let namespace = Text::from_str(alloc, namespace)?;
-    let from = from.parse().ok().context(BAD_HEAD)?;
+    let (from, words) = first_word(words);
+    Ok(Replay {
+        namespace: Text::from_str(alloc, namespace)?,
+        from: from.parse().ok().context(BAD_HEAD)?,
+        pools: behind(alloc, words, "--pool")?,
+        quotas: behind(alloc, words, "--quota")?,
+    })
+}
+
+/// Replays the log by the words.
+pub fn alone(alloc: Global, words: &str, log: &[u8]) -> anyhow::Result<Ended> {
+    let replay = replay_of(alloc, words)?;
     let mut errors = Counted::new(Vec::new(alloc));
     let mut reader = Counted::new(log);
     let mut writer = Counted::new(Vec::new(alloc));
-    let status = print_replay(
-        alloc,
-        &namespace,
-        from,
-        &mut reader,
-        &mut writer,
-        &mut errors,
-    );
+    let status = print_replay(alloc, &replay, &mut reader, &mut writer, &mut errors);
     Ok(Ended {
         status,
         written: writer.into_inner(),

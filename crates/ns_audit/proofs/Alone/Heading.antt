@@ -1,271 +1,280 @@
--- The own step and any other step of a namespace that shares no pool and no quota.
-use Rattle.std.specs.Prelude.{◌≡◌, Bool, true, false, cond, Option, ◌&&◌, ◌||◌, Ok, Err, option_map}
-use Rattle.std.proofs.Common.{refl, sym, ap, subst, ◌∙◌}
-use Rattle.ns_types.specs.declared.acl.Rights.{Rights}
+-- The own step and any other step of a namespace that has its pools and its quotas to itself.
+use Rattle.std.specs.Prelude.{◌≡◌, ℕ, Bool, true, false, cond, not, List, Option, Some, None, ◌&&◌, Ok, Err, option_map}
+use Rattle.std.proofs.Common.{◌⊎◌, inl, inr, refl, sym, ap, subst, ◌∙◌}
+use Rattle.std.specs.FinMap.{get, get-insert}
+use Rattle.ns_types.specs.declared.evaluation.Evaluation.{Evaluation}
 use Rattle.ns_types.specs.declared.records.Namespace.{Namespace}
-use Rattle.ns_types.specs.declared.refusal.Refusal.TheVariants as Refusal
-use Rattle.ns_types.specs.declared.step.AskCommand.{AskCommand}
-use Rattle.ns_types.specs.declared.step.NodeCommand.{NodeCommand}
+use Rattle.ns_types.specs.declared.refusal.Refusal.{Refusal}
+use Rattle.ns_types.specs.declared.reply.Content.{Content}
+use Rattle.ns_types.specs.declared.step.AdminCommand.{AdminCommand}
 use Rattle.ns_types.specs.declared.step.Step.{Step}
-use Rattle.ns_types.specs.Asking.Policies.{with_world}
-use Rattle.ns_types.specs.Asking.Asks.{right_of}
-use Rattle.ns_types.specs.Isolation.{namespace_at, has_pool, part_of, alone, quota_record, pool_record, SameTables, Agree, concerns, is_own, Keeps}
-use Rattle.ns_types.specs.State.Names.{Name, same_name}
+use Rattle.ns_types.specs.Access.Sharing.{namespace_at, names_within, is_apart}
+use Rattle.ns_types.specs.Asking.Admins.{is_full, names_pool, with_namespace, put_namespace}
+use Rattle.ns_types.specs.Asking.Policies.{administer, with_world, with_acl}
+use Rattle.ns_types.specs.Isolation.{Part, part_of, alone, alone_in, Agree, is_own_admin, is_own, lacks_room, is_full_answer, is_crowded_out}
 use Rattle.ns_types.specs.Settling.Outcome.{Outcome, NotEnabled, Refused, Done, lift}
-use Rattle.ns_types.specs.Access.Rights.{rights_of, has_any}
-use Rattle.ns_types.specs.State.Rows.{State, World, Tenant, PoolRows, QuotaRows}
 use Rattle.ns_types.specs.Settling.Settle.{settle}
-use Rattle.std.specs.Option.{option_map_or}
-use Rattle.ns_types.specs.Access.Sharing.{permits}
-use Rattle.ns_types.specs.State.Sums.{names_quota}
+use Rattle.ns_types.specs.State.Names.{Name}
+use Rattle.ns_types.specs.State.Rows.{State, World, Acl, Tenant, is_open}
 use Rattle.ns_types.specs.Steps.{Answer, said, act, after, is_allowed, concluded, reply_of, is_past_bound}
-use Rattle.ns_types.proofs.Lists.{left_none, right_none}
-use Rattle.ns_types.proofs.Named.{same_name_is, same_name_refl, first_of_both}
+use Rattle.ns_types.proofs.Leads.{Leads, leads_unless}
+use Rattle.ns_types.proofs.Lists.{not_both}
+use Rattle.ns_types.proofs.Named.{names, same_name_refl, first_of_both, second_of_both}
+use Rattle.ns_types.proofs.Settling.{settle_same}
 use Rattle.ns_types.proofs.Tests.{not_Some, same_Some}
+use Rattle.ns_audit.specs.Apart.{rest, Leaves}
 use Rattle.ns_audit.specs.Headline.{OwnStep, OtherStep}
-use Rattle.ns_audit.specs.Laws.{concerns_part, belongs, AgreeOn, KeepsTables, LeavesTables, IsFit}
-use Rattle.ns_audit.proofs.Alone.Chosen.{tenant_alone, pool_alone, quota_alone}
-use Rattle.ns_audit.proofs.Alone.Naming.{Named, change_named}
-use Rattle.ns_audit.proofs.Alone.Owning.{fit_of}
+use Rattle.ns_audit.specs.Laws.{is_admin, IsFit}
+use Rattle.ns_audit.specs.Orderly.{IsSteady}
+use Rattle.ns_audit.proofs.Alone.Administering.{IsSpared, other_put_namespace, other_delete_namespace, other_put_quota, other_delete_quota, other_read_quota}
+use Rattle.ns_audit.proofs.Alone.Administering.{other_put_pool, other_delete_pool, own_put_namespace, own_delete_namespace, own_read_quota, own_put_quota}
+use Rattle.ns_audit.proofs.Alone.Administering.{own_delete_quota, own_put_pool, own_delete_pool}
+use Rattle.ns_audit.proofs.Alone.Bordering.{fit_apart, named_side, open_side, record_within}
 use Rattle.ns_audit.proofs.Alone.Recording.{namespace_settled}
-use Rattle.ns_audit.proofs.Alone.Sides.{is_admin, change, act_is, plain_own}
-use Rattle.ns_audit.proofs.Alone.Stepping.{own_step_apart, other_step_apart}
+use Rattle.ns_audit.proofs.Alone.Sides.{over_part}
+use Rattle.ns_audit.proofs.Alone.Stepping.{Alike, refused_alike, world_alike, world_leaves, own_step_apart, other_step_apart}
 
--- ---- what no step but an administrator's changes
+abbrev pub Answered : Part → Step → State → State → Answer → Type 0
+Answered part step t s' answer = (t' : State) × (after step t ≡ said answer t') × Agree part s' t'
 
-module _ (s s' : State) (step : Step) (answer : Answer) (plain : is_admin step ≡ false) where
-  same_there : (x : State) → x ≡ s' → (ns : Name) → namespace_at x.world ns ≡ namespace_at s.world ns → x.acl ≡ s.acl →
-      (namespace_at s'.world ns ≡ namespace_at s.world ns) × (s'.acl ≡ s.acl)
-  same_there x e ns named acl = (ap (λ y. namespace_at y.world ns) (sym e) ∙ named, ap (λ y. y.acl) (sym e) ∙ acl)
+-- ---- an administrator's step
 
-  concluded_keeps : (ns : Name) (o : Outcome World) → Named s.world o → concluded step s (lift (with_world s.acl) o) ≡ said answer s' →
-      (namespace_at s'.world ns ≡ namespace_at s.world ns) × (s'.acl ≡ s.acl)
-  concluded_keeps ns NotEnabled named e = absurd (not_Some _ e)
-  concluded_keeps ns (Refused refusal) named e = same_there s (ap (λ x. x.1) (same_Some _ _ e)) ns refl refl
-  concluded_keeps ns (Done content w) named e = by (is_past_bound (settle s.world w)) e
+module _ (part : Part) (s s' : State) (secret : Option Name) (command : AdminCommand) (answer : Answer) (fit : IsFit part s) where
+  abbrev pub step : Step
+  step = Step.Admin secret command
+
+  -- of what changes access lists
+  acl_alike : (o : Outcome Acl) → concluded step s (lift (with_acl s.world) o) ≡ said answer s' →
+      Alike part step s answer s' (lift (with_acl (alone_in part s.world)) o)
+  unfolding alone
+  acl_alike NotEnabled e = absurd (not_Some _ e)
+  acl_alike (Refused refusal) e = refused_alike part s s' step answer fit refusal e
+  acl_alike (Done content acl) e = whole (alone_in part s.world) (over_part part s.world fit.within) (alone part s) ∙
+      ap (λ (x : Answer × State). said x.0 (alone part x.1)) (same_Some _ _ (sym (whole s.world fit.within s) ∙ e))
     where
-      by : (b : Bool) → cond b (said (Err Refusal.Full) s)
-          (said (Ok (reply_of step content (settle s.world w))) (record { acl = s.acl; world = settle s.world w })) ≡ said answer s' →
-          (namespace_at s'.world ns ≡ namespace_at s.world ns) × (s'.acl ≡ s.acl)
-      by true e = same_there s (ap (λ x. x.1) (same_Some _ _ e)) ns refl refl
-      by false e = same_there (record { acl = s.acl; world = settle s.world w }) (ap (λ x. x.1) (same_Some _ _ e)) ns
-          (namespace_settled s.world w ns ∙ named ns) refl
+      -- nothing is released or stamped
+      whole : (w : World) → is_past_bound w ≡ false → (x : State) →
+          cond (is_past_bound (settle w w)) (said (Err Refusal.Full) x) (said (Ok (reply_of step content (settle w w))) (record { acl = acl; world = settle w w })) ≡
+          said (Ok (reply_of step content w)) (record { acl = acl; world = w })
+      whole w within x = (λ i. cond (is_past_bound (settle_same w i)) (said (Err Refusal.Full) x)
+          (said (Ok (reply_of step content (settle_same w i))) (record { acl = acl; world = settle_same w i }))) ∙
+          ap (λ b. cond b (said (Err Refusal.Full) x) (said (Ok (reply_of step content w)) (record { acl = acl; world = w }))) within
 
-  pub plain_keeps : (ns : Name) → after step s ≡ said answer s' → (namespace_at s'.world ns ≡ namespace_at s.world ns) × (s'.acl ≡ s.acl)
-  unfolding after
-  plain_keeps ns e = by (is_allowed step s.acl) e
+  -- of what only reads
+  list_leaves : (content : Content) → concluded step s (Done content s) ≡ said answer s' → alone part s' ≡ alone part s
+  unfolding Leaves
+  list_leaves content e = world_leaves part s s' step answer fit (Done content s.world) same e
     where
-      by : (b : Bool) → cond b (concluded step s (act step s)) (said (Err Refusal.Denied) s) ≡ said answer s' →
-          (namespace_at s'.world ns ≡ namespace_at s.world ns) × (s'.acl ≡ s.acl)
-      by true e = concluded_keeps ns (change step s.world) (change_named step s.world) (ap (concluded step s) (sym (act_is step s plain)) ∙ e)
-      by false e = same_there s (ap (λ x. x.1) (same_Some _ _ e)) ns refl refl
+      same : Leaves part s.world (Done content s.world)
+      same = refl
 
--- the rights and the record of the namespace are kept, by an administrator's step that leaves the tables too
-pub record Reaches (ns : Name) (s0 s : State) : Type 0 where
-  pub namespace : namespace_at s.world ns ≡ namespace_at s0.world ns
-  pub rights : (secret : Option Name) → rights_of s.acl secret ns ≡ rights_of s0.acl secret ns
+-- ---- its own
 
-pub reaches : (ns : Name) (s s' : State) (step : Step) (answer : Answer) → Keeps ns step s s' → after step s ≡ said answer s' → Reaches ns s s'
-reaches ns s s' (Step.Admin secret command) answer keeps e = record { namespace = keeps.namespace; rights = keeps.rights }
-reaches ns s s' (Step.Ask asked secret command) answer keeps e = let k = plain_keeps s s' (Step.Ask asked secret command) answer refl ns e in
-    record { namespace = k.0; rights = λ x. ap (λ a. rights_of a x ns) k.1 }
-reaches ns s s' (Step.Node pool secret command) answer keeps e = let k = plain_keeps s s' (Step.Node pool secret command) answer refl ns e in
-    record { namespace = k.0; rights = λ x. ap (λ a. rights_of a x ns) k.1 }
-reaches ns s s' (Step.Dequeue worker label n) answer keeps e = let k = plain_keeps s s' (Step.Dequeue worker label n) answer refl ns e in
-    record { namespace = k.0; rights = λ x. ap (λ a. rights_of a x ns) k.1 }
-reaches ns s s' (Step.Snap worker label) answer keeps e = let k = plain_keeps s s' (Step.Snap worker label) answer refl ns e in
-    record { namespace = k.0; rights = λ x. ap (λ a. rights_of a x ns) k.1 }
-reaches ns s s' (Step.Submit worker label) answer keeps e = let k = plain_keeps s s' (Step.Submit worker label) answer refl ns e in
-    record { namespace = k.0; rights = λ x. ap (λ a. rights_of a x ns) k.1 }
-reaches ns s s' (Step.Apply worker label) answer keeps e = let k = plain_keeps s s' (Step.Apply worker label) answer refl ns e in
-    record { namespace = k.0; rights = λ x. ap (λ a. rights_of a x ns) k.1 }
-reaches ns s s' (Step.Finish worker label) answer keeps e = let k = plain_keeps s s' (Step.Finish worker label) answer refl ns e in
-    record { namespace = k.0; rights = λ x. ap (λ a. rights_of a x ns) k.1 }
-reaches ns s s' (Step.Nack worker label) answer keeps e = let k = plain_keeps s s' (Step.Nack worker label) answer refl ns e in
-    record { namespace = k.0; rights = λ x. ap (λ a. rights_of a x ns) k.1 }
+module _ (part : Part) (s s' : State) (secret : Option Name) (answer : Answer) (fit : IsFit part s)
+    (named : (ns : Name) (t : Tenant) (p : Name) → get s.world.tenants ns ≡ Some t → names_pool p t.namespace ≡ true → part.pools p ≡ part.spaces ns)
+    (opened : (ns : Name) (t : Tenant) (n : ℕ) (e : Evaluation) → get s.world.tenants ns ≡ Some t → get t.evaluations n ≡ Some e → is_open e.status ≡ true →
+    part.pools e.pool ≡ part.spaces ns) where
+  -- what is not crowded out
+  spared : (command : AdminCommand) (own full : Bool) (o : Outcome World) → (own && full && is_full_answer answer) ≡ false → own ≡ true →
+      concluded (Step.Admin secret command) s (lift (with_world s.acl) o) ≡ said answer s' → IsSpared full o
+  spared command own full o uncrowded mine e is refuses = not_both (λ i. mine i && is i && full_answer i) uncrowded
+    where
+      full_answer : is_full_answer answer ≡ true
+      full_answer = ap (λ (x : Answer × State). is_full_answer x.0)
+          (sym (same_Some _ _ (sym (ap (λ o. concluded (Step.Admin secret command) s (lift (with_world s.acl) o)) refuses) ∙ e)))
 
--- ---- the choice
+  own_allowed : (command : AdminCommand) → is_own_admin part command ≡ true →
+      (is_own_admin part command && lacks_room (Step.Admin secret command) s.world && is_full_answer answer) ≡ false →
+      concluded (Step.Admin secret command) s (administer secret command s) ≡ said answer s' →
+      Alike part (Step.Admin secret command) s answer s' (administer secret command (alone part s))
+  unfolding administer alone is_own is_own_admin
+  own_allowed AdminCommand.ListNamespaces own uncrowded e = not_both own refl
+  own_allowed (AdminCommand.PutNamespace name namespace) own uncrowded e =
+      let mine = first_of_both _ _ own in
+      world_alike part s s' (Step.Admin secret (AdminCommand.PutNamespace name namespace)) answer fit own _ _
+      (own_put_namespace part s.world name namespace mine (second_of_both (part.spaces name) _ own)
+      (spared (AdminCommand.PutNamespace name namespace) (part.spaces name && names_within part.pools part.quotas namespace) (is_full s.world.tenants name) _ uncrowded own e))
+      (other_put_namespace (rest part) s.world name namespace (ap not mine)) e
+  own_allowed (AdminCommand.DeleteNamespace name) own uncrowded e =
+      world_alike part s s' (Step.Admin secret (AdminCommand.DeleteNamespace name)) answer fit own _ _ (own_delete_namespace part s.world name own)
+      (other_delete_namespace (rest part) s.world name (ap not own)) e
+  own_allowed AdminCommand.ListQuotas own uncrowded e = not_both own refl
+  own_allowed (AdminCommand.ReadQuota name) own uncrowded e =
+      world_alike part s s' (Step.Admin secret (AdminCommand.ReadQuota name)) answer fit own _ _ (own_read_quota part s.world name own)
+      (other_read_quota (rest part) s.world name) e
+  own_allowed (AdminCommand.PutQuota name quota) own uncrowded e =
+      world_alike part s s' (Step.Admin secret (AdminCommand.PutQuota name quota)) answer fit own _ _ (own_put_quota part s.world name quota own
+      (spared (AdminCommand.PutQuota name quota) (part.quotas name) (is_full s.world.quotas name) _ uncrowded own e))
+      (other_put_quota (rest part) s.world name quota (ap not own)) e
+  own_allowed (AdminCommand.DeleteQuota name) own uncrowded e =
+      world_alike part s s' (Step.Admin secret (AdminCommand.DeleteQuota name)) answer fit own _ _ (own_delete_quota part s.world fit.apart name own)
+      (other_delete_quota (rest part) s.world name (ap not own)) e
+  own_allowed AdminCommand.ListPools own uncrowded e = not_both own refl
+  own_allowed (AdminCommand.PutPool name pool) own uncrowded e =
+      world_alike part s s' (Step.Admin secret (AdminCommand.PutPool name pool)) answer fit own _ _ (own_put_pool part s.world name pool own
+      (spared (AdminCommand.PutPool name pool) (part.pools name) (is_full s.world.pools name) _ uncrowded own e))
+      (other_put_pool (rest part) s.world name pool (ap not own)) e
+  own_allowed (AdminCommand.DeletePool name) own uncrowded e =
+      world_alike part s s' (Step.Admin secret (AdminCommand.DeletePool name)) answer fit own _ _ (own_delete_pool part s.world fit.apart named opened name own)
+      (other_delete_pool (rest part) s.world name (ap not own)) e
+  own_allowed (AdminCommand.ReadPolicy name) own uncrowded e = acl_alike part s s' secret (AdminCommand.ReadPolicy name) answer fit _ e
+  own_allowed (AdminCommand.PutPolicy name policy) own uncrowded e = acl_alike part s s' secret (AdminCommand.PutPolicy name policy) answer fit _ e
+  own_allowed (AdminCommand.DeletePolicy name) own uncrowded e = acl_alike part s s' secret (AdminCommand.DeletePolicy name) answer fit _ e
+  own_allowed (AdminCommand.CreateToken new) own uncrowded e = acl_alike part s s' secret (AdminCommand.CreateToken new) answer fit _ e
+  own_allowed (AdminCommand.DeleteToken accessor) own uncrowded e = acl_alike part s s' secret (AdminCommand.DeleteToken accessor) answer fit _ e
 
--- the pools and the quota are those of the record
-pub same_part : (ns : Name) (w x : World) → namespace_at x ns ≡ namespace_at w ns → part_of x ns ≡ part_of w ns
-same_part ns w x e = λ i. record {
-  spaces = same_name ns;
-  pools = λ pool. has_pool_of pool (e i);
-  quotas = λ quota. has_quota_of quota (e i);
-}
-  where
-    has_pool_of : Name → Option Namespace → Bool
-    has_pool_of pool o = option_map_or (λ namespace. permits namespace pool) o false
+  pub own_admin : (command : AdminCommand) → is_own_admin part command ≡ true →
+      (is_own_admin part command && lacks_room (Step.Admin secret command) s.world && is_full_answer answer) ≡ false →
+      after (Step.Admin secret command) s ≡ said answer s' → after (Step.Admin secret command) (alone part s) ≡ said answer (alone part s')
+  unfolding after act alone
+  own_admin command own uncrowded e = by (is_allowed (Step.Admin secret command) s.acl) e
+    where
+      by : (b : Bool) → cond b (concluded (Step.Admin secret command) s (administer secret command s)) (said (Err Refusal.Denied) s) ≡ said answer s' →
+          cond b (concluded (Step.Admin secret command) (alone part s) (administer secret command (alone part s))) (said (Err Refusal.Denied) (alone part s)) ≡
+          said answer (alone part s')
+      by true e = own_allowed command own uncrowded e
+      by false e = refused_alike part s s' (Step.Admin secret command) answer fit Refusal.Denied e
 
-    has_quota_of : Name → Option Namespace → Bool
-    has_quota_of quota o = option_map_or (names_quota quota) o false
+-- ---- any other
 
--- ---- states that agree
+module _ (part : Part) (s s' : State) (secret : Option Name) (answer : Answer) (fit : IsFit part s)
+    (within : (name : Name) (namespace : Namespace) → part.spaces name ≡ true → namespace_at s'.world name ≡ Some namespace →
+    names_within part.pools part.quotas namespace ≡ true) where
+  -- a put of the namespace's record that names another pool or quota is refused, since it is apart afterwards
+  foreign_put : (command : AdminCommand) (name : Name) (namespace : Namespace) → part.spaces name ≡ true → names_within part.pools part.quotas namespace ≡ false → (o : Outcome World)
+      → Leads (λ x. namespace_at x name ≡ Some namespace) o → concluded (Step.Admin secret command) s (lift (with_world s.acl) o) ≡ said answer s' →
+      alone part s' ≡ alone part s
+  foreign_put command name namespace mine without NotEnabled put e = absurd (not_Some _ e)
+  foreign_put command name namespace mine without (Refused refusal) put e = ap (λ (x : Answer × State). alone part x.1) (sym (same_Some _ _ e))
+  foreign_put command name namespace mine without (Done content w) put e = by (is_past_bound (settle s.world w)) e
+    where
+      y : State
+      y = record { acl = s.acl; world = settle s.world w }
 
-pub to_part : (ns : Name) (s t : State) → Agree ns s t → AgreeOn (part_of s.world ns) s t
-unfolding alone
-to_part ns s t agree = record {
-  world = agree.world;
-  rights = record {
-    spaces = λ secret k own. ap (rights_of t.acl secret) (sym (same_name_is ns k own)) ∙ agree.tables.rights secret ∙
-        ap (rights_of s.acl secret) (same_name_is ns k own);
-    pools = λ secret pool own. agree.tables.pool_rights secret pool own;
-  };
-}
+      by : (b : Bool) → cond b (said (Err Refusal.Full) s) (said (Ok (reply_of (Step.Admin secret command) content y.world)) y) ≡ said answer s' →
+          alone part s' ≡ alone part s
+      by true e = ap (λ (x : Answer × State). alone part x.1) (sym (same_Some _ _ e))
+      by false e = not_both (within name namespace mine
+          (ap (λ (x : Answer × State). namespace_at x.1.world name) (sym (same_Some _ _ e)) ∙ namespace_settled s.world w name ∙ put)) without
 
-pub from_part : (ns : Name) (s t : State) → AgreeOn (part_of s.world ns) s t → Agree ns s t
-unfolding alone
-from_part ns s t agree = record {
-  world = agree.world;
-  tables = record {
-    namespace = ap (λ w. namespace_at w ns) agree.world ∙
-        ap (option_map (λ (t : Tenant). t.namespace)) (tenant_alone (part_of s.world ns) s.world ns (same_name_refl ns));
-    quota = λ quota own. ap (λ w. quota_record w quota) agree.world ∙
-        ap (option_map (λ (q : QuotaRows). q.quota)) (quota_alone (part_of s.world ns) s.world quota own);
-    pool = λ pool own. ap (λ w. pool_record w pool) agree.world ∙ ap (option_map (λ (p : PoolRows). p.pool)) (pool_alone (part_of s.world ns) s.world pool own);
-    rights = λ secret. agree.rights.spaces secret ns (same_name_refl ns);
-    pool_rights = λ secret pool own. agree.rights.pools secret pool own;
-  };
-}
+  record_put : (name : Name) (namespace : Namespace) → Leads (λ x. namespace_at x name ≡ Some namespace) (put_namespace name namespace s.world)
+  unfolding put_namespace
+  record_put name namespace =
+      leads_unless Q _ _ _ (λ _. leads_unless Q _ _ _ (λ _. leads_unless Q _ _ _ (λ _. leads_unless Q _ _ _ (λ _. leads_unless Q _ _ _ (λ _.
+      ap (option_map (λ (t : Tenant). t.namespace)) (get-insert names s.world.tenants name (with_namespace namespace (get s.world.tenants name)) name ∙
+      ap (λ b. cond b (Some (with_namespace namespace (get s.world.tenants name))) (get s.world.tenants name)) (same_name_refl name)) ∙
+      ap Some (new (get s.world.tenants name)))))))
+    where
+      Q : World → Type 0
+      Q x = namespace_at x name ≡ Some namespace
 
--- ---- whose a step is
+      new : (o : Option Tenant) → (with_namespace namespace o).namespace ≡ namespace
+      new None = refl
+      new (Some t) = refl
 
-asked_in_pool_alike : (ns : Name) (w : World) (command : NodeCommand) → concerns_part (part_of w ns) command ≡ concerns ns command
-asked_in_pool_alike ns w NodeCommand.ReadPool = refl
-asked_in_pool_alike ns w NodeCommand.ListNodes = refl
-asked_in_pool_alike ns w (NodeCommand.PutNode name offer) = refl
-asked_in_pool_alike ns w (NodeCommand.DeleteNode name) = refl
-asked_in_pool_alike ns w (NodeCommand.SetStatus name status) = refl
-asked_in_pool_alike ns w (NodeCommand.SetEligible name eligible) = refl
-asked_in_pool_alike ns w (NodeCommand.Report name report) = refl
+  other_allowed : (command : AdminCommand) → is_own_admin part command ≡ false →
+      concluded (Step.Admin secret command) s (administer secret command s) ≡ said answer s' → alone part s' ≡ alone part s
+  unfolding administer is_own_admin
+  other_allowed AdminCommand.ListNamespaces other e = list_leaves part s s' secret AdminCommand.ListNamespaces answer fit _ e
+  other_allowed (AdminCommand.PutNamespace name namespace) other e = by (part.spaces name) refl other
+    where
+      by : (b : Bool) → part.spaces name ≡ b → (b && names_within part.pools part.quotas namespace) ≡ false → alone part s' ≡ alone part s
+      by true mine without = foreign_put (AdminCommand.PutNamespace name namespace) name namespace mine without _ (record_put name namespace) e
+      by false foreign _ = world_leaves part s s' (Step.Admin secret (AdminCommand.PutNamespace name namespace)) answer fit _
+          (other_put_namespace part s.world name namespace foreign) e
+  other_allowed (AdminCommand.DeleteNamespace name) other e =
+      world_leaves part s s' (Step.Admin secret (AdminCommand.DeleteNamespace name)) answer fit _ (other_delete_namespace part s.world name other) e
+  other_allowed AdminCommand.ListQuotas other e = list_leaves part s s' secret AdminCommand.ListQuotas answer fit _ e
+  other_allowed (AdminCommand.ReadQuota name) other e =
+      world_leaves part s s' (Step.Admin secret (AdminCommand.ReadQuota name)) answer fit _ (other_read_quota part s.world name) e
+  other_allowed (AdminCommand.PutQuota name quota) other e =
+      world_leaves part s s' (Step.Admin secret (AdminCommand.PutQuota name quota)) answer fit _ (other_put_quota part s.world name quota other) e
+  other_allowed (AdminCommand.DeleteQuota name) other e =
+      world_leaves part s s' (Step.Admin secret (AdminCommand.DeleteQuota name)) answer fit _ (other_delete_quota part s.world name other) e
+  other_allowed AdminCommand.ListPools other e = list_leaves part s s' secret AdminCommand.ListPools answer fit _ e
+  other_allowed (AdminCommand.PutPool name pool) other e =
+      world_leaves part s s' (Step.Admin secret (AdminCommand.PutPool name pool)) answer fit _ (other_put_pool part s.world name pool other) e
+  other_allowed (AdminCommand.DeletePool name) other e =
+      world_leaves part s s' (Step.Admin secret (AdminCommand.DeletePool name)) answer fit _ (other_delete_pool part s.world name other) e
+  other_allowed (AdminCommand.ReadPolicy name) other e = not_both refl other
+  other_allowed (AdminCommand.PutPolicy name policy) other e = not_both refl other
+  other_allowed (AdminCommand.DeletePolicy name) other e = not_both refl other
+  other_allowed (AdminCommand.CreateToken new) other e = not_both refl other
+  other_allowed (AdminCommand.DeleteToken accessor) other e = not_both refl other
 
-module _ (ns : Name) (s0 s : State) (r : Reaches ns s0 s) where
-  own_node : (pool : Name) (command : NodeCommand) → ((part_of s.world ns).pools pool && concerns_part (part_of s.world ns) command) ≡
-      (has_pool s0.world ns pool && concerns ns command)
-  own_node pool command = λ i. ap (λ p. p.pools pool) (same_part ns s0.world s.world r.namespace) i && asked_in_pool_alike ns s.world command i
+  pub other_admin : (command : AdminCommand) → is_own_admin part command ≡ false → after (Step.Admin secret command) s ≡ said answer s' →
+      alone part s' ≡ alone part s
+  unfolding after act
+  other_admin command other e = by (is_allowed (Step.Admin secret command) s.acl) e
+    where
+      by : (b : Bool) → cond b (concluded (Step.Admin secret command) s (administer secret command s)) (said (Err Refusal.Denied) s) ≡ said answer s' →
+          alone part s' ≡ alone part s
+      by true e = other_allowed command other e
+      by false e = ap (λ (x : Answer × State). alone part x.1) (sym (same_Some _ _ e))
 
-  -- a step that is its own belongs to it
-  pub belongs_own : (step : Step) → is_own ns s0 step ≡ true → belongs (part_of s.world ns) step ≡ true
+-- ---- all steps
+
+record IsAdmin (step : Step) : Type 0 where
+  secret : Option Name
+  command : AdminCommand
+  is_step : step ≡ Step.Admin secret command
+
+kind : (step : Step) → (is_admin step ≡ false) ⊎ IsAdmin step
+kind (Step.Ask ns secret command) = inl refl
+kind (Step.Admin secret command) = inr (record { secret = secret; command = command; is_step = refl })
+kind (Step.Node pool secret command) = inl refl
+kind (Step.Dequeue worker ns n) = inl refl
+kind (Step.Snap worker ns) = inl refl
+kind (Step.Submit worker ns) = inl refl
+kind (Step.Apply worker ns) = inl refl
+kind (Step.Finish worker ns) = inl refl
+kind (Step.Nack worker ns) = inl refl
+
+module _ (ns : Name) (pools quotas : List Name) (s t s' : State) (answer : Answer) (steady : IsSteady s) (apart : is_apart s.world ns pools quotas ≡ true)
+    (agree : Agree (part_of ns pools quotas) s t) where
+  abbrev pub part : Part
+  part = part_of ns pools quotas
+
+  own_administered : (secret : Option Name) (command : AdminCommand) → is_own part (Step.Admin secret command) ≡ true →
+      is_crowded_out part (Step.Admin secret command) s answer ≡ false → after (Step.Admin secret command) s ≡ said answer s' →
+      Answered part (Step.Admin secret command) t s' answer
   unfolding is_own
-  belongs_own (Step.Ask asked secret command) own = first_of_both _ _ own
-  belongs_own (Step.Admin secret command) own = own
-  belongs_own (Step.Node pool secret command) own = own_node pool command ∙ own
-  belongs_own (Step.Dequeue worker label n) own = own
-  belongs_own (Step.Snap worker label) own = own
-  belongs_own (Step.Submit worker label) own = own
-  belongs_own (Step.Apply worker label) own = own
-  belongs_own (Step.Finish worker label) own = own
-  belongs_own (Step.Nack worker label) own = own
+  own_administered secret command own uncrowded e = (
+    alone part s',
+    ap (after (Step.Admin secret command)) agree ∙ own_admin part s s' secret answer (fit_apart ns pools quotas s steady apart)
+        (named_side s.world ns pools quotas apart) (open_side s.world ns pools quotas apart steady.orderly) command own uncrowded e,
+    refl,
+  )
 
--- who has no right lacks the one that is asked for
-lacks : (command : AskCommand) (r : Rights) → has_any r ≡ false → right_of command r ≡ false
-lacks (AskCommand.ListJobs prefix) r none = left_none r.list_jobs _
-    (left_none (r.list_jobs || r.read_job) _ (left_none (r.list_jobs || r.read_job || r.submit_job) _ none))
-lacks (AskCommand.Register x) r none = right_none (r.list_jobs || r.read_job) _ (left_none (r.list_jobs || r.read_job || r.submit_job) _ none)
-lacks (AskCommand.ReadJob id) r none = right_none r.list_jobs _
-    (left_none (r.list_jobs || r.read_job) _ (left_none (r.list_jobs || r.read_job || r.submit_job) _ none))
-lacks (AskCommand.Deregister id purge) r none = right_none (r.list_jobs || r.read_job) _ (left_none (r.list_jobs || r.read_job || r.submit_job) _ none)
-lacks (AskCommand.JobAllocations id) r none = right_none r.list_jobs _
-    (left_none (r.list_jobs || r.read_job) _ (left_none (r.list_jobs || r.read_job || r.submit_job) _ none))
-lacks (AskCommand.JobEvaluations id) r none = right_none r.list_jobs _
-    (left_none (r.list_jobs || r.read_job) _ (left_none (r.list_jobs || r.read_job || r.submit_job) _ none))
-lacks (AskCommand.ListEvaluations prefix) r none =
-    right_none r.list_jobs _ (left_none (r.list_jobs || r.read_job) _ (left_none (r.list_jobs || r.read_job || r.submit_job) _ none))
-lacks (AskCommand.ReadEvaluation n) r none = right_none r.list_jobs _
-    (left_none (r.list_jobs || r.read_job) _ (left_none (r.list_jobs || r.read_job || r.submit_job) _ none))
-lacks (AskCommand.ListAllocations prefix) r none =
-    right_none r.list_jobs _ (left_none (r.list_jobs || r.read_job) _ (left_none (r.list_jobs || r.read_job || r.submit_job) _ none))
-lacks (AskCommand.ReadAllocation n) r none = right_none r.list_jobs _
-    (left_none (r.list_jobs || r.read_job) _ (left_none (r.list_jobs || r.read_job || r.submit_job) _ none))
-lacks (AskCommand.StopAllocation n) r none = right_none (r.list_jobs || r.read_job || r.submit_job) _ none
-lacks AskCommand.ReadNamespace r none = none
-lacks (AskCommand.QuotaUsage quota) r none = right_none r.list_jobs _
-    (left_none (r.list_jobs || r.read_job) _ (left_none (r.list_jobs || r.read_job || r.submit_job) _ none))
-lacks (AskCommand.Events index) r none = right_none r.list_jobs _
-    (left_none (r.list_jobs || r.read_job) _ (left_none (r.list_jobs || r.read_job || r.submit_job) _ none))
+  own_of : (step : Step) → is_own part step ≡ true → is_crowded_out part step s answer ≡ false → after step s ≡ said answer s' → Answered part step t s' answer
+  own_of step own uncrowded e = by (kind step)
+    where
+      by : (is_admin step ≡ false) ⊎ IsAdmin step → Answered part step t s' answer
+      by (inl plain) = (
+        alone part s',
+        ap (after step) agree ∙ own_step_apart part s s' step answer (fit_apart ns pools quotas s steady apart) plain own e,
+        refl,
+      )
+      by (inr admin) = subst (λ x. is_own part x ≡ true → is_crowded_out part x s answer ≡ false → after x s ≡ said answer s' → Answered part x t s' answer)
+          (sym admin.is_step) (own_administered admin.secret admin.command) own uncrowded e
 
--- what is asked without a right changes nothing
-denied : (s s' : State) (asked : Name) (secret : Option Name) (command : AskCommand) (answer : Answer) → has_any (rights_of s.acl secret asked) ≡ false →
-    after (Step.Ask asked secret command) s ≡ said answer s' → s ≡ s'
-unfolding after
-denied s s' asked secret command answer none e =
-    ap (λ x. x.1) (same_Some _ _ (sym (ap (λ b. cond b (concluded (Step.Ask asked secret command) s (act (Step.Ask asked secret command) s))
-    (said (Err Refusal.Denied) s)) (lacks command (rights_of s.acl secret asked) none)) ∙ e))
+  module _ (still : is_apart s'.world ns pools quotas ≡ true) where
+    other_administered : (secret : Option Name) (command : AdminCommand) → is_own part (Step.Admin secret command) ≡ false →
+        after (Step.Admin secret command) s ≡ said answer s' → Agree part s' t
+    unfolding is_own
+    other_administered secret command other e = agree ∙ sym (other_admin part s s' secret answer (fit_apart ns pools quotas s steady apart)
+        (record_within s'.world ns pools quotas still) command other e)
 
--- ---- the tables of the namespace as those of its part
-
-tables_of : (ns : Name) (s s' : State) → SameTables ns s s' → KeepsTables (part_of s.world ns) s s'
-tables_of ns s s' same = record {
-  spaces = λ k own. ap (namespace_at s'.world) (sym (same_name_is ns k own)) ∙ same.namespace ∙ ap (namespace_at s.world) (same_name_is ns k own);
-  quotas = same.quota;
-  pools = same.pool;
-  rights = record {
-    spaces = λ secret k own. ap (rights_of s'.acl secret) (sym (same_name_is ns k own)) ∙ same.rights secret ∙
-        ap (rights_of s.acl secret) (same_name_is ns k own);
-    pools = same.pool_rights;
-  };
-}
-
-leaves_tables : (ns : Name) (s s' : State) (step : Step) → Keeps ns step s s' → LeavesTables (part_of s.world ns) step s s'
-leaves_tables ns s s' (Step.Ask asked secret command) keeps = tt
-leaves_tables ns s s' (Step.Admin secret command) keeps = tables_of ns s s' keeps
-leaves_tables ns s s' (Step.Node pool secret command) keeps = tt
-leaves_tables ns s s' (Step.Dequeue worker label n) keeps = tt
-leaves_tables ns s s' (Step.Snap worker label) keeps = tt
-leaves_tables ns s s' (Step.Submit worker label) keeps = tt
-leaves_tables ns s s' (Step.Apply worker label) keeps = tt
-leaves_tables ns s s' (Step.Finish worker label) keeps = tt
-leaves_tables ns s s' (Step.Nack worker label) keeps = tt
-
--- ---- the two steps
-
-module _ (ns : Name) (s0 s t s' : State) (step : Step) (answer : Answer) (fit : IsFit (part_of s.world ns) s) (r : Reaches ns s0 s) (agree : Agree ns s t) where
-  -- with the part of the state after the step
-  as_after : (t' : State) → namespace_at s'.world ns ≡ namespace_at s.world ns → AgreeOn (part_of s.world ns) s' t' → Agree ns s' t'
-  as_after t' same a = from_part ns s' t' (subst (λ part. AgreeOn part s' t') (sym (same_part ns s.world s'.world same)) a)
-
-  pub own_of : is_own ns s0 step ≡ true → after step s ≡ said answer s' → (t' : State) × (after step t ≡ said answer t') × Agree ns s' t'
-  own_of own e =
-      let mine = belongs_own ns s0 s r step own in
-      let next = own_step_apart (part_of s.world ns) s t s' step answer (to_part ns s t agree) fit mine e in
-      (next.0, next.1, as_after next.0 (plain_keeps s s' step answer (plain_own (part_of s.world ns) step mine) ns e).0 next.2)
-
-  other_of_part : belongs (part_of s.world ns) step ≡ false → Keeps ns step s s' → after step s ≡ said answer s' → Agree ns s' t
-  other_of_part other keeps e = as_after t (reaches ns s s' step answer keeps e).namespace
-      (other_step_apart (part_of s.world ns) s t s' step answer (to_part ns s t agree) fit other (leaves_tables ns s s' step keeps) e)
-
-pub other_of : (ns : Name) (s0 s t s' : State) (step : Step) (answer : Answer) → IsFit (part_of s.world ns) s → Reaches ns s0 s → Agree ns s t →
-    is_own ns s0 step ≡ false → Keeps ns step s s' → after step s ≡ said answer s' → Agree ns s' t
-unfolding is_own
-other_of ns s0 s t s' (Step.Ask asked secret command) answer fit r agree other keeps e = by (same_name ns asked) refl other
-  where
-    by : (b : Bool) → same_name ns asked ≡ b → (b && has_any (rights_of s0.acl secret ns)) ≡ false → Agree ns s' t
-    by false foreign _ = other_of_part ns s0 s t s' (Step.Ask asked secret command) answer fit r agree foreign keeps e
-    by true mine none = subst (λ x. Agree ns x t)
-        (denied s s' asked secret command answer (ap (λ k. has_any (rights_of s.acl secret k)) (sym (same_name_is ns asked mine)) ∙ ap has_any (r.rights secret)
-        ∙ none) e) agree
-other_of ns s0 s t s' (Step.Admin secret command) answer fit r agree other keeps e =
-    other_of_part ns s0 s t s' (Step.Admin secret command) answer fit r agree refl keeps e
-other_of ns s0 s t s' (Step.Node pool secret command) answer fit r agree other keeps e =
-    other_of_part ns s0 s t s' (Step.Node pool secret command) answer fit r agree (own_node ns s0 s r pool command ∙ other) keeps e
-other_of ns s0 s t s' (Step.Dequeue worker label n) answer fit r agree other keeps e =
-    other_of_part ns s0 s t s' (Step.Dequeue worker label n) answer fit r agree other keeps e
-other_of ns s0 s t s' (Step.Snap worker label) answer fit r agree other keeps e =
-    other_of_part ns s0 s t s' (Step.Snap worker label) answer fit r agree other keeps e
-other_of ns s0 s t s' (Step.Submit worker label) answer fit r agree other keeps e =
-    other_of_part ns s0 s t s' (Step.Submit worker label) answer fit r agree other keeps e
-other_of ns s0 s t s' (Step.Apply worker label) answer fit r agree other keeps e =
-    other_of_part ns s0 s t s' (Step.Apply worker label) answer fit r agree other keeps e
-other_of ns s0 s t s' (Step.Finish worker label) answer fit r agree other keeps e =
-    other_of_part ns s0 s t s' (Step.Finish worker label) answer fit r agree other keeps e
-other_of ns s0 s t s' (Step.Nack worker label) answer fit r agree other keeps e =
-    other_of_part ns s0 s t s' (Step.Nack worker label) answer fit r agree other keeps e
+    other_of : (step : Step) → is_own part step ≡ false → after step s ≡ said answer s' → Agree part s' t
+    other_of step other e = by (kind step)
+      where
+        by : (is_admin step ≡ false) ⊎ IsAdmin step → Agree part s' t
+        by (inl plain) = agree ∙ sym (other_step_apart part s s' step answer (fit_apart ns pools quotas s steady apart) plain other e)
+        by (inr admin) = subst (λ x. is_own part x ≡ false → after x s ≡ said answer s' → Agree part s' t)
+            (sym admin.is_step) (other_administered admin.secret admin.command) other e
 
 pub own_step : OwnStep
-own_step ns s0 s t s' step answer steady unshared same agree own e = own_of ns s0 s t s' step answer (fit_of s ns steady.orderly steady.within unshared)
-    (record { namespace = same.namespace; rights = same.rights }) agree own e
+own_step ns pools quotas s t s' step answer steady apart agree own uncrowded e = own_of ns pools quotas s t s' answer steady apart agree step own uncrowded e
 
 pub other_step : OtherStep
-other_step ns s0 s t s' step answer steady unshared same agree other keeps e =
-    other_of ns s0 s t s' step answer (fit_of s ns steady.orderly steady.within unshared) (record { namespace = same.namespace; rights = same.rights })
-    agree other keeps e
+other_step ns pools quotas s t s' step answer steady apart still agree other e = other_of ns pools quotas s t s' answer steady apart agree still step other e

@@ -3,6 +3,7 @@ use Rattle.std.specs.Prelude.{◌≡◌, ℕ, ◌+◌, Bool, true, false, cond, 
 use Rattle.std.proofs.Common.{refl, ◌∙◌}
 use Rattle.std.specs.FinMap.{get, insert}
 use Rattle.std.specs.Option.{option_map_or}
+use Rattle.ns_types.specs.Access.Sharing.{namespace_at}
 use Rattle.ns_types.specs.declared.allocation.Allocation.{Allocation}
 use Rattle.ns_types.specs.declared.allocation.ClientStatus.{ClientStatus}
 use Rattle.ns_types.specs.declared.allocation.DesiredStatus.{DesiredStatus}
@@ -20,7 +21,6 @@ use Rattle.ns_types.specs.declared.step.Step.{Step}
 use Rattle.ns_types.specs.Working.Worker.{Worker}
 use Rattle.ns_types.specs.Asking.Asks.{deregistered, asked_in, ask, first_refusal}
 use Rattle.ns_types.specs.Working.Commit.{Commit, decide, place_one, commit, applied_worker, applied, apply_for, apply}
-use Rattle.ns_types.specs.Isolation.{namespace_at}
 use Rattle.ns_types.specs.Settling.Making.{put_tenant, change_tenant, put_pool, with_status, with_desired, with_client, evaluation_for, make_in, make}
 use Rattle.ns_types.specs.State.Names.{Name}
 use Rattle.std.specs.Prelude.{not}

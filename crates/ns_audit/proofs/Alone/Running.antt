@@ -1,24 +1,25 @@
 -- Steps keep a state orderly and its counters within their bound, and so the laws of steps hold all along a run.
 use Rattle.std.specs.Prelude.{◌≡◌, Bool, true, false, cond, List, [], ◌∷◌, Ok, Err}
-use Rattle.std.proofs.Common.{refl, sym, ap, subst, ◌∙◌}
+use Rattle.std.proofs.Common.{refl, sym, ap, subst}
 use Rattle.ns_types.specs.declared.refusal.Refusal.TheVariants as Refusal
 use Rattle.ns_types.specs.declared.step.Step.{Step}
-use Rattle.ns_types.specs.Isolation.{alone, Agree, is_own, struck, struck_answers, IsIsolated}
+use Rattle.ns_types.specs.Access.Sharing.{is_apart}
+use Rattle.ns_types.specs.Isolation.{Part, part_of, alone, Agree, is_own, struck, struck_answers, IsIsolated}
 use Rattle.ns_types.specs.State.Names.{Name}
 use Rattle.ns_types.specs.Settling.Outcome.{Outcome, NotEnabled, Refused, Done}
 use Rattle.ns_types.specs.State.Rows.{State}
 use Rattle.ns_types.specs.Settling.Settle.{settle}
 use Rattle.ns_types.specs.Steps.{Answer, said, act, after, is_allowed, concluded, reply_of, is_past_bound, Run}
-use Rattle.ns_audit.specs.Headline.{ValidIsSteady, SteadyStep, UnsharedIsApart, StruckRun, StruckSteadyRun}
+use Rattle.ns_audit.specs.Headline.{ValidIsSteady, SteadyStep, StruckRun, StruckSteadyRun}
 use Rattle.ns_audit.specs.Orderly.{IsOrderly, IsSteady}
-use Rattle.ns_audit.proofs.Alone.Heading.{Reaches, reaches, from_part, own_of, other_of}
+use Rattle.ns_audit.proofs.Alone.Heading.{own_step, other_step}
 use Rattle.ns_audit.proofs.Steady.Admins.{KeepsOrderState, of_world, administer_orderly}
 use Rattle.ns_audit.proofs.Steady.Apply.{apply_orderly}
 use Rattle.ns_audit.proofs.Steady.Asks.{ask_orderly}
 use Rattle.ns_audit.proofs.Steady.Finish.{finish_orderly}
 use Rattle.ns_audit.proofs.Steady.Nodes.{ask_pool_orderly}
 use Rattle.ns_audit.proofs.Steady.Workers.{dequeue_orderly, snap_orderly, submit_orderly, nack_orderly}
-use Rattle.ns_audit.proofs.Alone.Owning.{orderly, fit_of}
+use Rattle.ns_audit.proofs.Alone.Orderly.{orderly}
 use Rattle.ns_audit.proofs.Steady.Resting.{settle_orderly}
 use Rattle.ns_types.proofs.Tests.{not_Some, same_Some}
 
@@ -62,42 +63,39 @@ valid_is_steady s valid = record { orderly = orderly s.world valid.world; within
 pub steady_step : SteadyStep
 steady_step s s' step answer steady e = after_steady s steady step s' answer e
 
-pub unshared_is_apart : UnsharedIsApart
-unshared_is_apart ns s steady unshared = fit_of s ns steady.orderly steady.within unshared
+-- the first state of an isolated run
+first_apart : (ns : Name) (pools quotas : List Name) (s s1 : State) (steps : List Step) (answers : List Answer) →
+    IsIsolated ns pools quotas s steps answers s1 → is_apart s.world ns pools quotas ≡ true
+first_apart ns pools quotas s s1 [] [] run = run.0
+first_apart ns pools quotas s s1 [] (answer ∷ answers) run = absurd run
+first_apart ns pools quotas s s1 (step ∷ steps) [] run = absurd run
+first_apart ns pools quotas s s1 (step ∷ steps) (answer ∷ answers) run = run.1
 
-reaches_on : (ns : Name) (s0 s s' : State) → Reaches ns s0 s → Reaches ns s s' → Reaches ns s0 s'
-reaches_on ns s0 s s' a b = record { namespace = b.namespace ∙ a.namespace; rights = λ secret. b.rights secret ∙ a.rights secret }
+module _ (ns : Name) (pools quotas : List Name) where
+  abbrev pub part : Part
+  part = part_of ns pools quotas
 
-from_agreeing : (ns : Name) (s0 s t s1 : State) (steps : List Step) (answers : List Answer) → IsSteady s → Reaches ns s0 s → Agree ns s t →
-    IsIsolated ns s steps answers s1
-    → (t1 : State) × Run t (struck ns s0 steps) (struck_answers ns s0 steps answers) t1 × Agree ns s1 t1
-from_agreeing ns s0 s t s1 [] [] steady r agree run = (t, refl, subst (λ x. Agree ns x t) (sym run.1) agree)
-from_agreeing ns s0 s t s1 [] (answer ∷ answers) steady r agree run = absurd run
-from_agreeing ns s0 s t s1 (step ∷ steps) [] steady r agree run = absurd run
-from_agreeing ns s0 s t s1 (step ∷ steps) (answer ∷ answers) steady r agree run =
-    let mid = run.0 in
-    let fit = fit_of s ns steady.orderly steady.within run.1 in
-    let next_steady = after_steady s steady step run.0 answer run.2 in
-    let next_reach = reaches_on ns s0 s run.0 r (reaches ns s run.0 step answer run.3 run.2) in
-    elim (is_own ns s0 step) as (λ b. is_own ns s0 step ≡ b → (t1 : State)
-    × Run t (cond b (step ∷ struck ns s0 steps) (struck ns s0 steps))
-    (cond b (answer ∷ struck_answers ns s0 steps answers) (struck_answers ns s0 steps answers)) t1 × Agree ns s1 t1) [
-      | true ↦ λ own.
-          let next = own_of ns s0 s t run.0 step answer fit r agree own run.2 in
-          let later = from_agreeing ns s0 run.0 next.0 s1 steps answers next_steady next_reach next.2 run.4 in
-          (later.0, (next.0, next.1, later.1), later.2)
-      | false ↦ λ other. from_agreeing ns s0 run.0 t s1 steps answers next_steady next_reach
-          (other_of ns s0 s t run.0 step answer fit r agree other run.3 run.2) run.4
-    ] refl
-
--- the server that holds the namespace alone agrees at first
-first_agrees : (ns : Name) (s : State) → Agree ns s (alone ns s)
-unfolding alone
-first_agrees ns s = from_part ns s (alone ns s) (record { world = refl; rights = record { spaces = λ secret k own. refl; pools = λ secret pool own. refl } })
+  from_agreeing : (s t s1 : State) (steps : List Step) (answers : List Answer) → IsSteady s → Agree part s t → IsIsolated ns pools quotas s steps answers s1
+      → (t1 : State) × Run t (struck part steps) (struck_answers part steps answers) t1 × Agree part s1 t1
+  from_agreeing s t s1 [] [] steady agree run = (t, refl, subst (λ x. Agree part x t) (sym run.1) agree)
+  from_agreeing s t s1 [] (answer ∷ answers) steady agree run = absurd run
+  from_agreeing s t s1 (step ∷ steps) [] steady agree run = absurd run
+  from_agreeing s t s1 (step ∷ steps) (answer ∷ answers) steady agree run =
+      let next_steady = steady_step s run.0 step answer steady run.2 in
+      elim (is_own part step) as (λ b. is_own part step ≡ b → (t1 : State)
+      × Run t (cond b (step ∷ struck part steps) (struck part steps))
+      (cond b (answer ∷ struck_answers part steps answers) (struck_answers part steps answers)) t1 × Agree part s1 t1) [
+        | true ↦ λ own.
+            let next = own_step ns pools quotas s t run.0 step answer steady run.1 agree own run.3 run.2 in
+            let later = from_agreeing run.0 next.0 s1 steps answers next_steady next.2 run.4 in
+            (later.0, (next.0, next.1, later.1), later.2)
+        | false ↦ λ other. from_agreeing run.0 t s1 steps answers next_steady (other_step ns pools quotas s t run.0 step answer steady run.1
+            (first_apart ns pools quotas run.0 s1 steps answers run.4) agree other run.2) run.4
+      ] refl
 
 pub struck_steady_run : StruckSteadyRun
-struck_steady_run ns s0 s1 steps answers steady run =
-    from_agreeing ns s0 s0 (alone ns s0) s1 steps answers steady (record { namespace = refl; rights = λ secret. refl }) (first_agrees ns s0) run
+struck_steady_run ns pools quotas s0 s1 steps answers steady run =
+    from_agreeing ns pools quotas s0 (alone (part_of ns pools quotas) s0) s1 steps answers steady refl run
 
 pub struck_run : StruckRun
-struck_run ns s0 s1 steps answers valid run = struck_steady_run ns s0 s1 steps answers (valid_is_steady s0 valid) run
+struck_run ns pools quotas s0 s1 steps answers valid run = struck_steady_run ns pools quotas s0 s1 steps answers (valid_is_steady s0 valid) run

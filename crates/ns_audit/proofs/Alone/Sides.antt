@@ -6,22 +6,22 @@ use Rattle.ns_types.specs.declared.step.NodeCommand.{NodeCommand}
 use Rattle.ns_types.specs.declared.step.Report.{Report}
 use Rattle.ns_types.specs.declared.step.Step.{Step}
 use Rattle.ns_types.specs.Asking.Policies.{with_world}
-use Rattle.ns_types.specs.Asking.Asks.{ask, right_of}
+use Rattle.ns_types.specs.Asking.Asks.{ask}
 use Rattle.ns_types.specs.Working.Commit.{apply}
-use Rattle.ns_types.specs.Isolation.{Part, alone_in}
+use Rattle.ns_types.specs.Isolation.{Part, alone_in, concerns, is_own}
 use Rattle.ns_types.specs.State.Names.{Name}
-use Rattle.ns_types.specs.Asking.Nodes.{ask_pool, pool_right_of}
+use Rattle.ns_types.specs.Asking.Nodes.{ask_pool}
 use Rattle.ns_types.specs.Settling.Outcome.{Outcome, NotEnabled, lift}
-use Rattle.ns_types.specs.State.Rows.{State, World, Acl, Tenant}
+use Rattle.ns_types.specs.State.Rows.{State, World, Tenant}
 use Rattle.ns_types.specs.Settling.Settle.{settle}
-use Rattle.ns_types.specs.Steps.{act, is_allowed, reply_of, is_past_bound, is_tenant_past_bound, is_pool_past_bound, greatest}
+use Rattle.ns_types.specs.Steps.{act, reply_of, is_past_bound, is_tenant_past_bound, is_pool_past_bound, greatest}
 use Rattle.ns_types.specs.Working.Work.{dequeue, snap, submit, finish, nack}
 use Rattle.std.specs.Prelude.{nat_lt}
 use Rattle.ns_types.proofs.Lists.{not_both, each_map, left_none, right_none}
 use Rattle.ns_types.proofs.Named.{names, one_name, first_of_both, second_of_both}
 use Rattle.ns_types.proofs.Tables.{any_row-chosen, any_row-retain-none}
 use Rattle.ns_audit.specs.Apart.{rest, IsWith, IsApart, IsAtHome}
-use Rattle.ns_audit.specs.Laws.{concerns_part, belongs, SameRights}
+use Rattle.ns_audit.specs.Laws.{is_admin}
 use Rattle.ns_audit.proofs.Alone.Chosen.{tenant_alone}
 use Rattle.ns_types.proofs.Settling.{settle_same}
 use Rattle.ns_audit.proofs.Alone.Settling.{settle_alone}
@@ -70,10 +70,6 @@ IsOn part w b (Step.Apply worker ns) = part.spaces ns ≡ b
 IsOn part w b (Step.Finish worker ns) = part.spaces ns ≡ b
 IsOn part w b (Step.Nack worker ns) = part.spaces ns ≡ b
 
-abbrev pub is_admin : Step → Bool
-is_admin (Step.Admin secret command) = true
-is_admin _ = false
-
 -- what a step that is no administrator's changes
 abbrev pub change : Step → World → Outcome World
 change (Step.Ask ns secret command) w = ask ns command w
@@ -86,7 +82,7 @@ change (Step.Apply worker ns) w = apply worker ns w
 change (Step.Finish worker ns) w = finish worker ns w
 change (Step.Nack worker ns) w = nack worker ns w
 
-own_pool : (part : Part) (w : World) (pool : Name) (command : NodeCommand) → (part.pools pool && concerns_part part command) ≡ true →
+own_pool : (part : Part) (w : World) (pool : Name) (command : NodeCommand) → (part.pools pool && concerns part command) ≡ true →
     AsksPoolOn part w true pool command
 own_pool part w pool NodeCommand.ReadPool own = first_of_both _ _ own
 own_pool part w pool NodeCommand.ListNodes own = first_of_both _ _ own
@@ -96,18 +92,19 @@ own_pool part w pool (NodeCommand.SetStatus name status) own = first_of_both _ _
 own_pool part w pool (NodeCommand.SetEligible name eligible) own = first_of_both _ _ own
 own_pool part w pool (NodeCommand.Report name r) own = (first_of_both _ _ own, second_of_both _ _ own)
 
-pub is_of_own : (part : Part) (w : World) (step : Step) → belongs part step ≡ true → IsOn part w true step
-is_of_own part w (Step.Ask ns secret command) own = own
-is_of_own part w (Step.Admin secret command) own = not_both own refl
-is_of_own part w (Step.Node pool secret command) own = own_pool part w pool command own
-is_of_own part w (Step.Dequeue worker ns n) own = own
-is_of_own part w (Step.Snap worker ns) own = own
-is_of_own part w (Step.Submit worker ns) own = own
-is_of_own part w (Step.Apply worker ns) own = own
-is_of_own part w (Step.Finish worker ns) own = own
-is_of_own part w (Step.Nack worker ns) own = own
+pub is_of_own : (part : Part) (w : World) (step : Step) → is_own part step ≡ true → is_admin step ≡ false → IsOn part w true step
+unfolding is_own
+is_of_own part w (Step.Ask ns secret command) own plain = own
+is_of_own part w (Step.Admin secret command) own plain = not_both refl plain
+is_of_own part w (Step.Node pool secret command) own plain = own_pool part w pool command own
+is_of_own part w (Step.Dequeue worker ns n) own plain = own
+is_of_own part w (Step.Snap worker ns) own plain = own
+is_of_own part w (Step.Submit worker ns) own plain = own
+is_of_own part w (Step.Apply worker ns) own plain = own
+is_of_own part w (Step.Finish worker ns) own plain = own
+is_of_own part w (Step.Nack worker ns) own plain = own
 
-other_pool : (part : Part) (w : World) (pool : Name) (command : NodeCommand) → IsAtHome part w → (part.pools pool && concerns_part part command) ≡ false →
+other_pool : (part : Part) (w : World) (pool : Name) (command : NodeCommand) → IsAtHome part w → (part.pools pool && concerns part command) ≡ false →
     AsksPoolOn part w false pool command
 other_pool part w pool NodeCommand.ReadPool home other = and_yes _ other
 other_pool part w pool NodeCommand.ListNodes home other = and_yes _ other
@@ -121,7 +118,8 @@ other_pool part w pool (NodeCommand.Report name r) home other = by (part.pools p
     by true is e = inl e
     by false is e = inr (is, home)
 
-pub is_of_other : (part : Part) (w : World) (step : Step) → IsAtHome part w → belongs part step ≡ false → is_admin step ≡ false → IsOn part w false step
+pub is_of_other : (part : Part) (w : World) (step : Step) → IsAtHome part w → is_own part step ≡ false → is_admin step ≡ false → IsOn part w false step
+unfolding is_own
 is_of_other part w (Step.Ask ns secret command) home other plain = other
 is_of_other part w (Step.Admin secret command) home other plain = not_both refl plain
 is_of_other part w (Step.Node pool secret command) home other plain = other_pool part w pool command home other
@@ -153,17 +151,6 @@ not_of_rest part w (Step.Apply worker ns) own = ap not own
 not_of_rest part w (Step.Finish worker ns) own = ap not own
 not_of_rest part w (Step.Nack worker ns) own = ap not own
 
-pub plain_own : (part : Part) (step : Step) → belongs part step ≡ true → is_admin step ≡ false
-plain_own part (Step.Ask ns secret command) own = refl
-plain_own part (Step.Admin secret command) own = not_both own refl
-plain_own part (Step.Node pool secret command) own = refl
-plain_own part (Step.Dequeue worker ns n) own = refl
-plain_own part (Step.Snap worker ns) own = refl
-plain_own part (Step.Submit worker ns) own = refl
-plain_own part (Step.Apply worker ns) own = refl
-plain_own part (Step.Finish worker ns) own = refl
-plain_own part (Step.Nack worker ns) own = refl
-
 pub act_is : (step : Step) (s : State) → is_admin step ≡ false → act step s ≡ lift (with_world s.acl) (change step s.world)
 unfolding act
 act_is (Step.Ask ns secret command) s plain = refl
@@ -176,25 +163,15 @@ act_is (Step.Apply worker ns) s plain = refl
 act_is (Step.Finish worker ns) s plain = refl
 act_is (Step.Nack worker ns) s plain = refl
 
--- ---- rights and replies
-
-pub allowed_alike : (part : Part) (step : Step) (a b : Acl) → SameRights part a b → belongs part step ≡ true → is_allowed step b ≡ is_allowed step a
-allowed_alike part (Step.Ask ns secret command) a b same own = ap (right_of command) (same.spaces secret ns own)
-allowed_alike part (Step.Admin secret command) a b same own = not_both own refl
-allowed_alike part (Step.Node pool secret command) a b same own = ap (pool_right_of command) (same.pools secret pool (first_of_both _ _ own))
-allowed_alike part (Step.Dequeue worker ns n) a b same own = refl
-allowed_alike part (Step.Snap worker ns) a b same own = refl
-allowed_alike part (Step.Submit worker ns) a b same own = refl
-allowed_alike part (Step.Apply worker ns) a b same own = refl
-allowed_alike part (Step.Finish worker ns) a b same own = refl
-allowed_alike part (Step.Nack worker ns) a b same own = refl
+-- ---- replies
 
 -- with the index that the step's namespace has after it
-pub reply_alike : (part : Part) (step : Step) (content : Content) (w : World) → belongs part step ≡ true →
+pub reply_alike : (part : Part) (step : Step) (content : Content) (w : World) → is_own part step ≡ true →
     reply_of step content (alone_in part w) ≡ reply_of step content w
+unfolding is_own
 reply_alike part (Step.Ask ns secret command) content w own = ap (λ t. record { index = option_map (λ (t : Tenant). t.index) t; content = content })
     (tenant_alone part w ns own)
-reply_alike part (Step.Admin secret command) content w own = not_both own refl
+reply_alike part (Step.Admin secret command) content w own = refl
 reply_alike part (Step.Node pool secret command) content w own = refl
 reply_alike part (Step.Dequeue worker ns n) content w own = refl
 reply_alike part (Step.Snap worker ns) content w own = refl

@@ -17,13 +17,12 @@ use Rattle.ns_types.specs.declared.reply.Content.TheVariants as Content
 use Rattle.ns_types.specs.declared.step.AskCommand.{AskCommand}
 use Rattle.ns_types.specs.Asking.Asks.{first_refusal, pool_of, document_of, registered_job, registered_with, register, stopped_job, deregistered}
 use Rattle.ns_types.specs.Asking.Asks.{deregister_job, deregister, stop_allocation, asked_in, ask}
-use Rattle.ns_types.specs.Isolation.{namespace_at}
 use Rattle.ns_types.specs.Settling.Making.{with_job, with_desired, new_evaluation, evaluation_of, evaluation_for, make_in, make}
 use Rattle.ns_types.specs.State.Names.{Name}
 use Rattle.ns_types.specs.Settling.Outcome.{Outcome, Refused, Done}
 use Rattle.ns_types.specs.State.Rows.{World, Tenant, is_live, is_run, is_held}
 use Rattle.ns_types.specs.Settling.Same.{same_document}
-use Rattle.ns_types.specs.Access.Sharing.{permits}
+use Rattle.ns_types.specs.Access.Sharing.{permits, namespace_at}
 use Rattle.ns_types.specs.State.Sums.{names_quota, quota_use}
 use Rattle.ns_types.proofs.Lists.{not_both}
 use Rattle.ns_types.proofs.Named.{names, one_name, numbers as numbers_, one_number}

@@ -26,7 +26,7 @@ use Rattle.ns_audit.proofs.Steady.Keeping.{at_inserted, KeepsTenant, keeps_same,
 use Rattle.ns_audit.proofs.Steady.Keeping.{blocked_orderly}
 use Rattle.ns_audit.proofs.Steady.Asks.{KeepsOrder}
 use Rattle.ns_types.proofs.Leads.{leads_if}
-use Rattle.ns_audit.proofs.Alone.Owning.{blocked_is}
+use Rattle.ns_audit.proofs.Alone.Orderly.{blocked_is}
 use Rattle.ns_audit.proofs.Steady.Resting.{same_orderly}
 use Rattle.ns_audit.proofs.Steady.Work.{pending_not_blocked, keeping_orderly, keeps_row, keeps_other}
 use Rattle.ns_audit.proofs.Steady.Workers.{at_tenant, find_each, find_put, promote_orderly, closed_keeps, unready, unblocked}

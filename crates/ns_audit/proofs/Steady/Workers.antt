@@ -38,7 +38,7 @@ use Rattle.ns_audit.specs.Orderly.{IsKeptBy, IsPendingIn, IsOrderlyTenant, IsRea
 use Rattle.ns_audit.proofs.Steady.Keeping.{at_inserted, KeepsTenant, keeps_then, put_orderly, has_key_filter, ready_orderly, free_of}
 use Rattle.ns_audit.proofs.Steady.Asks.{KeepsOrder}
 use Rattle.ns_types.proofs.Leads.{leads_there, leads_if}
-use Rattle.ns_audit.proofs.Alone.Owning.{pending_is}
+use Rattle.ns_audit.proofs.Alone.Orderly.{pending_is}
 use Rattle.ns_audit.proofs.Steady.Resting.{same_orderly}
 use Rattle.ns_audit.proofs.Steady.Work.{removed_row, pending_not_blocked, at_work_orderly, keeping_orderly, keeps_taken, keeps_worker, keeps_without_worker}
 use Rattle.ns_audit.proofs.Steady.Work.{keeps_row, keeps_other}

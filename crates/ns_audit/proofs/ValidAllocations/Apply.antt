@@ -2,6 +2,7 @@
 use Rattle.std.specs.Prelude.{◌≡◌, ℕ, ◌≤◌, Bool, true, false, cond, not, T, List, [], ◌∷◌, Option, Some, None, ◌&&◌, IsTrue, fold, is_some, option_map}
 use Rattle.std.proofs.Common.{refl, sym, ap, subst, ◌∙◌}
 use Rattle.std.specs.FinMap.{contains_key, get}
+use Rattle.ns_types.specs.Access.Sharing.{namespace_at}
 use Rattle.ns_types.specs.declared.allocation.DesiredStatus.TheVariants as DesiredStatus
 use Rattle.ns_types.specs.declared.evaluation.Evaluation.{Evaluation}
 use Rattle.ns_types.specs.declared.evaluation.Trigger.TheVariants as Trigger
@@ -14,7 +15,6 @@ use Rattle.ns_types.specs.Working.Worker.{Worker}
 use Rattle.ns_types.specs.Working.Commit.{still_stands, has_ended, same_version, live_stops, stop_all, node_name, nodes_in, Commit, begun, decide}
 use Rattle.ns_types.specs.Working.Commit.{committed_placements, place_all, evicted_rows, Victim, same_victim_job, least_of_job, make_up, Applied, refused_whole}
 use Rattle.ns_types.specs.Working.Commit.{done, commit, applied_worker, applied, apply_for, apply}
-use Rattle.ns_types.specs.Isolation.{namespace_at}
 use Rattle.ns_types.specs.State.Limits.{is_pool_name}
 use Rattle.ns_types.specs.State.Lists.{Each, first_each}
 use Rattle.ns_types.specs.Settling.Making.{change_tenant, with_desired, evaluation_for, make}

@@ -21,7 +21,7 @@ use Rattle.ns_types.proofs.Tables.{none_of_any}
 use Rattle.ns_types.proofs.Tests.{not_Some}
 use Rattle.ns_types.proofs.TableRows.{row_of_remove}
 use Rattle.ns_types.proofs.Leads.{Leads, leads_unless, leads_found, leads_lift, leads_whole}
-use Rattle.ns_audit.proofs.Alone.Owning.{turned_name}
+use Rattle.ns_audit.proofs.Alone.Orderly.{turned_name}
 use Rattle.ns_audit.proofs.ValidEvaluations.Filed.{IsFiledEvaluation, IsFiledJob, IsFiledTenant, IsFiled, put_filed, put_pool_filed}
 use Rattle.ns_audit.proofs.ValidEvaluations.Pairs.{Pairs}
 use Rattle.ns_audit.proofs.ValidEvaluations.Settle.{index_in, pools_in, sound_filed}

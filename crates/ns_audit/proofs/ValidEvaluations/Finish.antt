@@ -35,7 +35,7 @@ use Rattle.ns_audit.proofs.Steady.Finish.{same_blocked, shut_end}
 use Rattle.ns_audit.proofs.Steady.Work.{pending_not_blocked}
 use Rattle.ns_audit.proofs.Steady.Workers.{at_tenant, find_each}
 use Rattle.ns_types.proofs.Leads.{Leads, leads_if, leads_keeping}
-use Rattle.ns_audit.proofs.Alone.Owning.{orderly, blocked_is}
+use Rattle.ns_audit.proofs.Alone.Orderly.{orderly, blocked_is}
 use Rattle.ns_audit.proofs.ValidEvaluations.Filed.{IsFiledEvaluation, IsFiledRows, grown_rows, relisted_rows, put_rows, replaced_rows, IsFiledTenant, IsFiled}
 use Rattle.ns_audit.proofs.ValidEvaluations.Filed.{IsFiledBeside, beside, put_beside, at_least_zero, zero_below}
 use Rattle.ns_audit.proofs.ValidEvaluations.Pairs.{pairs_still, pairs_append}

@@ -23,7 +23,7 @@ use Rattle.ns_audit.specs.Orderly.{IsBlockedIn, IsListed, IsOrderly}
 use Rattle.ns_audit.proofs.ValidEvaluations.Statement.{IsSoundInEvaluations}
 use Rattle.ns_audit.proofs.Steady.Keeping.{more, row_of_map}
 use Rattle.ns_audit.proofs.Steady.Workers.{at_tenant}
-use Rattle.ns_audit.proofs.Alone.Owning.{turned_name}
+use Rattle.ns_audit.proofs.Alone.Orderly.{turned_name}
 use Rattle.ns_audit.proofs.Steady.Resting.{woken_of_blocked}
 use Rattle.ns_audit.proofs.ValidEvaluations.Filed.{IsFiledEvaluation, mapped_rows, IsFiledJob, IsFiledTenant, IsFiled, queue_filed}
 use Rattle.ns_audit.proofs.ValidEvaluations.Pairs.{pairs_of, pairs_still, pairs_with, pairs_where, pairs_among, pairs_mapped, pairs_of_mapped}

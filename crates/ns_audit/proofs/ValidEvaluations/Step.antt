@@ -17,7 +17,7 @@ use Rattle.ns_audit.specs.Orderly.{IsOrderly}
 use Rattle.ns_audit.proofs.ValidEvaluations.Statement.{IsSoundInEvaluations, EvaluationsStep, EvaluationsOpening}
 use Rattle.ns_audit.proofs.Steady.Opening.{only_row, reached_is_steady}
 use Rattle.ns_audit.proofs.Steady.Admins.{KeepsOrderState}
-use Rattle.ns_audit.proofs.Alone.Owning.{orderly}
+use Rattle.ns_audit.proofs.Alone.Orderly.{orderly}
 use Rattle.ns_audit.proofs.Steady.Resting.{settle_orderly}
 use Rattle.ns_audit.proofs.Alone.Running.{act_orderly}
 use Rattle.ns_audit.proofs.ValidEvaluations.Admins.{new_tenant_filed, HoldsAfter, of_same_pools, administer_filed}

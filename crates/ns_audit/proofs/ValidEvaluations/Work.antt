@@ -24,7 +24,7 @@ use Rattle.ns_types.proofs.Named.{numbers as numbers_, one_number, same_number_r
 use Rattle.ns_types.proofs.Tests.{same_Some}
 use Rattle.ns_audit.proofs.Steady.Keeping.{at_inserted}
 use Rattle.ns_types.proofs.Leads.{Leads, leads_there, leads_if, leads_at_work, leads_keeping}
-use Rattle.ns_audit.proofs.Alone.Owning.{pending_is}
+use Rattle.ns_audit.proofs.Alone.Orderly.{pending_is}
 use Rattle.ns_audit.proofs.ValidEvaluations.Filed.{IsFiledEvaluation, IsFiledRows, put_rows, replaced_rows, IsFiledTenant, IsFiled, put_filed, lists_filed}
 use Rattle.ns_audit.proofs.ValidEvaluations.Settle.{index_in, pools_in, sound_filed}
 

@@ -19,7 +19,7 @@ use Rattle.ns_types.proofs.Named.{names, one_name}
 use Rattle.ns_types.proofs.Tables.{none_of_any}
 use Rattle.ns_types.proofs.TableRows.{row_of_insert, row_of_remove}
 use Rattle.ns_types.proofs.Leads.{Leads, leads_unless, leads_found}
-use Rattle.ns_audit.proofs.Alone.Owning.{turned_name}
+use Rattle.ns_audit.proofs.Alone.Orderly.{turned_name}
 use Rattle.ns_audit.proofs.ValidRecords.Tables.{len_removed, len_room}
 use Rattle.ns_audit.proofs.ValidRecords.Distinct.{distinct_inserted, distinct_removed}
 

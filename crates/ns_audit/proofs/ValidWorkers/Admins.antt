@@ -26,7 +26,7 @@ use Rattle.ns_types.proofs.Tables.{none_of_any}
 use Rattle.ns_types.proofs.Tests.{not_Some, same_Some}
 use Rattle.ns_types.proofs.TableRows.{row_of_insert}
 use Rattle.ns_types.proofs.Leads.{Leads, leads_unless, leads_found}
-use Rattle.ns_audit.proofs.Alone.Owning.{turned_name, orderly}
+use Rattle.ns_audit.proofs.Alone.Orderly.{turned_name, orderly}
 use Rattle.ns_audit.proofs.ValidWorkers.Busy.{IsBusyIn, IsQueuedIn, IsQueued}
 use Rattle.ns_audit.proofs.ValidWorkers.Quiet.{Quietly, quiet_same, quiet_put, quiet_pool, grows_none, quiet_stays, stays_held}
 use Rattle.ns_audit.proofs.ValidWorkers.Settle.{queued_same}

@@ -29,7 +29,7 @@ use Rattle.ns_audit.proofs.Steady.Keeping.{at_inserted, elsewhere, has_key_appen
 use Rattle.ns_audit.proofs.Steady.Finish.{blocked_row}
 use Rattle.ns_audit.proofs.Steady.Work.{removed_row, pending_not_blocked}
 use Rattle.ns_types.proofs.Leads.{leads_if}
-use Rattle.ns_audit.proofs.Alone.Owning.{orderly}
+use Rattle.ns_audit.proofs.Alone.Orderly.{orderly}
 use Rattle.ns_audit.proofs.ValidWorkers.Admins.{IsWell, KeepsStaff}
 use Rattle.ns_audit.proofs.ValidWorkers.Busy.{HasWorker, IsBusyIn, IsNumbered, IsQueuedIn, IsQueued, KeepsJobs, queued_in, worker_of_remove, promote_queued}
 use Rattle.ns_audit.proofs.ValidWorkers.Change.{row_apart, left_row, reworked, was_here, free_here, working_staff, keeping_staff}

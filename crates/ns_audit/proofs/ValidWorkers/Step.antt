@@ -19,7 +19,7 @@ use Rattle.ns_audit.specs.Orderly.{IsReadyIn, IsOrderly}
 use Rattle.ns_audit.proofs.ValidWorkers.Statement.{IsManned, HasSoundWorkers, WorkersStep, WorkersOpening}
 use Rattle.ns_audit.proofs.Steady.Opening.{only_row, reached_is_steady}
 use Rattle.ns_audit.proofs.Steady.Workers.{at_tenant}
-use Rattle.ns_audit.proofs.Alone.Owning.{orderly}
+use Rattle.ns_audit.proofs.Alone.Orderly.{orderly}
 use Rattle.ns_audit.proofs.Alone.Running.{valid_is_steady, steady_step}
 use Rattle.ns_audit.proofs.ValidWorkers.Admins.{quiet_well, KeepsStaffState, of_world, administer_well}
 use Rattle.ns_audit.proofs.ValidWorkers.Asks.{ask_quiet, ask_pool_quiet}

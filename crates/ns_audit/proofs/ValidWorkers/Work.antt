@@ -35,7 +35,7 @@ use Rattle.ns_audit.specs.Orderly.{IsReadyIn}
 use Rattle.ns_audit.proofs.Steady.Keeping.{at_inserted, elsewhere, has_key_filter}
 use Rattle.ns_audit.proofs.Steady.Workers.{at_tenant, in_ready}
 use Rattle.ns_types.proofs.Leads.{leads_there, leads_if}
-use Rattle.ns_audit.proofs.Alone.Owning.{orderly}
+use Rattle.ns_audit.proofs.Alone.Orderly.{orderly}
 use Rattle.ns_audit.proofs.ValidAllocations.Countable.{seen_countable}
 use Rattle.ns_audit.proofs.ValidAllocations.Seen.{seen_once}
 use Rattle.ns_audit.proofs.ValidWorkers.Admins.{IsWell, KeepsStaff}

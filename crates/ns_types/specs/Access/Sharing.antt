@@ -1,8 +1,8 @@
 -- Which pools a namespace may use, and whether others may use them too.
 -- Nomad's pages on namespaces and node pools.
-use Rattle.std.specs.Prelude.{Bool, true, false, not, ◌&&◌, ◌||◌, List, [], ◌∷◌, Option, Some, None, is_some}
+use Rattle.std.specs.Prelude.{Bool, true, false, not, ◌&&◌, ◌||◌, List, [], ◌∷◌, Option, Some, None, is_some, option_map}
 use Rattle.std.specs.Option.{option_map_or}
-use Rattle.std.specs.List.{list_any}
+use Rattle.std.specs.List.{list_all, list_any}
 use Rattle.std.specs.FinMap.{get}
 use Rattle.ns_types.specs.declared.records.Namespace.{Namespace}
 use Rattle.ns_types.specs.State.Names.{Name, same_name, has_name}
@@ -17,6 +17,13 @@ permits_by None namespace pool = not (has_name namespace.denied pool)
 
 abbrev pub permits : Namespace → Name → Bool
 permits namespace pool = permits_by namespace.allowed namespace pool
+
+abbrev pub namespace_at : World → Name → Option Namespace
+namespace_at w ns = option_map (λ t. t.namespace) (get w.tenants ns)
+
+-- the namespace is there and permits the pool
+abbrev pub has_pool : World → Name → Name → Bool
+has_pool w ns pool = option_map_or (λ namespace. permits namespace pool) (namespace_at w ns) false
 
 abbrev pub is_confined : Namespace → Bool
 is_confined namespace = is_some namespace.allowed
@@ -39,12 +46,32 @@ shares_with_any w ns t = not (is_confined t.namespace)
 unfoldable pub shares : World → Name → Bool
 shares w ns = option_map_or (shares_with_any w ns) (get w.tenants ns) true
 
--- something of it names a pool that it may not use: an open evaluation, a kept snapshot,
--- or an allocation that the client has not ended, whatever is desired
-abbrev pub strays : Tenant → Bool
-strays t = any_row (λ _ e. is_open e.status && not (permits t.namespace e.pool)) t.evaluations
-    || any_row (λ _ worker. option_map_or (λ kept. not (permits t.namespace kept.pool)) worker.kept false) t.workers
-    || any_row (λ _ a. is_held a.client && not (permits t.namespace a.pool)) t.allocations
+-- ---- a namespace that has its pools and its quotas to itself
 
-unfoldable pub is_unshared : World → Name → Bool
-is_unshared w ns = not (shares w ns) && option_map_or (λ t. not (strays t)) (get w.tenants ns) false
+-- another namespace permits one of the pools or has it as its default, or names one of the quotas
+abbrev pub intrudes : List Name → List Name → Namespace → Bool
+intrudes pools quotas other = list_any (permits other) pools || has_name pools other.default_pool
+    || option_map_or (has_name quotas) other.quota false
+
+-- all pools and quotas that a record names are chosen
+abbrev pub names_within : (Name → Bool) → (Name → Bool) → Namespace → Bool
+names_within pools quotas namespace = pools namespace.default_pool
+    && option_map_or (list_all pools) namespace.allowed true
+    && option_map_or quotas namespace.quota true
+
+-- an open evaluation, a kept snapshot, or an allocation that the client has not ended, names another pool
+abbrev pub strays_from : List Name → Tenant → Bool
+strays_from pools t = any_row (λ _ e. is_open e.status && not (has_name pools e.pool)) t.evaluations
+    || any_row (λ _ worker. option_map_or (λ kept. not (has_name pools kept.pool)) worker.kept false) t.workers
+    || any_row (λ _ a. is_held a.client && not (has_name pools a.pool)) t.allocations
+
+-- it is confined to these pools, names no other quota, and has nothing elsewhere
+abbrev pub stays_within : List Name → List Name → Tenant → Bool
+stays_within pools quotas t = is_confined t.namespace && names_within (has_name pools) (has_name quotas) t.namespace
+    && not (strays_from pools t)
+
+-- no other namespace has them, and if there is such a namespace it has no others
+unfoldable pub is_apart : World → Name → List Name → List Name → Bool
+is_apart w ns pools quotas =
+    not (any_row (λ name other. not (same_name name ns) && intrudes pools quotas other.namespace) w.tenants)
+    && option_map_or (stays_within pools quotas) (get w.tenants ns) true

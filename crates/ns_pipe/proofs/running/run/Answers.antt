@@ -5,6 +5,7 @@ use Rattle.ns_api.specs.declared.following.Driven.{Driven}
 use Rattle.ns_pipe.specs.Ending.{uncounted}
 use Rattle.ns_pipe.specs.Printing.{EndsPrinted}
 use Rattle.ns_replay_print.specs.Printing.{EndsAlone}
+use Rattle.ns_replay_print.specs.declared.replay.Replay.{Replay}
 use Rattle.ns_pipe.specs.declared.asked.Asked.{Asked}
 use Rattle.ns_pipe.specs.declared.nowhere.Nowhere.{Nowhere}
 use Rattle.ns_pipe.specs.declared.printed.Printed.{Printed}
@@ -31,25 +32,21 @@ ended draws remaining contents s t x d e p q status reader reader' other w v wri
     (subst (λ a. EndsPrinted draws remaining contents a s x d status reader reader' other (uncounted v) writer') (same_printed s t d e p q is)
     (subst (λ a. EndsPrinted draws remaining contents p s x d status reader reader' other (uncounted a) writer') same h)))
 
-same_namespace : (ns ms : Name) (from first : ℕ) → Asked.Alone ns from ≡ Asked.Alone ms first → ns ≡ ms
-same_namespace ns ms from first is = cc
-
-same_from : (ns ms : Name) (from first : ℕ) → Asked.Alone ns from ≡ Asked.Alone ms first → from ≡ first
-same_from ns ms from first is = cc
+same_replay : (a b : Replay) → Asked.Alone a ≡ Asked.Alone b → a ≡ b
+same_replay a b is = cc
 
 -- by what was asked, with an equal reader and an equal writer
-replayed : {R W : Type 0} (remaining : R → Option (List ℕ)) (contents : W → Option (List ℕ)) (ns ms : Name) (from first status : ℕ)
-    (reader reader' : Counted R) (w v : W) (writer' : Counted W) → Asked.Alone ns from ≡ Asked.Alone ms first → w ≡ v →
-    EndsAlone remaining contents ns from status reader reader' (uncounted w) writer' →
-    EndsAlone remaining contents ms first status reader reader' (uncounted v) writer'
-replayed remaining contents ns ms from first status reader reader' w v writer' is same h =
-    subst (λ a. EndsAlone remaining contents a first status reader reader' (uncounted v) writer') (same_namespace ns ms from first is)
-    (subst (λ a. EndsAlone remaining contents ns a status reader reader' (uncounted v) writer') (same_from ns ms from first is)
-    (subst (λ a. EndsAlone remaining contents ns from status reader reader' (uncounted a) writer') same h))
+replayed : {R W : Type 0} (remaining : R → Option (List ℕ)) (contents : W → Option (List ℕ)) (a b : Replay) (status : ℕ)
+    (reader reader' : Counted R) (w v : W) (writer' : Counted W) → Asked.Alone a ≡ Asked.Alone b → w ≡ v →
+    EndsAlone remaining contents a status reader reader' (uncounted w) writer' →
+    EndsAlone remaining contents b status reader reader' (uncounted v) writer'
+replayed remaining contents a b status reader reader' w v writer' is same h =
+    subst (λ r. EndsAlone remaining contents r status reader reader' (uncounted v) writer') (same_replay a b is)
+    (subst (λ x. EndsAlone remaining contents a status reader reader' (uncounted x) writer') same h)
 
 pub returns-in-Alone-clause-alone : goal.returns-in-Alone-clause-alone
-returns-in-Alone-clause-alone g c = λ namespace from is.
-    replayed g.R.Read.remaining g.W.Write.contents _ namespace _ from _ _ _ _ _ _ (sym c.in-Alone.is ∙ is)
+returns-in-Alone-clause-alone g c = λ replay is.
+    replayed g.R.Read.remaining g.W.Write.contents _ replay _ _ _ _ _ _ (sym c.in-Alone.is ∙ is)
     (c.into_inner-writer-in-Alone.ensures ∙ c.new-output.ensures.inner) c.replay.ensures.ended
 
 pub returns-in-Pipe-clause-pipe : goal.returns-in-Pipe-clause-pipe

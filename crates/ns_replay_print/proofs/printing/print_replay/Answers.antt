@@ -12,7 +12,7 @@ returns-clause-write_fault g c = λ _.
       text = text;
       status = printout.status;
       reads = c.in-Ok.ensures.ok;
-      is_printout = subst (λ b. IsPrintout b c.args.from c.args.namespace.now text printout.status) c.as_slice.ensures.value
+      is_printout = subst (λ b. IsPrintout b c.args.replay.now text printout.status) c.as_slice.ensures.value
           c.in-Ok-printout_of.ensures.printout;
       writes = subst (FailsToWrite g.W.Write.contents c.args.writer.now c.write_all.new.writer) (c.as_bytes.ensures.value ∙ c.as_str.ensures.value)
           (c.in-Err-write_all.ensures.err, c.in-Err-write_all.ensures.failed);

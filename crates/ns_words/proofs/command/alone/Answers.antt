@@ -6,4 +6,6 @@ use Rattle.ns_words.proofs.command.alone.Goals as goal
 pub returns-clause-shape : goal.returns-clause-shape
 returns-clause-shape c =
     let first = c.in_ok-command.ensures.shape c.namespace.ensures.local ∙ ap₂ with_rule c.bare_alone.ensures.shape c.namespace.ensures.rule in
-    IfOk-weaker c.arg-2.result _ _ (λ _ adds. adds.shape c.from.ensures.local ∙ ap₂ with_rule first c.from.ensures.rule) c.arg-2.ensures
+    let second = c.in_ok-command-2.ensures.shape c.from.ensures.local ∙ ap₂ with_rule first c.from.ensures.rule in
+    let third = c.in_ok-command-3.ensures.shape c.pool.ensures.local ∙ ap₂ with_rule second c.pool.ensures.rule in
+    IfOk-weaker c.arg-4.result _ _ (λ _ adds. adds.shape c.quota.ensures.local ∙ ap₂ with_rule third c.quota.ensures.rule) c.arg-4.ensures

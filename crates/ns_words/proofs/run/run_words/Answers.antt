@@ -4,6 +4,7 @@ use Rattle.ns_http.specs.declared.counting.Counted.{Counted}
 use Rattle.ns_pipe.specs.Asking.{IsHelp, IsMistake, IsNoConnection, IsNoReplay}
 use Rattle.ns_pipe.specs.Printing.{EndsPrinted}
 use Rattle.ns_replay_print.specs.Printing.{EndsAlone}
+use Rattle.ns_replay_print.specs.declared.replay.Replay.{Replay}
 use Rattle.ns_pipe.specs.declared.asked.Asked.{Asked}
 use Rattle.ns_pipe.specs.declared.nowhere.Nowhere.{Nowhere}
 use Rattle.ns_pipe.specs.declared.printed.Printed.{Printed}
@@ -15,32 +16,32 @@ use Rattle.ns_words.proofs.run.run_words.Goals as goal
 -- what the words come to: a connection, a replay, or help, a mistake or no memory
 cases : (asked : Asked) →
     ((secret : List ℕ) × (driven : Driven) × (printed : Printed) × (asked ≡ Asked.Pipe secret driven printed)) ⊎
-    ((namespace : List ℕ) × (from : ℕ) × (asked ≡ Asked.Alone namespace from)) ⊎
+    ((replay : Replay) × (asked ≡ Asked.Alone replay)) ⊎
     (IsNoConnection asked × IsNoReplay asked ×
     (((text : List ℕ) × IsHelp asked text) ⊎ ((text : List ℕ) × IsMistake asked text) ⊎ (asked ≡ Asked.NoMemory)))
 cases (Asked.Pipe secret driven printed) = inl (secret, driven, printed, refl)
-cases (Asked.Alone namespace from) = inr (inl (namespace, from, refl))
-cases (Asked.Help text) = inr (inr ((λ secret driven printed e. cc), (λ namespace from e. cc), inl (string_bytes text, refl)))
-cases (Asked.Mistake text) = inr (inr ((λ secret driven printed e. cc), (λ namespace from e. cc), inr (inl (string_bytes text, refl))))
-cases Asked.NoMemory = inr (inr ((λ secret driven printed e. cc), (λ namespace from e. cc), inr (inr refl)))
+cases (Asked.Alone replay) = inr (inl (replay, refl))
+cases (Asked.Help text) = inr (inr ((λ secret driven printed e. cc), (λ replay e. cc), inl (string_bytes text, refl)))
+cases (Asked.Mistake text) = inr (inr ((λ secret driven printed e. cc), (λ replay e. cc), inr (inl (string_bytes text, refl))))
+cases Asked.NoMemory = inr (inr ((λ secret driven printed e. cc), (λ replay e. cc), inr (inr refl)))
 
 no_connection : (asked : Asked) → asked ≡ Asked.NoMemory → IsNoConnection asked
 no_connection asked none secret driven printed e = cc
 
 no_replay : (asked : Asked) → asked ≡ Asked.NoMemory → IsNoReplay asked
-no_replay asked none namespace from e = cc
+no_replay asked none replay e = cc
 
 mistaken : (asked : Asked) (text : List ℕ) → IsMistake asked text → IsNoConnection asked × IsNoReplay asked
 mistaken (Asked.Pipe secret driven printed) text is = absurd is
-mistaken (Asked.Alone namespace from) text is = absurd is
+mistaken (Asked.Alone replay) text is = absurd is
 mistaken (Asked.Help help) text is = absurd is
-mistaken (Asked.Mistake reason) text is = ((λ secret driven printed e. cc), (λ namespace from e. cc))
+mistaken (Asked.Mistake reason) text is = ((λ secret driven printed e. cc), (λ replay e. cc))
 mistaken Asked.NoMemory text is = absurd is
 
 helped : (asked : Asked) (text : List ℕ) → IsHelp asked text → IsNoConnection asked × IsNoReplay asked
 helped (Asked.Pipe secret driven printed) text is = absurd is
-helped (Asked.Alone namespace from) text is = absurd is
-helped (Asked.Help help) text is = ((λ secret driven printed e. cc), (λ namespace from e. cc))
+helped (Asked.Alone replay) text is = absurd is
+helped (Asked.Help help) text is = ((λ secret driven printed e. cc), (λ replay e. cc))
 helped (Asked.Mistake reason) text is = absurd is
 helped Asked.NoMemory text is = absurd is
 
@@ -83,10 +84,10 @@ not_below : (status : ℕ) → status ≡ 5 → status < 3 → ⊥
 not_below status is below = omega (arith, is, below)
 
 -- nothing was read or written, for want of memory
-unreplayed : {R W : Type 0} (remaining : R → Option (List ℕ)) (contents : W → Option (List ℕ)) (ns : List ℕ) (from status : ℕ)
+unreplayed : {R W : Type 0} (remaining : R → Option (List ℕ)) (contents : W → Option (List ℕ)) (replay : Replay) (status : ℕ)
     (reader reader' : Counted R) (writer writer' : Counted W) → status ≡ 5 → writer' ≡ writer →
-    EndsAlone remaining contents ns from status reader reader' writer writer'
-unreplayed remaining contents ns from status reader reader' writer writer' is w = record {
+    EndsAlone remaining contents replay status reader reader' writer writer'
+unreplayed remaining contents replay status reader reader' writer writer' is w = record {
   is_end = is_greatest status is;
   printed = λ e. absurd (not_below status is e);
   read_fault = λ e. absurd (not_three status is e);
@@ -119,9 +120,8 @@ returns-in-Run-clause-ended_or_served g c =
       | inr other ↦ inr (elim other [
         | inl alone ↦ inl (
           alone.0,
-          alone.1,
-          c.in-Run.ensures.gives_alone alone.0 alone.1 (ap Wanted.Run alone.2),
-          ran.alone alone.0 alone.1 alone.2,
+          c.in-Run.ensures.gives_alone alone.0 (ap Wanted.Run alone.1),
+          ran.alone alone.0 alone.1,
         )
         | inr answered ↦ let unread = ran.unread answered.0 answered.1 in inr (elim answered.2 [
           | inl help ↦ inl record {
@@ -153,12 +153,12 @@ returns-in-Run-clause-served g c = λ secret driven printed good.
     ]
 
 pub returns-in-Run-clause-replayed : goal.returns-in-Run-clause-replayed
-returns-in-Run-clause-replayed g c = λ namespace from good.
+returns-in-Run-clause-replayed g c = λ replay good.
     let ran = c.run.ensures in
-    elim (c.in-Run.ensures.good_alone namespace from good) [
-      | inl is ↦ ran.alone namespace from (same_run _ _ is)
+    elim (c.in-Run.ensures.good_alone replay good) [
+      | inl is ↦ ran.alone replay (same_run _ _ is)
       | inr no_run ↦ let none = same_run _ _ no_run in
-          unreplayed g.R.Read.remaining g.W.Write.contents _ _ _ _ _ _ _ (ran.no_memory none).0 (ran.no_memory none).1
+          unreplayed g.R.Read.remaining g.W.Write.contents _ _ _ _ _ _ (ran.no_memory none).0 (ran.no_memory none).1
     ]
 
 pub returns-in-Run-clause-to_serve : goal.returns-in-Run-clause-to_serve
@@ -219,8 +219,8 @@ returns-in-Serve-clause-served g c = λ secret driven printed good.
     ]
 
 pub returns-in-Serve-clause-replayed : goal.returns-in-Serve-clause-replayed
-returns-in-Serve-clause-replayed g c = λ namespace from good.
-    elim (c.in-Serve.ensures.good_alone namespace from good) [
+returns-in-Serve-clause-replayed g c = λ replay good.
+    elim (c.in-Serve.ensures.good_alone replay good) [
       | inl is ↦ absurd (not_run _ _ is)
       | inr is ↦ absurd (not_run _ _ is)
     ]

@@ -19,7 +19,7 @@ returns-in-Ok-clause-gives c = λ secret driven printed e. record {
 }
 
 pub returns-in-Ok-clause-gives_alone : goal.returns-in-Ok-clause-gives_alone
-returns-in-Ok-clause-gives_alone c = λ namespace from e. record {
+returns-in-Ok-clause-gives_alone c = λ replay e. record {
   taken = c.in-Ok.ensures.taken;
   gives = subst (IsWanted (subcommand_of program_words (texts c.args.words.now))) e c.in-Ok.ensures.gives;
 }
@@ -35,8 +35,8 @@ returns-in-Ok-clause-good c = λ secret driven printed asks.
     inl (c.in-Ok.ensures.good (Wanted.Run (Asked.Pipe secret driven printed)) asks.taken asks.gives).0
 
 pub returns-in-Ok-clause-good_alone : goal.returns-in-Ok-clause-good_alone
-returns-in-Ok-clause-good_alone c = λ namespace from asks.
-    inl (c.in-Ok.ensures.good (Wanted.Run (Asked.Alone namespace from)) asks.taken asks.gives).0
+returns-in-Ok-clause-good_alone c = λ replay asks.
+    inl (c.in-Ok.ensures.good (Wanted.Run (Asked.Alone replay)) asks.taken asks.gives).0
 
 pub returns-in-Ok-clause-good_serve : goal.returns-in-Ok-clause-good_serve
 returns-in-Ok-clause-good_serve c = λ service asks.
@@ -56,7 +56,7 @@ returns-in-Err-clause-gives c = λ secret driven printed e.
     absurd (c.help_or_mistake.ensures.no_pipe secret driven printed cc)
 
 pub returns-in-Err-clause-gives_alone : goal.returns-in-Err-clause-gives_alone
-returns-in-Err-clause-gives_alone c = λ namespace from e. absurd (c.help_or_mistake.ensures.no_alone namespace from cc)
+returns-in-Err-clause-gives_alone c = λ replay e. absurd (c.help_or_mistake.ensures.no_alone replay cc)
 
 pub returns-in-Err-clause-good : goal.returns-in-Err-clause-good
 returns-in-Err-clause-good c = λ secret driven printed asks.
@@ -64,8 +64,8 @@ returns-in-Err-clause-good c = λ secret driven printed asks.
     inr (ap Wanted.Run (c.help_or_mistake.ensures.memory kind))
 
 pub returns-in-Err-clause-good_alone : goal.returns-in-Err-clause-good_alone
-returns-in-Err-clause-good_alone c = λ namespace from asks.
-    let kind = (c.in-Err.ensures.good (Wanted.Run (Asked.Alone namespace from)) asks.taken asks.gives).1 in
+returns-in-Err-clause-good_alone c = λ replay asks.
+    let kind = (c.in-Err.ensures.good (Wanted.Run (Asked.Alone replay)) asks.taken asks.gives).1 in
     inr (ap Wanted.Run (c.help_or_mistake.ensures.memory kind))
 
 pub returns-in-Err-clause-good_serve : goal.returns-in-Err-clause-good_serve

@@ -1,3 +1,0 @@
-pub mod Records
-pub mod SameTables
-pub mod Valid

@@ -1,5 +1,0 @@
-use Rattle.ns_alone.proofs.SameTables.{same_tables_on}
-use Rattle.ns_alone.proofs.laws.same_tables_on.Goals as goal
-
-pub returns : goal.returns
-returns c = same_tables_on

@@ -1,0 +1,5 @@
+use Rattle.ns_laws.proofs.SharingLemmas.{apart_quotas_are_its_own}
+use Rattle.ns_laws.proofs.sharing.apart_quotas_are_its_own.Goals as goal
+
+pub returns : goal.returns
+returns c = apart_quotas_are_its_own
