@@ -12,8 +12,8 @@ use std::mem;
 use std::snapshot::Snapshot;
 
 impl Held {
-    /// Gives out the log, and begins the next one where the server is. The next log has room for as many entries, so that it is not
-    /// moved while it grows to that length. Want of memory for that room is the only error. It is no step, and makes no entry.
+    /// Gives out the log, and begins the next one where the server is. The next log has as much room as this one, so that it is not
+    /// moved where it comes to some entries more. Want of memory for that room is the only error. It is no step, and makes no entry.
     pub fn rotate(&mut self, alloc: Global) -> Result<Segment, Refusal>
         ensures rotated { IfOk result (λ segment. IsRotated self.old segment self.new) }
         ensures same { OnErr result (self.new ≡ self.old) }
@@ -27,7 +27,7 @@ impl Held {
             limit,
         } = self;
         let first = *start;
-        let room = Vec::with_capacity(alloc, log.len())?;
+        let room = Vec::with_capacity(alloc, log.capacity())?;
         let given = mem::replace(log, room);
         *start = first + given.len() as u64;
         *limit = (*limit).min(u64::MAX - *start);
