@@ -15,10 +15,14 @@ use Rattle.ns_held.specs.contracts.held.Held as Held
 use Rattle.ns_shared.specs.contracts.changes.Stage as Stage
 use Rattle.ns_shared.specs.contracts.ended.Ended as Ended
 use Rattle.ns_shared.specs.contracts.desk.Desk as Desk
+use Rattle.ns_shared.specs.contracts.spent.Spent as Spent
 use Rattle.ns_shared.specs.contracts.shared.Shared as Shared
 
 Held-send : IsSend Held.the_row
 Held-send = search (sendable, crosses, core.the_send, entry.the_send) depth 20
+
+Spent-send : IsSend (Struct (shape Spent.the_type))
+Spent-send = search (sendable, crosses, entry.the_send) depth 20
 
 module _ (L : RattleType) (g : Ghosts L.Denot) where
   Ended-send : IsSend (Struct (shape (Ended.the_type L g)))
@@ -31,4 +35,4 @@ module _ (L : RattleType) (g : Ghosts L.Denot) where
       struct_send (shape (Desk.the_type L g)) (Ended-send, (search sendable, (search sendable, (search sendable, (search sendable, (plain, tt))))))
 
   pub Shared-sync : IsSync (Shared.the_row L g)
-  Shared-sync = search (sendable, crosses, Desk-send) depth 20
+  Shared-sync = search (sendable, crosses, Desk-send, Spent-send) depth 20

@@ -4,3 +4,4 @@ pub mod Looking
 pub mod Moments
 pub mod Receiving
 pub mod Settling
+pub mod Spending

@@ -11,6 +11,7 @@ mod retention;
 mod seat;
 mod settling;
 mod shared;
+mod spent;
 mod work;
 
 pub use changes::{Busy, Moment, Planner, Role};

@@ -14,6 +14,7 @@ use crate::ended::Ended;
 use crate::looking;
 use crate::retention::Retention;
 use crate::seat::Seat;
+use crate::spent::Spent;
 use ns_answers::may_change;
 use ns_held::Held;
 use ns_segments::Segment;
@@ -34,6 +35,8 @@ use std::sync::{Condvar, Mutex, Wait};
 pub struct Shared<L: Ledger> {
     desk: Mutex<Desk<L>>,
     changed: Condvar,
+    /// Entries that were given out and that nobody needs any more.
+    spent: Mutex<Spent>,
     /// With how many entries the log is rotated. None: never.
     pub rotates_at: Option<u64>,
     /// It is rotated as well where its entries have more than so many bytes of text.
@@ -45,6 +48,7 @@ impl<L: Ledger> Drop for Shared<L> {
         let Shared {
             desk: _desk,
             changed: _changed,
+            spent: _spent,
             rotates_at: _,
             rotates_past: _,
         } = self;
@@ -71,6 +75,7 @@ impl<L: Ledger> Shared<L> {
         Shared {
             desk: Mutex::new(desk),
             changed: Condvar::new(),
+            spent: Mutex::new(Spent::new()),
             rotates_at,
             rotates_past,
         }
@@ -112,6 +117,24 @@ impl<L: Ledger> Shared<L> {
         }
     }
 
+    /// Lets an entry go that nobody needs any more. No lock is held meanwhile.
+    fn let_go<R: Wait>(&self, rt: &R) {
+        let entry = self.spent.lock(rt).take_out();
+        drop(entry);
+    }
+
+    /// What follows each call for a step.
+    fn follow<R: Wait, M: Retention>(
+        &self,
+        rt: &R,
+        alloc: Global,
+        seat: &Seat<L, M>,
+        before: usize,
+    ) {
+        self.weigh(rt, alloc, seat, before);
+        self.let_go(rt);
+    }
+
     /// Makes the step that a request asks for.
     pub fn take<R: Wait, M: Retention>(
         &self,
@@ -133,7 +156,7 @@ impl<L: Ledger> Shared<L> {
         let answer = desk.kept.take(alloc, seat, step);
         self.wake(&mut desk, wakes);
         drop(desk);
-        self.weigh(rt, alloc, seat, before);
+        self.follow(rt, alloc, seat, before);
         answer
     }
 
@@ -157,7 +180,7 @@ impl<L: Ledger> Shared<L> {
             .dequeue(alloc, seat, worker, namespace, evaluation);
         self.wake(&mut desk, Wakes::Nobody);
         drop(desk);
-        self.weigh(rt, alloc, seat, before);
+        self.follow(rt, alloc, seat, before);
         answer
     }
 
@@ -179,7 +202,7 @@ impl<L: Ledger> Shared<L> {
         let seen = desk.kept.snap(alloc, seat, worker, namespace);
         self.wake(&mut desk, Wakes::Nobody);
         drop(desk);
-        self.weigh(rt, alloc, seat, before);
+        self.follow(rt, alloc, seat, before);
         seen
     }
 
@@ -201,7 +224,7 @@ impl<L: Ledger> Shared<L> {
         let answer = desk.kept.submit(alloc, seat, worker, namespace, planned);
         self.wake(&mut desk, Wakes::All);
         drop(desk);
-        self.weigh(rt, alloc, seat, before);
+        self.follow(rt, alloc, seat, before);
         answer
     }
 
@@ -222,7 +245,7 @@ impl<L: Ledger> Shared<L> {
         let answer = desk.kept.apply(alloc, seat, worker, namespace);
         self.wake(&mut desk, Wakes::All);
         drop(desk);
-        self.weigh(rt, alloc, seat, before);
+        self.follow(rt, alloc, seat, before);
         answer
     }
 
@@ -244,7 +267,7 @@ impl<L: Ledger> Shared<L> {
         let answer = desk.kept.finish(alloc, seat, worker, namespace, planned);
         self.wake(&mut desk, Wakes::WhereServedOrClosed);
         drop(desk);
-        self.weigh(rt, alloc, seat, before);
+        self.follow(rt, alloc, seat, before);
         answer
     }
 
@@ -265,7 +288,7 @@ impl<L: Ledger> Shared<L> {
         let answer = desk.kept.nack(alloc, seat, worker, namespace);
         self.wake(&mut desk, Wakes::WhereServedOrClosed);
         drop(desk);
-        self.weigh(rt, alloc, seat, before);
+        self.follow(rt, alloc, seat, before);
         answer
     }
 
@@ -277,6 +300,18 @@ impl<L: Ledger> Shared<L> {
         let segment = desk.kept.rotate(alloc)?;
         desk.bytes = 0;
         Ok(segment)
+    }
+
+    /// Takes a segment that nobody needs any more. Its entries go one by one, each with a later call for a step, so that their memory
+    /// comes back where entries are made. Two segments wait so at most: what is left of one before them goes now.
+    pub fn spend<R: Wait>(&self, rt: &R, segment: Segment) {
+        let left = self.spent.lock(rt).add(segment);
+        drop(left);
+    }
+
+    /// How many entries are left of the two segments that were spent last, first of the earlier one.
+    pub fn spent<R: Wait>(&self, rt: &R) -> (u64, u64) {
+        self.spent.lock(rt).counts()
     }
 
     /// How many entries the log has now.
@@ -354,6 +389,7 @@ impl<L: Ledger> Shared<L> {
         let Shared {
             desk,
             changed: _changed,
+            spent: _spent,
             rotates_at: _,
             rotates_past: _,
         } = self;
