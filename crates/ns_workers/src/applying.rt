@@ -7,6 +7,7 @@ ghost use Rattle.ns_workers.specs.Keeping.{TakesSome};
 
 use crate::keep::Keep;
 use crate::pausing::pause;
+use ns_segments::Segment;
 use ns_shared::{Moment, Planner, Retention, Role, Seat, Shared};
 use ns_types::refusal::Refusal;
 use ns_types::reply::Reply;
@@ -94,6 +95,21 @@ fn await_plan<L: Ledger, R: Wait>(rt: &R, shared: &Shared<L>, seen: Moment) -> b
     true
 }
 
+/// Hands the segment to the keeper. Its entries are spent where it is needed no more.
+fn hand_over<L: Ledger, K: Keep, R: Wait>(
+    rt: &R,
+    alloc: Global,
+    shared: &Shared<L>,
+    keeper: &mut K,
+    segment: Segment,
+)
+    ensures { K.takes keeper.old segment keeper.new }
+{
+    if let Some(back) = keeper.keep(alloc, segment) {
+        shared.spend(rt, back);
+    }
+}
+
 /// Rotates the log where that is due, and hands the segment to the keeper with no lock held. False: memory is wanting, so that it
 /// has to be tried again.
 fn rotate<L: Ledger, K: Keep, R: Wait>(
@@ -110,7 +126,7 @@ fn rotate<L: Ledger, K: Keep, R: Wait>(
     }
     match shared.rotate(rt, alloc) {
         Ok(segment) => {
-            keeper.keep(alloc, segment);
+            hand_over(rt, alloc, shared, keeper, segment);
             true
         }
         Err(_) => false,

@@ -1,5 +1,6 @@
 //! Who takes the segments that the applier gives out.
 
+ghost use Rattle.std.specs.Prelude.{◌≡◌, IfSome};
 ghost use Rattle.ns_segments.specs.Segments.{Given};
 
 use ns_segments::Segment;
@@ -10,18 +11,20 @@ pub trait Keep {
     /// What it is before and after it takes a segment.
     ghost takes: { Self → Given → Self → Type 0 };
 
-    fn keep(&mut self, alloc: Global, segment: Segment)
-        ensures { takes self.old segment self.new };
+    /// Takes a segment, and gives it back where it needs it no more.
+    fn keep(&mut self, alloc: Global, segment: Segment) -> Option<Segment>
+        ensures takes { takes self.old segment self.new }
+        ensures back { IfSome result (λ back. back ≡ segment) };
 }
 
-/// Drops them.
+/// Needs none.
 #[derive(Clone, Copy)]
 pub struct Nowhere;
 
 impl Keep for Nowhere {
     ghost takes = { λ _ _ _. Unit {0} };
 
-    fn keep(&mut self, _alloc: Global, segment: Segment) {
-        drop(segment);
+    fn keep(&mut self, _alloc: Global, segment: Segment) -> Option<Segment> {
+        Some(segment)
     }
 }

@@ -2,4 +2,4 @@ use Rattle.ns_workers.proofs.Keeping.{takes_one}
 use Rattle.ns_workers.proofs.applying.rotate.Goals as goal
 
 pub returns-in-Ok-clause-takes : goal.returns-in-Ok-clause-takes
-returns-in-Ok-clause-takes g c = takes_one g.K.Keep.takes c.args.keeper.now c.keep.new.self c.in-Ok.segment c.keep.ensures
+returns-in-Ok-clause-takes g c = takes_one g.K.Keep.takes c.args.keeper.now c.hand_over.new.keeper c.in-Ok.segment c.hand_over.ensures
