@@ -1,0 +1,4 @@
+pub mod Requests
+pub mod Settled
+pub mod Entries
+pub mod Texts
