@@ -4,18 +4,22 @@ A conversation begins by `=== SECRET STEP NAME`: the bootstrap secret, by how mu
 before, and what the conversation shows. Then come its exchanges:
 
     > METHOD TARGET [TOKEN] [HTTP/1.0]  a request, with its body, if it has one, on the next line
-    + HEADER: VALUE                     headers of its own, which it then has in place of `Content-Length: 0`; `+` alone: none
+    + HEADER: VALUE                     headers of its own, which it then has in place of `Content-Length: 0`; `+` alone: none. One
+                                        that is a `Content-Length` stands in place of the one that is counted, too
     < STATUS [@INDEX] [close]           the reply, with its body on the next line
     < STATUS @INDEX lines               the same with a line feed behind each line of its body
     & read fault                        at the end: a line feed follows the last request, and no other one
 
 Where `spaces N` stands before NAME, N spaces follow the last request and belong to its body. They are not stored.
+`((TEXT N times))` in a header or a body stands for the text so often, one behind the other; where it is all of a header, for so many
+headers.
 
 Replies are written down by hand, from docs/API.md, and never taken from the program. Lengths are counted here.
 """
 
 import glob
 import os
+import re
 import sys
 
 sys.dont_write_bytecode = True
@@ -36,6 +40,16 @@ PHRASES = {
 
 
 ENDS_INSIDE = "& read fault"
+REPEATED = re.compile(r"\(\((.+?) (\d+) times\)\)")
+
+
+def repeated(text):
+    return REPEATED.sub(lambda found: found[1] * int(found[2]), text)
+
+
+def headers_of(line):
+    found = REPEATED.fullmatch(line)
+    return [found[1]] * int(found[2]) if found else [repeated(line)]
 
 
 def request(words, headers, body, spaces=0):
@@ -44,7 +58,7 @@ def request(words, headers, body, spaces=0):
     lines = [f"{method} {target} {versions[0]}"]
     lines += [f"X-Nomad-Token: {token}" for token in tokens]
     lines += filter(None, headers)
-    if body or not headers:
+    if (body or not headers) and not any(header.lower().startswith("content-length:") for header in headers):
         lines.append(f"Content-Length: {len(body.encode()) + spaces}")
     return "\r\n".join(lines) + "\r\n\r\n" + body
 
@@ -71,8 +85,8 @@ def exchange(head, lines):
     """The words, headers and body of a request, and the words and body of its reply."""
     place = next(at for at, line in enumerate(lines) if line.startswith("< "))
     asked, answered = lines[:place], lines[place + 1 :]
-    headers = [line[2:] for line in asked if line.startswith("+")]
-    body = "".join(line for line in asked if not line.startswith("+"))
+    headers = [header for line in asked if line.startswith("+") for header in headers_of(line[2:])]
+    body = repeated("".join(line for line in asked if not line.startswith("+")))
     words = lines[place][2:].split()
     ended = "\n" if "lines" in words else ""
     told = "".join(line + ended for line in answered if line and line != ENDS_INSIDE)
