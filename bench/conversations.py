@@ -11,7 +11,7 @@ before, and what the conversation shows. Then come its exchanges:
     & read fault                        at the end: a line feed follows the last request, and no other one
 
 Where `spaces N` stands before NAME, N spaces follow the last request and belong to its body. They are not stored.
-`((TEXT N times))` in a header or a body stands for the text so often, one behind the other; where it is all of a header, for so many
+`((TEXT N times))` in a header or a body, of a reply too, stands for the text so often, one behind the other; where it is all of a header, for so many
 headers.
 
 Replies are written down by hand, from docs/API.md, and never taken from the program. Lengths are counted here.
@@ -89,7 +89,7 @@ def exchange(head, lines):
     body = repeated("".join(line for line in asked if not line.startswith("+")))
     words = lines[place][2:].split()
     ended = "\n" if "lines" in words else ""
-    told = "".join(line + ended for line in answered if line and line != ENDS_INSIDE)
+    told = repeated("".join(line + ended for line in answered if line and line != ENDS_INSIDE))
     return (head.split(), headers, body), (words, told)
 
 
