@@ -1,15 +1,21 @@
 // A server keeps its log, whose text is written by hand.
 ghost use Rattle.ns_steps.specs.Served.{IsServed};
 
+use crate::jobs::registration;
 use crate::made::text;
-use crate::server::root;
+use crate::server::{registered, root};
 use crate::steps::{TEXT, job_is_registered, jobs_are_listed, pool_is_put};
+use crate::workers::{look, take};
 use ns_core::Core;
 use ns_held::Held;
 use ns_log::log_text;
+use ns_schedule::plan;
 use ns_types::refusal::Refusal;
 use ns_types::reply::Reply;
+use ns_types::shared::Shared;
+use ns_types::snapshot::Snapshot;
 use ns_types::step::Step;
+use ns_types::text::Text;
 use std::alloc::Global;
 use std::process::Abort;
 
@@ -95,5 +101,37 @@ fn a_full_log_takes_no_step(rt: HostRuntime) {
     let mut held = kept(&rt, alloc);
     assert!(rt; finds_it_full(&mut held, alloc, jobs_are_listed(&rt, alloc)));
     assert!(rt; held.is_full() && held.log().len() == 3);
+    drop(held);
+}
+
+/// What the worker sees that has taken the evaluation of a new job. It is the first or the second worker, and the job is its own.
+fn looked(
+    rt: &impl Abort,
+    alloc: Global,
+    core: &mut Core,
+    secret: &Text,
+    worker: u64,
+) -> Shared<Snapshot> {
+    let namespace = text(rt, alloc, "default");
+    let command = registration(rt, alloc, worker);
+    let evaluation = worker.saturating_add(1);
+    assert!(rt; registered(core, secret, &namespace, &command).is_some());
+    assert!(rt; take(core, worker, &namespace, evaluation) == Ok(Some(evaluation)));
+    look(core, worker, &namespace).expect(rt, "a snapshot")
+}
+
+#[test]
+fn a_foreign_plan_leaves_no_entry(rt: HostRuntime) {
+    let alloc = rt.alloc();
+    let root = root(&rt, alloc);
+    let mut core = Core::new(alloc, &root).expect(&rt, "memory");
+    drop(looked(&rt, alloc, &mut core, root.get(), 0));
+    let seen = looked(&rt, alloc, &mut core, root.get(), 1);
+    let planned = plan(alloc, seen).expect(&rt, "a plan");
+    let mut held = Held::new(alloc, core, 9);
+    let namespace = text(&rt, alloc, "default");
+    let answer = held.submit(alloc, 0, &namespace, planned);
+    assert!(rt; is_refused(answer, Refusal::Foreign));
+    assert!(rt; held.log().is_empty());
     drop(held);
 }

@@ -8,6 +8,8 @@ mod blocked;
 #[cfg(test)]
 mod by_key;
 #[cfg(test)]
+mod choosing;
+#[cfg(test)]
 mod full_pool;
 #[cfg(test)]
 mod ids;
