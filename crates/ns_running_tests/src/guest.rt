@@ -93,6 +93,22 @@ pub(crate) fn write<L: Ledger, R: Wait + Abort>(
     reply
 }
 
+/// What the server sends for a job of one group of one task, which takes so much CPU and memory.
+pub(crate) fn register_with<L: Ledger, R: Wait + Abort>(
+    rt: &R,
+    alloc: Global,
+    guest: &mut Guest<'_, L, R>,
+    path: &str,
+    id: &str,
+    (cpu, memory): (u64, u64),
+) -> String {
+    let document = format!(in alloc;
+        "{{\"Job\":{{\"ID\":\"{id}\",\"TaskGroups\":[{{\"Name\":\"g\",\"Tasks\":[{{\"Name\":\"t\",\"Resources\":{{\"CPU\":{cpu},\"MemoryMB\":{memory}}}}}]}}]}}}}"
+    );
+    let document = document.expect(rt, "memory");
+    write(rt, alloc, guest, path, document.as_str())
+}
+
 /// What the server sends for a job of one group of one small task.
 pub(crate) fn register<L: Ledger, R: Wait + Abort>(
     rt: &R,
@@ -101,11 +117,7 @@ pub(crate) fn register<L: Ledger, R: Wait + Abort>(
     path: &str,
     id: &str,
 ) -> String {
-    let document = format!(in alloc;
-        "{{\"Job\":{{\"ID\":\"{id}\",\"TaskGroups\":[{{\"Name\":\"g\",\"Tasks\":[{{\"Name\":\"t\",\"Resources\":{{\"CPU\":100,\"MemoryMB\":100}}}}]}}]}}}}"
-    );
-    let document = document.expect(rt, "memory");
-    write(rt, alloc, guest, path, document.as_str())
+    register_with(rt, alloc, guest, path, id, (100, 100))
 }
 
 /// Two pools with a node each, a quota, and three namespaces, of which `tb` may use the pool `west` alone.

@@ -28,17 +28,37 @@ pub(crate) fn await_that<R: Clock + Abort, F: Fn() -> bool>(rt: &R, is_so: &F)
     assert!(rt; is_so(), "not in time");
 }
 
-/// Where so many threads wait for one another.
+/// What becomes of the workers.
+#[derive(Clone, Copy, PartialEq, Eq)]
+pub(crate) enum Plot {
+    /// Each is held inside its first plan until both are in theirs.
+    PlanAtOnce,
+    /// Each is held behind its first look until both have looked, so that neither sees what the other's plan takes.
+    LookAtOnce,
+    /// The first worker ends behind its step of that name. The second one comes after that.
+    Dies(Point),
+}
+
+impl Plot {
+    pub(crate) fn is_of_an_end(self) -> bool {
+        matches!(self, Plot::Dies(_))
+    }
+}
+
+/// Where threads wait for one another, until so many are there.
 #[derive(Drop)]
 pub(crate) struct Meeting {
-    wanted: u64,
+    pub plot: Plot,
+    pub wanted: u64,
     there: AtomicU64,
 }
 
 impl Meeting {
-    pub(crate) fn new(wanted: u64) -> Meeting {
+    /// Of both workers, or of the one that ends.
+    pub(crate) fn new(plot: Plot) -> Meeting {
         Meeting {
-            wanted,
+            plot,
+            wanted: if plot.is_of_an_end() { 1 } else { 2 },
             there: AtomicU64::new(0),
         }
     }
@@ -47,32 +67,48 @@ impl Meeting {
         self.there.load(Ordering::SeqCst) >= self.wanted
     }
 
-    /// Comes, and waits until all are there. The test fails where they do not come in time.
-    pub(crate) fn join<R: Clock + Abort>(&self, rt: &R) {
+    pub(crate) fn come(&self) {
         self.there.fetch_add(1, Ordering::SeqCst);
+    }
+
+    /// Waits until all are there. The test fails where they do not come in time.
+    pub(crate) fn wait<R: Clock + Abort>(&self, rt: &R) {
         await_that(rt, &|| self.is_full());
     }
 }
 
-/// Holds each worker inside its first plan until all are there.
+/// Lets workers pass by the plot.
 #[derive(Drop)]
-pub(crate) struct Inside<'a, R> {
+pub(crate) struct Watch<'a, R> {
     pub rt: &'a R,
     pub meeting: &'a Meeting,
 }
 
-impl<R: Clock + Abort> Gate for Inside<'_, R> {
+impl<R: Clock + Abort> Watch<'_, R> {
+    /// Holds the worker, where the plot is this one.
+    fn hold(&self, plot: Plot) {
+        if self.meeting.plot == plot {
+            self.meeting.come();
+            self.meeting.wait(self.rt);
+        }
+    }
+}
+
+impl<R: Clock + Abort> Gate for Watch<'_, R> {
     fn plan(
         &self,
         alloc: Global,
         _worker: u64,
         snapshot: Shared<Snapshot>,
     ) -> Result<Planned, Refusal> {
-        self.meeting.join(self.rt);
+        self.hold(Plot::PlanAtOnce);
         plan(alloc, snapshot)
     }
 
-    fn pass(&self, _worker: u64, _point: Point) -> bool {
-        true
+    fn pass(&self, worker: u64, point: Point) -> bool {
+        if point == Point::Snapped {
+            self.hold(Plot::LookAtOnce);
+        }
+        worker > 0 || self.meeting.plot != Plot::Dies(point)
     }
 }

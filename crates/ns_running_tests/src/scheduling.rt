@@ -1,12 +1,15 @@
-// Two workers plan at once, each for a job of one namespace. Where a worker holds a turn while it plans, the other one does not come
-// to its own plan, and the meeting inside the first plans fails.
+// Two workers, the applier and a client, each in a thread of its own. Where a worker holds a turn while it plans, the other one does
+// not come to its own plan, and the meeting inside the first plans fails. Where both look before either plans, and there is room for
+// one of two jobs, the later plan is dropped. And where a worker ends in the middle of its work, the others go on. All that they were
+// answered settles with the log.
 ghost use Rattle.std.specs.Prelude.{◌≡◌};
 
-use crate::guest::{Guest, guest, look, register, seat, seat_of, set_up};
-use crate::meeting::{Inside, Meeting, await_that};
+use crate::guest::{Guest, guest, look, register_with, seat, seat_of, set_up};
+use crate::meeting::{Meeting, Plot, Watch, await_that};
 use crate::server::{opened, settle};
+use ns_receipts::Receipt;
 use ns_shared::{PARTS, Retains, Seat, Shared};
-use ns_workers::{Nowhere, applier, worker};
+use ns_workers::{Nowhere, Point, applier, worker};
 use std::alloc::Global;
 use std::marker::Brand;
 use std::process::Abort;
@@ -19,74 +22,152 @@ use std::thread::Threads;
 /// Where jobs of `tb` are registered.
 const JOBS: &str = "/v1/jobs?namespace=tb";
 
-/// Paths, and what each shows once and no more: both evaluations are complete, and each job has one allocation, which is live.
-const SHOWN: [(&str, &str); 8] = [
-    (
-        "/v1/evaluation/00000000-0000-0001-0000-000000000001?namespace=tb",
-        "\"Status\":\"complete\"",
-    ),
+const FIRST_EVALUATION: &str = "/v1/evaluation/00000000-0000-0001-0000-000000000001?namespace=tb";
+
+/// A path, what it shows, and how often.
+type Shown<'a> = (&'a str, &'a str, usize);
+
+/// The second job's evaluation is complete, and each job has one allocation, which is live.
+static BOTH_PLACED: [Shown; 7] = [
     (
         "/v1/evaluation/00000000-0000-0001-0000-000000000002?namespace=tb",
         "\"Status\":\"complete\"",
+        1,
     ),
-    ("/v1/job/a/allocations?namespace=tb", "\"JobID\":"),
+    ("/v1/job/a/allocations?namespace=tb", "\"JobID\":", 1),
     (
         "/v1/job/a/allocations?namespace=tb",
         "\"ClientStatus\":\"pending\"",
+        1,
     ),
     (
         "/v1/job/a/allocations?namespace=tb",
         "\"DesiredStatus\":\"run\"",
+        1,
     ),
-    ("/v1/job/b/allocations?namespace=tb", "\"JobID\":"),
+    ("/v1/job/b/allocations?namespace=tb", "\"JobID\":", 1),
     (
         "/v1/job/b/allocations?namespace=tb",
         "\"ClientStatus\":\"pending\"",
+        1,
     ),
     (
         "/v1/job/b/allocations?namespace=tb",
         "\"DesiredStatus\":\"run\"",
+        1,
     ),
 ];
 
-/// Whether nothing is left to do for either worker.
-fn is_idle<L: Ledger, R: Wait + Abort>(rt: &R, shared: &Shared<L>) -> bool {
-    let served = shared.served(rt).expect(rt, "memory");
-    let first = shared.busy(rt, 0).expect(rt, "memory");
-    let second = shared.busy(rt, 1).expect(rt, "memory");
-    served.is_none() && first.is_none() && second.is_none()
+/// One of the jobs has an allocation. Both evaluations are complete, and one that follows waits for room.
+static ONE_PLACED: [Shown; 4] = [
+    ("/v1/allocations?namespace=tb", "\"JobID\":", 1),
+    ("/v1/evaluations?namespace=tb", "\"Status\":\"complete\"", 2),
+    ("/v1/evaluations?namespace=tb", "\"Status\":\"blocked\"", 1),
+    (
+        "/v1/evaluations?namespace=tb",
+        "\"TriggeredBy\":\"queued-allocs\"",
+        1,
+    ),
+];
+
+/// Whether the first worker's plan outlives it, so that it is applied and nobody finishes the evaluation.
+fn leaves_a_plan(plot: Plot) -> bool {
+    plot == Plot::Dies(Point::Queued)
 }
 
-/// The test fails where the path does not show the word once.
+/// CPU and memory of each job. The node of `tb` has 1000 MHz.
+fn size(plot: Plot) -> (u64, u64) {
+    match plot {
+        Plot::LookAtOnce => (600, 256),
+        _ => (100, 100),
+    }
+}
+
+/// Whether nothing is left to do for a worker that is still there.
+fn is_idle<L: Ledger, R: Wait + Abort>(rt: &R, shared: &Shared<L>, plot: Plot) -> bool {
+    let served = shared.served(rt).expect(rt, "memory");
+    let planned = shared.first_plan(rt).expect(rt, "memory");
+    let first = shared.busy(rt, 0).expect(rt, "memory");
+    let second = shared.busy(rt, 1).expect(rt, "memory");
+    let is_free = first.is_none() || leaves_a_plan(plot);
+    served.is_none() && planned.is_none() && is_free && second.is_none()
+}
+
+/// The test fails where the path does not show the word so often.
 fn expect_shown<L: Ledger, R: Wait + Abort>(
     rt: &R,
     alloc: Global,
     guest: &mut Guest<'_, L, R>,
-    path: &str,
-    word: &str,
+    (path, word, times): Shown<'_>,
 ) {
     let shown = look(rt, alloc, guest, path);
-    assert!(rt; shown.as_str().matches(word).count() == 1, "{shown}");
+    assert!(rt; shown.as_str().matches(word).count() == times, "{shown}");
 }
 
-/// Registers two jobs once both workers are there, and closes the server once both jobs are scheduled. The test fails where they are
-/// not.
+/// The test fails where something else became of the two jobs.
+fn expect_ended<L: Ledger, R: Wait + Abort>(
+    rt: &R,
+    alloc: Global,
+    guest: &mut Guest<'_, L, R>,
+    plot: Plot,
+) {
+    if plot == Plot::LookAtOnce {
+        for shown in &ONE_PLACED {
+            expect_shown(rt, alloc, guest, *shown);
+        }
+        return;
+    }
+    let status = if leaves_a_plan(plot) {
+        "\"Status\":\"pending\""
+    } else {
+        "\"Status\":\"complete\""
+    };
+    expect_shown(rt, alloc, guest, (FIRST_EVALUATION, status, 1));
+    for shown in &BOTH_PLACED {
+        expect_shown(rt, alloc, guest, *shown);
+    }
+}
+
+/// Registers two jobs once the workers are there, the second one behind the first worker's end where it is to end, and closes the
+/// server once nothing is left to do. The test fails where something else became of the jobs.
 fn lead<L: Ledger, R: Wait + Clock + Abort>(
     rt: &R,
     alloc: Global,
     shared: &Shared<L>,
+    meeting: &Meeting,
 ) -> Seat<L, Retains> {
+    let plot = meeting.plot;
     let mut guest = guest(rt, alloc, shared);
-    await_that(rt, &|| shared.now(rt).workers == 2);
+    await_that(rt, &|| shared.now(rt).workers == meeting.wanted);
     set_up(rt, alloc, &mut guest);
-    drop(register(rt, alloc, &mut guest, JOBS, "a"));
-    drop(register(rt, alloc, &mut guest, JOBS, "b"));
-    await_that(rt, &|| is_idle(rt, shared));
-    for (path, word) in &SHOWN {
-        expect_shown(rt, alloc, &mut guest, *path, *word);
+    drop(register_with(rt, alloc, &mut guest, JOBS, "a", size(plot)));
+    if plot.is_of_an_end() {
+        meeting.wait(rt);
     }
+    drop(register_with(rt, alloc, &mut guest, JOBS, "b", size(plot)));
+    await_that(rt, &|| is_idle(rt, shared, plot));
+    expect_ended(rt, alloc, &mut guest, plot);
     shared.close(rt);
     seat_of(guest)
+}
+
+/// Runs the worker of that number.
+fn work<L: Ledger, R: Wait + Clock + Abort>(
+    rt: &R,
+    alloc: Global,
+    shared: &Shared<L>,
+    meeting: &Meeting,
+    number: u64,
+    seat: &mut Seat<L, Retains>,
+) {
+    let ends = meeting.plot.is_of_an_end();
+    if ends && number == 1 {
+        meeting.wait(rt);
+    }
+    worker(rt, alloc, shared, &Watch { rt, meeting }, number, seat);
+    if ends && number == 0 {
+        meeting.come();
+    }
 }
 
 /// The seat of the worker of that number; behind the two workers, of the applier and of the client that leads.
@@ -98,14 +179,13 @@ fn perform<L: Ledger, R: Wait + Clock + Abort>(
     number: usize,
 ) -> Seat<L, Retains> {
     if number > 2 {
-        return lead(rt, alloc, shared);
+        return lead(rt, alloc, shared, meeting);
     }
     let mut seat = seat(rt, alloc, shared);
     if number == 2 {
         applier(rt, alloc, shared, &mut Nowhere, &mut seat);
     } else {
-        let inside = Inside { rt, meeting };
-        worker(rt, alloc, shared, &inside, number as u64, &mut seat);
+        work(rt, alloc, shared, meeting, number as u64, &mut seat);
     }
     seat
 }
@@ -126,23 +206,57 @@ fn performed<L: Ledger + Send + Sync, R: Threads + Wait + Clock + Abort + Sync>(
     seats.expect(rt, "memory")
 }
 
-/// Whether both workers met, and all that the threads were answered settles with the log.
-fn schedules<L: Ledger + Send + Sync, R: Threads + Wait + Clock + Abort + Sync>(
+/// Whether the applier applied two plans; where both workers looked at once, the second one drops the only node.
+fn is_applied(plot: Plot, receipts: &[Receipt]) -> bool {
+    let [first, second] = receipts else {
+        return false;
+    };
+    let (first, second) = (first.rendered.body.as_str(), second.rendered.body.as_str());
+    let later = match plot {
+        Plot::LookAtOnce => "{\"Committed\":[],\"Dropped\":[\"n1\"]}",
+        _ => "{\"Committed\":[\"00000000-0000-0002-0000-000000000002\"],\"Dropped\":[]}",
+    };
+    first == "{\"Committed\":[\"00000000-0000-0002-0000-000000000001\"],\"Dropped\":[]}"
+        && second == later
+}
+
+/// Whether all went by the plot, and all that the threads were answered settles with the log.
+fn settles<L: Ledger + Send + Sync, R: Threads + Wait + Clock + Abort + Sync>(
     rt: &R,
     alloc: Global,
+    plot: Plot,
     blank: Blank,
 ) -> bool
     requires name { blank.name ≡ L.name }
     requires parts { (blank.parts ≡ L.parts) × (L.parts ≡ 18446744073709551615) }
 {
     let shared = opened::<L, R>(rt, alloc, 100, blank);
-    let meeting = Meeting::new(2);
+    let meeting = Meeting::new(plot);
     let seats = performed(rt, alloc, &shared, &meeting);
-    meeting.is_full() && settle(rt, alloc, shared, seats).is_ok()
+    let applier = seats.get(2).expect(rt, "the applier");
+    let is_applied = is_applied(plot, applier.receipts());
+    meeting.is_full() && is_applied && settle(rt, alloc, shared, seats).is_ok()
 }
 
 #[test]
 fn workers_schedule_at_once(rt: HostRuntime) {
-    let settled = schedules::<Brand, _>(&rt, rt.alloc(), Blank::new(PARTS));
+    let settled = settles::<Brand, _>(&rt, rt.alloc(), Plot::PlanAtOnce, Blank::new(PARTS));
     assert!(rt; settled);
+}
+
+#[test]
+fn two_workers_one_node(rt: HostRuntime) {
+    let settled = settles::<Brand, _>(&rt, rt.alloc(), Plot::LookAtOnce, Blank::new(PARTS));
+    assert!(rt; settled);
+}
+
+const POINTS: [Point; 4] = [Point::Took, Point::Snapped, Point::Queued, Point::Finished];
+
+#[test]
+fn a_worker_ends_at_each_of_its_points(rt: HostRuntime) {
+    for point in &POINTS {
+        let plot = Plot::Dies(*point);
+        let settled = settles::<Brand, _>(&rt, rt.alloc(), plot, Blank::new(PARTS));
+        assert!(rt; settled);
+    }
 }

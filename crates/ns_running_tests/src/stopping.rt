@@ -1,8 +1,8 @@
-// Where a worker and the applier end: at a full log, at the gate, once the server is closed, and out of turn. No thread is started, so
-// one that goes on or waits in place of that never comes back.
+// Where a worker and the applier end: at a full log, at the gate, once the server is closed, and out of turn; and where a worker goes
+// on: after want of memory. No thread is started, so one that goes on or waits in place of an end never comes back.
 ghost use Rattle.std.specs.Prelude.{◌≡◌};
 
-use crate::guest::{guest, register, seat, write};
+use crate::guest::{guest, look, register, seat, write};
 use crate::server::opened;
 use ns_schedule::plan;
 use ns_shared::{PARTS, Shared};
@@ -16,6 +16,7 @@ use std::marker::Brand;
 use std::process::Abort;
 use std::rt::Clock;
 use std::sync::Wait;
+use std::sync::atomic::{AtomicU64, Ordering};
 use std::sync::ledger::{Blank, Ledger};
 
 /// Lets no worker go on from this point.
@@ -34,6 +35,32 @@ impl Gate for Shut {
 
     fn pass(&self, _worker: u64, point: Point) -> bool {
         point != self.0
+    }
+}
+
+/// Has no memory for the first plan. Lets no worker go on once its plan waits.
+#[derive(Drop)]
+struct Scant {
+    plans: AtomicU64,
+}
+
+impl Gate for Scant {
+    fn plan(
+        &self,
+        alloc: Global,
+        _worker: u64,
+        snapshot: shared::Shared<Snapshot>,
+    ) -> Result<Planned, Refusal> {
+        let planned = plan(alloc, snapshot)?;
+        if self.plans.fetch_add(1, Ordering::SeqCst) > 0 {
+            return Ok(planned);
+        }
+        drop(planned);
+        Err(Refusal::Memory)
+    }
+
+    fn pass(&self, _worker: u64, point: Point) -> bool {
+        point != Point::Queued
     }
 }
 
@@ -132,4 +159,29 @@ fn stay_idle<L: Ledger, R: Wait + Clock + Abort>(rt: &R, alloc: Global, blank: B
 fn no_step_out_of_turn(rt: HostRuntime) {
     let idle = stay_idle::<Brand, _>(&rt, rt.alloc(), Blank::new(PARTS));
     assert!(rt; idle);
+}
+
+/// Whether a worker that finds no memory for its plan takes the evaluation, looks, gives it back, takes it, looks and hands its plan in,
+/// which is then applied, so that the job runs.
+fn places_later<L: Ledger, R: Wait + Clock + Abort>(rt: &R, alloc: Global, blank: Blank) -> bool
+    requires name { blank.name ≡ L.name }
+    requires parts { (blank.parts ≡ L.parts) × (L.parts ≡ 18446744073709551615) }
+{
+    let shared = opened::<L, R>(rt, alloc, 100, blank);
+    prepare(rt, alloc, &shared);
+    let scant = Scant {
+        plans: AtomicU64::new(0),
+    };
+    let steps = works(rt, alloc, &shared, &scant, 0);
+    shared.close(rt);
+    let applies = applies(rt, alloc, &shared);
+    let mut guest = guest(rt, alloc, &shared);
+    let job = look(rt, alloc, &mut guest, "/v1/job/a");
+    steps == 6 && applies == 1 && job.as_str().contains("\"Status\":\"running\"")
+}
+
+#[test]
+fn a_worker_goes_on_after_want_of_memory(rt: HostRuntime) {
+    let places = places_later::<Brand, _>(&rt, rt.alloc(), Blank::new(PARTS));
+    assert!(rt; places);
 }

@@ -1,4 +1,4 @@
 use Rattle.ns_running_tests.proofs.scheduling.workers_schedule_at_once.Given as goal
 
-abbrev pub ghosts-schedules : goal.ghosts-schedules
-ghosts-schedules g a = record { name = a.blank.name; parts = a.blank.parts }
+abbrev pub ghosts-settles : goal.ghosts-settles
+ghosts-settles g a = record { name = a.blank.name; parts = a.blank.parts }
