@@ -233,6 +233,7 @@ def lists(parts):
     """Two lists of jobs, and a stranger's registration between them."""
     parts.alone("replay_alone", LISTS, "8 200 []\n10 200 []\nsame\n", 0)
     parts.alone("replay_alone_altered", changed(LISTS, 10, Body="[1]"), "8 200 []\ndiffers at 10\n", 1)
+    parts.fault("hostile_logs", [*LISTS, took("tb", 0, 7)], [8, 10], "not a run at 11")
     parts.alone("replay_alone_from_the_beginning", LISTS, "premise fails at 4\n", 1, first=0)
     parts.same("nothing_after_the_base", LISTS, [], first=11)
     parts.same("a_base_of_all", LISTS, [], first=99)
@@ -292,7 +293,7 @@ def bad_lines(parts):
     parts.bad("no_line_feed_at_the_end", log_of(LISTS)[:-1], 12)
     parts.bad("an_empty_line", log_of(LISTS) + "\n", 13)
     parts.bad("no_line_at_all", "", 1)
-    for version in ("1", "2", "2 0", "4 0"):
+    for version in ("1", "2", "2 0", "4 0", "9", "9 0"):
         parts.bad(f"version_{version}".replace(" ", "_"), log_of(LISTS).replace("nsd-log 3 0 ", f"nsd-log {version} "), 1)
     told = json.loads(ROUNDS[9])
     step = told["Step"]

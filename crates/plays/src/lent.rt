@@ -1,11 +1,13 @@
 //! The core that a server lends for one request.
 
-use ns_api::{Takes, respond};
+use crate::same_bytes::SameBytes;
+use ns_api::{Api, NoFollower, Takes, respond};
 use ns_chains::Server;
 use ns_core::Core;
+use ns_http::{Answer, Request};
 use ns_types::reply::Response;
 use ns_types::step::Step;
-use std::alloc::Global;
+use std::alloc::{AllocError, Global};
 
 #[derive(Drop)]
 pub struct Lent<'a> {
@@ -26,4 +28,19 @@ impl Takes for Lent<'_> {
     fn respond(&mut self, alloc: Global, step: Step) -> Response {
         respond(alloc, self.core, step)
     }
+}
+
+/// What the core answers the request. The byte that is drawn next is `next`, and then one that is greater by `step`.
+pub fn answered(
+    alloc: Global,
+    core: &mut Core,
+    next: &mut u8,
+    step: u8,
+    request: &Request<'_>,
+) -> Result<Response, AllocError> {
+    let draws = SameBytes { next, step };
+    let mut api = Api::new(alloc, Lent { core }, draws, NoFollower)?;
+    let response = api.answer(request);
+    drop(api);
+    Ok(response)
 }

@@ -7,6 +7,8 @@ use ns_types::name::{Name, NameKind};
 pub enum Line<'a> {
     /// Empty, or a comment.
     Remark,
+    /// From now on each call is watched, by a read of the target beside what was watched before.
+    Watch(&'a str),
     /// The secret of the requests that follow, if they have one.
     Token(Option<&'a [u8]>),
     /// Method, target and body.
@@ -35,6 +37,8 @@ pub enum Call<'a> {
     Served,
     Planned,
     Phase(u64),
+    /// Each call that takes no memory is made so often, about the namespace and the pool.
+    Looks(u64, &'a str, &'a str),
 }
 
 fn namespace(text: &str) -> Option<&str> {
@@ -59,6 +63,15 @@ fn place(text: &str) -> Option<Option<u64>> {
     Some(Some(number(text)?))
 }
 
+/// A number, a namespace and a pool.
+fn looks_in(text: &str) -> Option<(u64, &str, &str)> {
+    let (times, namespace, pool) = worker_in(text)?;
+    match Name::read(NameKind::Pool, pool) {
+        Some(_) => Some((times, namespace, pool)),
+        None => None,
+    }
+}
+
 impl Work {
     fn read(word: &str, rest: &str) -> Option<Work> {
         match word {
@@ -79,6 +92,10 @@ impl<'a> Call<'a> {
             "served" if rest.is_empty() => Some(Call::Served),
             "planned" if rest.is_empty() => Some(Call::Planned),
             "phase" => Some(Call::Phase(number(rest)?)),
+            "looks" => {
+                let (times, namespace, pool) = looks_in(rest)?;
+                Some(Call::Looks(times, namespace, pool))
+            }
             _ => {
                 let (worker, namespace, rest) = worker_in(rest)?;
                 Some(Call::Work(worker, namespace, Work::read(word, rest)?))
@@ -95,6 +112,7 @@ impl<'a> Line<'a> {
         }
         let (word, rest) = first_word(text);
         match word {
+            "watch" if !rest.is_empty() => Some(Line::Watch(rest)),
             "token" if rest.is_empty() => Some(Line::Token(None)),
             "token" => Some(Line::Token(Some(rest.as_bytes()))),
             "GET" | "HEAD" | "OPTIONS" | "PATCH" | "POST" | "PUT" | "DELETE" if !rest.is_empty() =>

@@ -7,12 +7,14 @@ mod connection;
 mod ended;
 mod lent;
 mod line;
+mod looks;
 mod repeated;
 mod replayed;
 mod same_bytes;
 mod server;
 mod steps;
 mod taken;
+mod watch;
 mod words;
 
 use crate::connection::{log, serve};

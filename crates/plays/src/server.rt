@@ -1,16 +1,16 @@
 //! The server of a script.
 
 use crate::answers::{write_key, write_phase, write_refusal, write_response, write_snapped};
-use crate::lent::Lent;
+use crate::lent::answered;
 use crate::line::{Call, Line, Work};
-use crate::same_bytes::SameBytes;
+use crate::looks::{Asked, write_looks};
 use crate::steps::Step;
 use crate::taken::Snapshots;
+use crate::watch::Watch;
 use crate::words::ROOT;
 use anyhow::Context;
-use ns_api::{Api, NoFollower};
 use ns_core::Core;
-use ns_http::{Answer, Request};
+use ns_http::Request;
 use ns_types::name::Secret;
 use ns_types::refusal::Refusal;
 use ns_types::reply::Response;
@@ -29,14 +29,11 @@ struct Server<'a> {
     /// The byte that is drawn next.
     next: u8,
     seen: Snapshots,
+    watch: Watch<'a>,
 }
 
-/// A look that was refused for memory is made once more.
-fn snapped(core: &mut Core, worker: u64, namespace: &Text) -> Result<Shared<Snapshot>, Refusal> {
-    match core.snap(worker, namespace) {
-        Err(Refusal::Memory) => core.snap(worker, namespace),
-        seen => seen,
-    }
+fn is_done(answer: &Result<Response, AllocError>) -> bool {
+    matches!(answer, Ok(Response::Done(_, _)))
 }
 
 fn is_unanswered(answer: &Result<Response, AllocError>) -> bool {
@@ -56,33 +53,26 @@ impl<'a> Server<'a> {
             token: Some(ROOT.as_bytes()),
             next: 1,
             seen: Snapshots::new(alloc),
+            watch: Watch::new(alloc),
         })
     }
 
     fn answer(&mut self, request: &Request<'_>) -> Result<Response, AllocError> {
-        let lent = Lent {
-            core: &mut self.core,
-        };
-        let draws = SameBytes {
-            next: &mut self.next,
-            step: 1,
-        };
-        let mut api = Api::new(self.alloc, lent, draws, NoFollower)?;
-        let response = api.answer(request);
-        drop(api);
-        Ok(response)
+        answered(self.alloc, &mut self.core, &mut self.next, 1, request)
     }
 
     /// A request that was refused for memory is made once more, with the same draws.
-    fn ask(&mut self, request: &Request<'_>) -> Result<Response, AllocError> {
+    fn ask(&mut self, request: &Request<'_>) -> anyhow::Result<Response> {
+        let before = self.watch.before(&self.core)?;
         let next = self.next;
         let answer = self.answer(request);
+        self.watch.after(before, &mut self.core, !is_done(&answer))?;
         if !is_unanswered(&answer) {
-            return answer;
+            return Ok(answer?);
         }
         drop(answer);
         self.next = next;
-        self.answer(request)
+        Ok(self.answer(request)?)
     }
 
     fn request<W: Write>(
@@ -103,8 +93,23 @@ impl<'a> Server<'a> {
         Ok(written?)
     }
 
+    /// A look that was refused for memory is made once more.
+    fn snapped(
+        &mut self,
+        worker: u64,
+        namespace: &Text,
+    ) -> anyhow::Result<Result<Shared<Snapshot>, Refusal>> {
+        let before = self.watch.before(&self.core)?;
+        let seen = self.core.snap(worker, namespace);
+        self.watch.after(before, &mut self.core, seen.is_err())?;
+        match seen {
+            Err(Refusal::Memory) => Ok(self.core.snap(worker, namespace)),
+            seen => Ok(seen),
+        }
+    }
+
     fn snap<W: Write>(&mut self, worker: u64, namespace: &Text, out: &mut W) -> anyhow::Result<()> {
-        match snapped(&mut self.core, worker, namespace) {
+        match self.snapped(worker, namespace)? {
             Ok(snapshot) => {
                 let written = write_snapped(out, snapshot.get().number);
                 let kept = self.seen.keep(worker, snapshot);
@@ -123,23 +128,29 @@ impl<'a> Server<'a> {
         work: Work,
         out: &mut W,
     ) -> anyhow::Result<()> {
-        let alloc = self.alloc;
-        match work {
-            Work::Dequeue(number) => {
-                Step::Dequeue(number).tell(&mut self.core, alloc, worker, namespace, out)
-            }
-            Work::Snap => self.snap(worker, namespace, out),
-            Work::Submit(place) => {
-                let seen = self.seen.find(worker, place)?;
-                Step::Submit(seen).tell(&mut self.core, alloc, worker, namespace, out)
-            }
-            Work::Apply => Step::Apply.tell(&mut self.core, alloc, worker, namespace, out),
-            Work::Finish(place) => {
-                let seen = self.seen.find(worker, place)?;
-                Step::Finish(seen).tell(&mut self.core, alloc, worker, namespace, out)
-            }
-            Work::Nack => Step::Nack.tell(&mut self.core, alloc, worker, namespace, out),
-        }
+        let step = match work {
+            Work::Dequeue(number) => Step::Dequeue(number),
+            Work::Snap => return self.snap(worker, namespace, out),
+            Work::Submit(place) => Step::Submit(self.seen.find(worker, place)?),
+            Work::Apply => Step::Apply,
+            Work::Finish(place) => Step::Finish(self.seen.find(worker, place)?),
+            Work::Nack => Step::Nack,
+        };
+        let (core, watch) = (&mut self.core, &self.watch);
+        step.tell(core, watch, self.alloc, worker, namespace, out)
+    }
+
+    fn looks<W: Write>(
+        &self,
+        times: u64,
+        namespace: &str,
+        pool: &str,
+        out: &mut W,
+    ) -> anyhow::Result<()> {
+        let asked = Asked::new(self.alloc, namespace, pool)?;
+        let written = write_looks(out, &self.core, &asked, times);
+        drop(asked);
+        written
     }
 
     fn call<W: Write>(&mut self, call: Call<'_>, out: &mut W) -> anyhow::Result<()> {
@@ -151,6 +162,7 @@ impl<'a> Server<'a> {
             Call::Served => write_key(out, self.core.served()),
             Call::Planned => write_key(out, self.core.first_plan()),
             Call::Phase(worker) => write_phase(out, &self.core, worker),
+            Call::Looks(times, namespace, pool) => return self.looks(times, namespace, pool, out),
         };
         Ok(written?)
     }
@@ -163,6 +175,7 @@ impl<'a> Server<'a> {
                 self.token = token;
                 Ok(())
             }
+            Line::Watch(target) => Ok(self.watch.add(target)?),
             Line::Request(method, target, body) => self.request(method, target, body, out),
             Line::Call(call) => self.call(call, out),
         }

@@ -1,6 +1,7 @@
 //! The steps of workers that are answered by a reply.
 
 use crate::answers::write_reply;
+use crate::watch::Watch;
 use ns_core::Core;
 use ns_schedule::plan;
 use ns_types::refusal::Refusal;
@@ -54,30 +55,23 @@ impl Step<'_> {
         }
     }
 
-    /// A step that was refused for memory is made once more.
-    fn repeat(
-        self,
-        core: &mut Core,
-        alloc: Global,
-        worker: u64,
-        namespace: &Text,
-    ) -> Result<Reply, Refusal> {
-        match self.make(core, alloc, worker, namespace) {
-            Err(Refusal::Memory) => self.make(core, alloc, worker, namespace),
-            answer => answer,
-        }
-    }
-
-    /// Makes the step, and writes what it is answered.
+    /// Makes the step, and writes what it is answered. A step that was refused for memory is made once more.
     pub fn tell<W: Write>(
         self,
         core: &mut Core,
+        watch: &Watch<'_>,
         alloc: Global,
         worker: u64,
         namespace: &Text,
         out: &mut W,
     ) -> anyhow::Result<()> {
-        let answer = self.repeat(core, alloc, worker, namespace);
+        let before = watch.before(core)?;
+        let first = self.make(core, alloc, worker, namespace);
+        watch.after(before, core, first.is_err())?;
+        let answer = match first {
+            Err(Refusal::Memory) => self.make(core, alloc, worker, namespace),
+            answer => answer,
+        };
         let written = write_reply(out, &answer);
         drop(answer);
         written

@@ -1,0 +1,124 @@
+//! The calls of a core that take no memory, and so can't be refused for want of it.
+
+use crate::words::ROOT;
+use ns_core::Core;
+use ns_types::acl::{PoolRights, Rights};
+use ns_types::key::EvalKey;
+use ns_types::step::Step;
+use ns_types::text::Text;
+use std::alloc::{AllocError, Global};
+use std::io::{self, Write};
+
+/// What they are asked about: what a secret may do, whether a namespace has a pool and the quota `qa` to itself, and whether there is
+/// room for a step.
+#[derive(Drop)]
+pub struct Asked {
+    secret: Text,
+    namespace: Text,
+    pools: [Text; 1],
+    quotas: [Text; 1],
+    step: Step,
+}
+
+impl Asked {
+    pub fn new(alloc: Global, namespace: &str, pool: &str) -> Result<Asked, AllocError> {
+        let step = Step::Snap(0, Text::from_str(alloc, namespace)?);
+        Ok(Asked {
+            secret: Text::from_str(alloc, ROOT)?,
+            namespace: Text::from_str(alloc, namespace)?,
+            pools: [Text::from_str(alloc, pool)?],
+            quotas: [Text::from_str(alloc, "qa")?],
+            step,
+        })
+    }
+}
+
+/// What they answer.
+#[derive(Clone, Copy, PartialEq, Eq)]
+struct Looked {
+    served: u64,
+    has_served: bool,
+    planned: u64,
+    busy: u64,
+    rights: Rights,
+    pool_rights: PoolRights,
+    is_there: bool,
+    permits: bool,
+    shares: bool,
+    apart: bool,
+    lacks_room: bool,
+}
+
+/// The number of the evaluation. 0: there is none.
+fn number(key: Option<&EvalKey>) -> u64 {
+    match key {
+        Some(key) => key.number(),
+        None => 0,
+    }
+}
+
+/// The evaluation of the worker, by the calls that show a worker's row. 0: it is idle.
+fn busy_with(core: &Core, worker: u64, namespace: &Text) -> u64 {
+    match (core.phase(worker), core.worker_at(worker, namespace)) {
+        (Some(busy), Some(row)) if busy.evaluation == row.evaluation() => busy.evaluation,
+        _ => 0,
+    }
+}
+
+impl Looked {
+    /// Each call once.
+    fn at(core: &Core, asked: &Asked) -> Looked {
+        let Asked {
+            secret,
+            namespace,
+            pools,
+            quotas,
+            step,
+        } = asked;
+        Looked {
+            served: number(core.served()),
+            has_served: core.has_served(),
+            planned: number(core.first_plan()),
+            busy: busy_with(core, 0, namespace),
+            rights: core.rights(Some(secret), namespace),
+            pool_rights: core.pool_rights(Some(secret), &pools[0]),
+            is_there: core.namespace_at(namespace).is_some(),
+            permits: core.permits(namespace, &pools[0]),
+            shares: core.shares(namespace),
+            apart: core.apart(namespace, pools, quotas),
+            lacks_room: core.lacks_room(step),
+        }
+    }
+
+    fn write<W: Write>(self, out: &mut W) -> io::Result<()> {
+        let Looked {
+            served,
+            planned,
+            busy,
+            ..
+        } = self;
+        write!(out, "served {served}, planned {planned}, busy {busy}")?;
+        let (may_list, may_read) = (self.rights.list_jobs, self.pool_rights.read);
+        write!(out, ", list-jobs {may_list}, pool read {may_read}")?;
+        let (is_there, permits) = (self.is_there, self.permits);
+        write!(out, ", there {is_there}, permits {permits}")?;
+        let (shares, apart) = (self.shares, self.apart);
+        let (has_served, lacks_room) = (self.has_served, self.lacks_room);
+        write!(out, ", shares {shares}, apart {apart}")?;
+        writeln!(out, ", has served {has_served}, lacks room {lacks_room}")
+    }
+}
+
+/// Makes each call so often, and writes what they answer: the same each time.
+pub fn write_looks<W: Write>(
+    out: &mut W,
+    core: &Core,
+    asked: &Asked,
+    times: u64,
+) -> anyhow::Result<()> {
+    let first = Looked::at(core, asked);
+    for _ in 1..times {
+        anyhow::ensure!(Looked::at(core, asked) == first, "a look changes something");
+    }
+    Ok(first.write(out)?)
+}

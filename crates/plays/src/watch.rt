@@ -1,0 +1,151 @@
+//! What a refused call leaves of a server: the core is copied before each call, and compared with the copy where the call was refused.
+
+use crate::answers::{write_key, write_phase, write_response};
+use crate::lent::answered;
+use crate::words::ROOT;
+use anyhow::ensure;
+use ns_core::Core;
+use ns_equal::same_snapshot;
+use ns_http::Request;
+use ns_types::snapshot::Snapshot;
+use std::alloc::{AllocError, Global};
+use std::io::Write;
+
+/// Behind the last number of a worker.
+const WORKERS_END: u64 = 64;
+
+/// The targets of reads by which both are compared, beside all that workers and lists show. Without one nothing is copied.
+#[derive(Drop)]
+pub struct Watch<'a> {
+    alloc: Global,
+    targets: Vec<&'a str>,
+}
+
+/// A copy that was refused for memory is made once more.
+fn copied(alloc: Global, core: &Core) -> Result<Core, AllocError> {
+    match core.copy(alloc) {
+        Ok(copy) => Ok(copy),
+        Err(_) => core.copy(alloc),
+    }
+}
+
+/// Writes what a read of the target is answered.
+fn write_read<W: Write>(
+    alloc: Global,
+    core: &mut Core,
+    target: &str,
+    out: &mut W,
+) -> anyhow::Result<()> {
+    let request = Request {
+        method: b"GET",
+        target,
+        token: Some(ROOT.as_bytes()),
+        body: b"",
+    };
+    let mut next = 1;
+    let response = answered(alloc, core, &mut next, 0, &request)?;
+    let written = write_response(out, &response);
+    drop(response);
+    Ok(written?)
+}
+
+/// Writes which evaluation and which plan are served next, and how far each worker is.
+fn write_work<W: Write>(core: &Core, out: &mut W) -> anyhow::Result<()> {
+    write_key(out, core.served())?;
+    write_key(out, core.first_plan())?;
+    for worker in 0..WORKERS_END {
+        write_phase(out, core, worker)?;
+    }
+    Ok(())
+}
+
+/// The snapshot that the worker took last.
+fn kept(core: &Core, worker: u64) -> Option<&Snapshot> {
+    let busy = core.phase(worker)?;
+    let row = core.worker_at(worker, busy.namespace)?;
+    let kept = row.kept()?;
+    Some(kept.get())
+}
+
+fn same_kept(before: &Core, core: &Core, worker: u64) -> bool {
+    match (kept(before, worker), kept(core, worker)) {
+        (Some(before), Some(now)) => same_snapshot(before, now),
+        (None, None) => true,
+        _ => false,
+    }
+}
+
+/// Whether each worker has the snapshot that it had.
+fn same_snapshots(before: &Core, core: &Core) -> bool {
+    for worker in 0..WORKERS_END {
+        if !same_kept(before, core, worker) {
+            return false;
+        }
+    }
+    true
+}
+
+impl<'a> Watch<'a> {
+    pub fn new(alloc: Global) -> Watch<'a> {
+        Watch {
+            alloc,
+            targets: Vec::new(alloc),
+        }
+    }
+
+    pub fn add(&mut self, target: &'a str) -> Result<(), AllocError> {
+        self.targets.push(target)?;
+        Ok(())
+    }
+
+    /// A copy of the core, where something is watched.
+    pub fn before(&self, core: &Core) -> Result<Option<Core>, AllocError> {
+        if self.targets.is_empty() {
+            return Ok(None);
+        }
+        Ok(Some(copied(self.alloc, core)?))
+    }
+
+    /// All that the targets, the workers and the lists show.
+    fn shown(&self, core: &mut Core) -> anyhow::Result<Vec<u8>> {
+        let mut out = Vec::new(self.alloc);
+        for target in self.targets.iter() {
+            write_read(self.alloc, core, *target, &mut out)?;
+        }
+        write_work(core, &mut out)?;
+        Ok(out)
+    }
+
+    fn expect_same(&self, before: &mut Core, core: &mut Core) -> anyhow::Result<()> {
+        let wanted = self.shown(before)?;
+        let shown = self.shown(core)?;
+        ensure!(
+            wanted.as_slice() == shown.as_slice(),
+            "a refused call has changed what is shown"
+        );
+        ensure!(
+            same_snapshots(before, core),
+            "a refused call has changed a snapshot"
+        );
+        Ok(())
+    }
+
+    /// Behind a call: fails where it was refused, and the core shows something else than the copy that was made before it.
+    pub fn after(
+        &self,
+        before: Option<Core>,
+        core: &mut Core,
+        is_refused: bool,
+    ) -> anyhow::Result<()> {
+        let Some(mut before) = before else {
+            return Ok(());
+        };
+        let same = if is_refused {
+            self.expect_same(&mut before, core)
+        } else {
+            Ok(())
+        };
+        drop(before);
+        same
+    }
+}
