@@ -10,74 +10,27 @@ exit status is 1. The other parts are left out, since they show what the server 
 `cc`.
 """
 
-import os
-import pathlib
-import subprocess
 import sys
 import tempfile
 
 sys.dont_write_bytecode = True
 
 from plays import MARK, path_of, stored
+from refusing import Refusing
 
-# Stands between the program and the allocator, and refuses the call of that number.
-REFUSING = """
-#define _GNU_SOURCE
-#include <dlfcn.h>
-#include <errno.h>
-#include <stdio.h>
-#include <stdlib.h>
-#include <string.h>
-#include <unistd.h>
-static unsigned long calls, nth;
-static void *(*real_malloc)(size_t);
-static void *(*real_realloc)(void *, size_t);
-static void *(*real_aligned)(size_t, size_t);
-__attribute__((constructor)) static void begin(void) {
-    const char *word = getenv("REFUSED");
-    nth = word ? strtoul(word, 0, 10) : 0;
-    real_malloc = dlsym(RTLD_NEXT, "malloc");
-    real_realloc = dlsym(RTLD_NEXT, "realloc");
-    real_aligned = dlsym(RTLD_NEXT, "aligned_alloc");
-    calls = 0;
-}
-static int is_refused(void) {
-    if (__sync_add_and_fetch(&calls, 1) != nth) return 0;
-    errno = ENOMEM;
-    return 1;
-}
-void *malloc(size_t size) {
-    if (!real_malloc) real_malloc = dlsym(RTLD_NEXT, "malloc");
-    return is_refused() ? 0 : real_malloc(size);
-}
-void *realloc(void *old, size_t size) { return is_refused() ? 0 : real_realloc(old, size); }
-void *aligned_alloc(size_t align, size_t size) { return is_refused() ? 0 : real_aligned(align, size); }
-__attribute__((destructor)) static void end(void) {
-    char text[32];
-    int length = snprintf(text, sizeof text, "%lu", calls);
-    const char *path = getenv("CALLS");
-    FILE *file = path ? fopen(path, "w") : 0;
-    if (file) { fwrite(text, 1, length, file); fclose(file); }
-}
-"""
 
 class Program:
     def __init__(self, folder):
         self.path = path_of("out/plays")
-        self.folder = pathlib.Path(folder)
-        self.library = self.folder / "refusing.so"
-        source = self.folder / "refusing.c"
-        source.write_text(REFUSING)
-        subprocess.run(["cc", "-shared", "-fPIC", "-O1", "-o", self.library, source, "-ldl"], check=True)
+        self.refusing = Refusing(folder)
 
     def run(self, text, refused=0):
         """The status and the output with that allocation refused, none where it is 0."""
-        words = {"LD_PRELOAD": str(self.library), "REFUSED": str(refused), "CALLS": str(self.folder / "calls")}
-        done = subprocess.run([self.path], input=text, capture_output=True, env={**os.environ, **words}, timeout=120)
-        return done.returncode, done.stdout
+        status, output, _ = self.refusing.run([self.path], text, refused)
+        return status, output
 
     def calls(self):
-        return int((self.folder / "calls").read_text())
+        return self.refusing.counted()[1]
 
 
 def try_part(program, part, most):
