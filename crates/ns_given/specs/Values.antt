@@ -51,6 +51,11 @@ abbrev pub accept_by : Option (List ℕ) → Option (Option ℕ)
 accept_by None = Some None
 accept_by (Some text) = option_map Some (number_between 1 (2 ^ 64 - 1) text)
 
+-- without a bound, where nothing is said; else at most a day
+abbrev pub idle_by : Option (List ℕ) → Option (Option ℕ)
+idle_by None = Some None
+idle_by (Some text) = option_map Some (number_between 1 86400 text)
+
 -- a million, where nothing is said
 abbrev pub log_limit_by : Option (List ℕ) → Option ℕ
 log_limit_by = number_by 1000000 1 (2 ^ 64 - 1)

@@ -6,4 +6,4 @@ mod number;
 mod serve;
 
 pub use alone::{count, names};
-pub use serve::{accept, connections, log_limit, rotate, rotate_bytes, secret, workers};
+pub use serve::{accept, connections, idle, log_limit, rotate, rotate_bytes, secret, workers};

@@ -1,7 +1,7 @@
 //! What is given to `serve`. None: a value is not what it has to be.
 
 ghost use Rattle.std.specs.Prelude.{◌≡◌, IfOk, option_map};
-ghost use Rattle.ns_given.specs.Values.{accept_by, connections_by, log_limit_by, rotate_by, rotate_bytes_by};
+ghost use Rattle.ns_given.specs.Values.{accept_by, connections_by, idle_by, log_limit_by, rotate_by, rotate_bytes_by};
 ghost use Rattle.ns_given.specs.Values.{secret_by, workers_by};
 
 use crate::number::{number_between, number_by};
@@ -43,6 +43,16 @@ pub fn accept(given: Option<&str>) -> Option<Option<u64>>
     match given {
         None => Some(None),
         Some(text) => number_between(1, u64::MAX, text).map(Some),
+    }
+}
+
+/// How many seconds a connection may be idle, by what is given for it.
+pub fn idle(given: Option<&str>) -> Option<Option<u64>>
+    ensures { result ≡ idle_by (option_map (λ s. s.now) given.entry) }
+{
+    match given {
+        None => Some(None),
+        Some(text) => number_between(1, 86_400, text).map(Some),
     }
 }
 

@@ -151,6 +151,7 @@ pub(crate) fn service(alloc: Global, connections: u64) -> Result<Service, AllocE
         workers: 2,
         connections,
         accept: Some(connections),
+        idle: None,
         log_limit: 10_000,
         rotate: None,
         rotate_bytes: None,

@@ -20,6 +20,9 @@ House-sync a L g =
       search (sendable, shared) depth 5,
       (
         search (sendable, Door-sync) depth 5,
-        (search (sendable, crosses) depth 20, (search (sendable, crosses) depth 20, (search (sendable, crosses) depth 20, tt))),
+        (
+          search (sendable, crosses) depth 20,
+          (search (sendable, crosses) depth 20, (search (sendable, crosses) depth 20, (search (sendable, crosses) depth 20, tt))),
+        ),
       ),
     )

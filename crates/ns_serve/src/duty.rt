@@ -26,7 +26,7 @@ pub enum Duty<D> {
 }
 
 /// Serves connections, and gives the seat back.
-fn attend<L: Ledger, R: Wait, D: Draws + Drop, M: Retention>(
+fn attend<L: Ledger, R: Wait + Clock, D: Draws + Drop, M: Retention>(
     rt: &R,
     alloc: Global,
     house: &House<L>,

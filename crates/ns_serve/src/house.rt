@@ -14,4 +14,6 @@ pub struct House<'a, L: Ledger> {
     pub tickets: Tickets,
     pub guests: Guests,
     pub start: Start,
+    /// How many seconds a read or a write of a connection may wait. None: without a bound.
+    pub idle: Option<u64>,
 }

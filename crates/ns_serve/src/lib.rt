@@ -8,6 +8,7 @@ mod fault;
 mod guests;
 mod house;
 mod keeper;
+mod leaving;
 mod opening;
 mod seating;
 mod secret;

@@ -16,6 +16,8 @@ pub struct Service {
     pub connections: u64,
     /// After how many connections it ends, from 1 on. None: never.
     pub accept: Option<u64>,
+    /// How many seconds a client may leave its connection idle, from 1 on: the server then closes it. None: no bound.
+    pub idle: Option<u64>,
     /// How many entries the log has at most, from 1 on.
     pub log_limit: u64,
     /// With how many entries the log is rotated, from 1 on and below the limit. None: never.

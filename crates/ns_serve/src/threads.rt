@@ -204,6 +204,7 @@ pub fn host<
         tickets: Tickets::new(service.accept),
         guests: Guests::new(draws.len() as u64),
         start: Start::new(),
+        idle: service.idle,
     };
     match prepare(rt, alloc, shared, service.workers, draws) {
         Ok((jobs, seat)) => run(rt, alloc, &house, jobs, seat, keeper),

@@ -83,13 +83,21 @@ fn alone_with_pools_and_quotas(rt: HostRuntime) {
     assert!(rt; is_alone(&both, 1, &["east", "p-1", "east"], &["q_2", "qa"]));
 }
 
-/// Whether this server is asked for, with these workers, connections, connections to accept, entries, and entries and bytes to
-/// rotate at.
+/// Whether this server is asked for, with these workers, connections, connections to accept, idle seconds, entries, and entries and
+/// bytes to rotate at.
 fn is_serve(
     wanted: &Wanted,
     address: SocketAddr,
     bootstrap: Option<&str>,
-    numbers: (u64, u64, Option<u64>, u64, Option<u64>, Option<u64>),
+    numbers: (
+        u64,
+        u64,
+        Option<u64>,
+        Option<u64>,
+        u64,
+        Option<u64>,
+        Option<u64>,
+    ),
 ) -> bool {
     match wanted {
         Wanted::Serve(service) => {
@@ -103,6 +111,7 @@ fn is_serve(
                     service.workers,
                     service.connections,
                     service.accept,
+                    service.idle,
                     service.log_limit,
                     service.rotate,
                     service.rotate_bytes,
@@ -116,7 +125,14 @@ fn is_serve(
 fn serve(rt: HostRuntime) {
     let local = SocketAddr::from((Ipv4Addr::LOCALHOST, 4646));
     let plain = read(rt.alloc(), &["nsd", "serve", "--listen", "127.0.0.1:4646"]);
-    assert!(rt; is_serve(&plain, local, None, (2, 4, None, 1_000_000, None, None)));
+    assert!(rt;
+        is_serve(
+            &plain,
+            local,
+            None,
+            (2, 4, None, None, 1_000_000, None, None)
+        )
+    );
     let least = read(
         rt.alloc(),
         &[
@@ -127,12 +143,20 @@ fn serve(rt: HostRuntime) {
             "--workers=1",
             "--connections=1",
             "--accept=1",
+            "--idle=1",
             "--log-limit=1",
             "--listen=[::1]:0",
         ],
     );
     let free = SocketAddr::from((Ipv6Addr::LOCALHOST, 0));
-    assert!(rt; is_serve(&least, free, Some("root"), (1, 1, Some(1), 1, None, None)));
+    assert!(rt;
+        is_serve(
+            &least,
+            free,
+            Some("root"),
+            (1, 1, Some(1), Some(1), 1, None, None)
+        )
+    );
     let most = read(
         rt.alloc(),
         &[
@@ -144,6 +168,8 @@ fn serve(rt: HostRuntime) {
             "64",
             "--accept",
             "18446744073709551615",
+            "--idle",
+            "86400",
             "--log-limit",
             "18446744073709551615",
             "--rotate",
@@ -163,6 +189,7 @@ fn serve(rt: HostRuntime) {
                 63,
                 64,
                 Some(u64::MAX),
+                Some(86_400),
                 u64::MAX,
                 Some(u64::MAX - 1),
                 Some(u64::MAX)

@@ -48,6 +48,13 @@ Usage: nsd <COMMAND>
 For more information, try '--help'.
 ";
 
+const BAD_IDLE: &str = "error: a connection may be idle for 1 to 86400 seconds
+
+Usage: nsd <COMMAND>
+
+For more information, try '--help'.
+";
+
 const BAD_LOG_LIMIT: &str = "error: the limit of the log is a decimal number from 1 on, below 2^64
 
 Usage: nsd <COMMAND>
@@ -104,6 +111,9 @@ fn bad_words_of_serve(rt: HostRuntime) {
     for word in ["--accept=0", "--accept=+1", "--accept=18446744073709551616"] {
         assert!(rt; is_bad(alloc, word, BAD_ACCEPT));
     }
+    for word in ["--idle=0", "--idle=86401", "--idle=1.5", "--idle="] {
+        assert!(rt; is_bad(alloc, word, BAD_IDLE));
+    }
     for word in [
         "--log-limit=0",
         "--log-limit=1e6",
@@ -129,47 +139,50 @@ fn bad_words_of_serve(rt: HostRuntime) {
 }
 
 pub(crate) const HELP: &str =
-    "Serves HTTP/1.1 over TCP: many connections and many workers at once, on one log
+    "Runs the server on a TCP port: HTTP/1.1, many connections and workers at once
 
 Usage: nsd serve [OPTIONS] --listen <ADDR>
 
 Options:
-      --listen <ADDR>       Where to listen: an IP address and a port, as 127.0.0.1:4646 or [::1]:0
-      --bootstrap <SECRET>  The secret of the first management token: drawn and printed without this word
-      --workers <N>         How many workers there are, 1 to 63: 2 without this word
-      --connections <N>     How many connections are served at once, 1 to 64: 4 without this word
-      --accept <N>          After how many connections to end: never without this word
-      --log-limit <N>       How many entries the log may have: 1000000 without this word
-      --rotate <N>          With how many entries the log is given out, below its limit: never without this word
-      --rotate-bytes <B>    Past how many bytes of text the log is given out as well, beside --rotate
+      --listen <ADDR>       Address to listen on: an IP address and a port, as 127.0.0.1:4646 or [::1]:0
+      --bootstrap <SECRET>  Secret of the first management token (default: drawn at random and printed)
+      --workers <N>         Number of workers, 1 to 63 (default: 2)
+      --connections <N>     Number of connections served at once, 1 to 64 (default: 4)
+      --accept <N>          Number of connections after which the server ends (default: none, it runs on)
+      --idle <SECONDS>      Number of seconds after which an idle connection is closed, 1 to 86400 (default: never)
+      --log-limit <N>       Number of entries that the log may have (default: 1000000)
+      --rotate <N>          Number of entries at which the log is written out, below its limit (default: never)
+      --rotate-bytes <B>    Number of bytes of text past which it is written out as well, with --rotate only
   -h, --help                Print help
 
-A connection carries one HTTP/1.1 request after another, each answered as `pipe` answers it. Workers
-place what is ready, in threads of their own, and one thread applies their plans in turn.
-With --accept the server ends once so many connections have ended, and then holds what each thread
-was answered against the log.
-Without --rotate the server answers `log full` for ever once the log has as many entries as it may.
-With --rotate N it writes the log to standard output whenever it has N entries, and begins it anew;
-with --rotate-bytes B also whenever they have more than B bytes of text.
+Each connection carries HTTP/1.1 requests, one after another. Workers place jobs, in threads of their
+own, and one thread applies their plans, one at a time.
+With --accept the server ends after so many connections, and then checks its log against what each
+thread was answered.
+With --idle N it closes a connection whose client sends nothing, or reads nothing, for N seconds. Use
+it: without it, as many silent clients as --connections keep all others waiting.
+Without --rotate each request is answered 503 `log full` once the log is full.
+With --rotate N the server writes the log to standard output at N entries, and begins a new one; with
+--rotate-bytes B also when the entries have more than B bytes of text.
 
 Example:
-  nsd serve --listen 127.0.0.1:4646 --bootstrap root --rotate 100000 > nsd.log
+  nsd serve --listen 127.0.0.1:4646 --bootstrap root --rotate 100000 --idle 60 > nsd.log
   curl -H 'X-Nomad-Token: root' http://127.0.0.1:4646/v1/jobs
 
-Standard error gets
-  listening ADDR    where the server listens, once it does
-  bootstrap SECRET  the secret of the first management token, where it was drawn
-  log limit N       without --rotate and --accept: that the server stops with a full log
+Standard error:
+  listening ADDR    the address, once the server listens
+  bootstrap SECRET  the secret of the first management token, if it was drawn
+  log limit N       without --rotate and --accept: a log of N entries stops the server
   settled K         with --accept: the log has K entries, which are what the threads were answered
   mismatch          with --accept: the log is not what the threads were answered
-Standard output gets the log, as `pipe --print log` prints it: with --rotate in segments meanwhile,
-and with --accept at the end, or what was not written by then.
+Standard output: the log, in the format of `pipe --print log`. With --rotate it comes piece by piece;
+with --accept the rest comes at the end.
 
 Exit statuses:
   0  served and settled
   1  mismatch
-  2  bad words
+  2  bad arguments
   3  the address cannot be bound, a connection cannot be accepted, or there are no random bits
   4  the output failed
-  5  out of memory, or no thread could be made
+  5  out of memory, or a thread could not be started
 ";

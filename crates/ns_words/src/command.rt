@@ -18,39 +18,40 @@ const EXAMPLE: &str = "Example:
 const STATUSES: &str = "Exit statuses:
   0  pipe: served to the end; serve: served and settled; alone: same
   1  serve: mismatch; alone: differs, a premise fails, or not a run
-  2  bad words; alone: or a bad log
-  3  the input failed; pipe: or ended inside a request; serve: no address or no connection
+  2  bad arguments; alone: or a bad log
+  3  the input failed; pipe: or it ended inside a request; serve: no address or no connection
   4  the output failed
-  5  out of memory; serve: or no thread could be made";
+  5  out of memory; serve: or a thread could not be started";
 
 const ALONE: &str = "\
-The log stands on standard input, as `pipe --print log` prints it. After COUNT entries, what is the
-namespace's own is done again by a server that holds nobody else.
+Standard input is a log, as `serve` and `pipe --print log` print it. The first COUNT entries set up the
+server; from there on the namespace's own steps are repeated by a server that holds nobody else.
 
-Its pools and quotas are those of --pool and --quota. Its own is what is asked in the namespace or
-of its pools, with any token, and what workers did for it; and what administrators ask of its
-record, within these pools and quotas, of its pools, of its quotas, or of policies and tokens.
+--pool and --quota name the pools and quotas that the namespace has to itself. Its own steps are the
+requests in the namespace or for its pools, with any token; what workers did for it; and requests of
+administrators for its record (within these pools and quotas), its pools, its quotas, or for policies
+and tokens.
 
 Promised: a namespace that has these pools and quotas to itself gets the same replies alone.
-To be kept, from COUNT on:
+What must hold, from COUNT on:
   no other namespace may use one of the pools or names one of the quotas
   the namespace is confined to these pools and names no other quota
-  nothing of it runs or waits in another pool
+  none of its jobs runs or waits in another pool
   no put of its record, pools or quotas is refused because a table of the server is full
 Administrators may change its record, its quotas, its pools, policies and tokens meanwhile.
-Not promised: how long it takes, replies to what is not its own, anything where this is not kept.
+Not promised: how long a step takes, replies to steps that are not its own, anything once one fails.
 
-Printed: place in the log, status and body of each step that is done again, and at the end
+Printed: place in the log, status and body of each repeated step, and at the end
   same                each reply is the one in the log
-  differs at P        alone, the reply at place P is another
-  premise fails at P  what is to be kept does not hold before or after place P
-  not a run at P      no server does what stands at place P with that reply
-  bad log line L      nothing else is printed, since line L is no line of a log
+  differs at P        alone, the reply at place P is a different one
+  premise fails at P  one of the conditions above does not hold before or after place P
+  not a run at P      no server gives the reply that stands at place P
+  bad log line L      line L is no line of a log; nothing else is printed
 
 Exit statuses:
   0  same
   1  differs at P, premise fails at P or not a run at P
-  2  bad words, or bad log line L
+  2  bad arguments, or bad log line L
   3  the input failed
   4  the output failed
   5  out of memory";
@@ -85,7 +86,7 @@ fn print<'a>(alloc: Global) -> Arg<'a>
     Arg::new(alloc, "print")
         .long("print")
         .value_name("WHAT")
-        .help("What standard output gets: `replies`, as without this word, or `log`, what was done")
+        .help("What standard output gets: `replies` or `log` (default: replies)")
 }
 
 fn namespace<'a>(alloc: Global) -> Arg<'a>
@@ -105,7 +106,7 @@ fn from<'a>(alloc: Global) -> Arg<'a>
     Arg::new(alloc, "from")
         .long("from")
         .value_name("COUNT")
-        .help("How many entries of the log set up the server first: 0 without this word")
+        .help("Number of entries of the log that set up the server first (default: 0)")
 }
 
 fn pool<'a>(alloc: Global) -> Arg<'a>
@@ -117,8 +118,8 @@ fn pool<'a>(alloc: Global) -> Arg<'a>
         .value_name("NAME")
         .action(ArgAction::Append)
         .help(
-            "A pool that the namespace is to have to itself, once for each: without --pool and \
-             --quota, those that it may use after COUNT entries",
+            "A pool that the namespace has to itself; repeat it for each (default without --quota: \
+             the pools that it may use after COUNT entries)",
         )
 }
 
@@ -131,8 +132,8 @@ fn quota<'a>(alloc: Global) -> Arg<'a>
         .value_name("NAME")
         .action(ArgAction::Append)
         .help(
-            "A quota that it is to have to itself, once for each: without --pool and --quota, the \
-             one that it names after COUNT entries",
+            "A quota that it has to itself; repeat it for each (default without --pool: the one that \
+             it names after COUNT entries)",
         )
 }
 
@@ -143,7 +144,7 @@ fn bare_pipe<'a>(alloc: Global) -> Command<'a>
 {
     Command::new(alloc, "pipe")
         .about(
-            "Serves standard input as one HTTP/1.1 connection, with the replies on standard output",
+            "Answers standard input as one HTTP/1.1 connection, with the replies on standard output",
         )
         .after_help(EXAMPLE)
 }
@@ -163,7 +164,9 @@ fn bare_alone<'a>(alloc: Global) -> Command<'a>
     ensures local { (out-Command result).has_globals ≡ false }
 {
     Command::new(alloc, "alone")
-        .about("Replays a namespace's own part of a log alone, and says whether all went the same")
+        .about(
+            "Replays a namespace's own steps of a log alone, and says whether each reply is the same",
+        )
         .after_help(ALONE)
 }
 

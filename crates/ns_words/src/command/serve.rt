@@ -9,34 +9,36 @@ use clap::{Arg, Command};
 use std::alloc::{AllocError, Global};
 
 const SERVE: &str = "\
-A connection carries one HTTP/1.1 request after another, each answered as `pipe` answers it. Workers
-place what is ready, in threads of their own, and one thread applies their plans in turn.
-With --accept the server ends once so many connections have ended, and then holds what each thread
-was answered against the log.
-Without --rotate the server answers `log full` for ever once the log has as many entries as it may.
-With --rotate N it writes the log to standard output whenever it has N entries, and begins it anew;
-with --rotate-bytes B also whenever they have more than B bytes of text.
+Each connection carries HTTP/1.1 requests, one after another. Workers place jobs, in threads of their
+own, and one thread applies their plans, one at a time.
+With --accept the server ends after so many connections, and then checks its log against what each
+thread was answered.
+With --idle N it closes a connection whose client sends nothing, or reads nothing, for N seconds. Use
+it: without it, as many silent clients as --connections keep all others waiting.
+Without --rotate each request is answered 503 `log full` once the log is full.
+With --rotate N the server writes the log to standard output at N entries, and begins a new one; with
+--rotate-bytes B also when the entries have more than B bytes of text.
 
 Example:
-  nsd serve --listen 127.0.0.1:4646 --bootstrap root --rotate 100000 > nsd.log
+  nsd serve --listen 127.0.0.1:4646 --bootstrap root --rotate 100000 --idle 60 > nsd.log
   curl -H 'X-Nomad-Token: root' http://127.0.0.1:4646/v1/jobs
 
-Standard error gets
-  listening ADDR    where the server listens, once it does
-  bootstrap SECRET  the secret of the first management token, where it was drawn
-  log limit N       without --rotate and --accept: that the server stops with a full log
+Standard error:
+  listening ADDR    the address, once the server listens
+  bootstrap SECRET  the secret of the first management token, if it was drawn
+  log limit N       without --rotate and --accept: a log of N entries stops the server
   settled K         with --accept: the log has K entries, which are what the threads were answered
   mismatch          with --accept: the log is not what the threads were answered
-Standard output gets the log, as `pipe --print log` prints it: with --rotate in segments meanwhile,
-and with --accept at the end, or what was not written by then.
+Standard output: the log, in the format of `pipe --print log`. With --rotate it comes piece by piece;
+with --accept the rest comes at the end.
 
 Exit statuses:
   0  served and settled
   1  mismatch
-  2  bad words
+  2  bad arguments
   3  the address cannot be bound, a connection cannot be accepted, or there are no random bits
   4  the output failed
-  5  out of memory, or no thread could be made";
+  5  out of memory, or a thread could not be started";
 
 fn listen<'a>(alloc: Global) -> Arg<'a>
     ensures rule { rule_of result ≡ listen_rule }
@@ -46,7 +48,7 @@ fn listen<'a>(alloc: Global) -> Arg<'a>
         .long("listen")
         .value_name("ADDR")
         .required(true)
-        .help("Where to listen: an IP address and a port, as 127.0.0.1:4646 or [::1]:0")
+        .help("Address to listen on: an IP address and a port, as 127.0.0.1:4646 or [::1]:0")
 }
 
 /// The option of this name, which may be left out.
@@ -68,7 +70,7 @@ fn bootstrap<'a>(alloc: Global) -> Arg<'a>
         alloc,
         "bootstrap",
         "SECRET",
-        "The secret of the first management token: drawn and printed without this word",
+        "Secret of the first management token (default: drawn at random and printed)",
     )
 }
 
@@ -80,7 +82,7 @@ fn workers<'a>(alloc: Global) -> Arg<'a>
         alloc,
         "workers",
         "N",
-        "How many workers there are, 1 to 63: 2 without this word",
+        "Number of workers, 1 to 63 (default: 2)",
     )
 }
 
@@ -92,7 +94,7 @@ fn connections<'a>(alloc: Global) -> Arg<'a>
         alloc,
         "connections",
         "N",
-        "How many connections are served at once, 1 to 64: 4 without this word",
+        "Number of connections served at once, 1 to 64 (default: 4)",
     )
 }
 
@@ -104,7 +106,19 @@ fn accept<'a>(alloc: Global) -> Arg<'a>
         alloc,
         "accept",
         "N",
-        "After how many connections to end: never without this word",
+        "Number of connections after which the server ends (default: none, it runs on)",
+    )
+}
+
+fn idle<'a>(alloc: Global) -> Arg<'a>
+    ensures rule { rule_of result ≡ option_rule (codes "idle") }
+    ensures local { result.global ≡ false }
+{
+    option(
+        alloc,
+        "idle",
+        "SECONDS",
+        "Number of seconds after which an idle connection is closed, 1 to 86400 (default: never)",
     )
 }
 
@@ -116,7 +130,7 @@ fn log_limit<'a>(alloc: Global) -> Arg<'a>
         alloc,
         "log-limit",
         "N",
-        "How many entries the log may have: 1000000 without this word",
+        "Number of entries that the log may have (default: 1000000)",
     )
 }
 
@@ -128,7 +142,7 @@ fn rotate<'a>(alloc: Global) -> Arg<'a>
         alloc,
         "rotate",
         "N",
-        "With how many entries the log is given out, below its limit: never without this word",
+        "Number of entries at which the log is written out, below its limit (default: never)",
     )
 }
 
@@ -140,7 +154,7 @@ fn rotate_bytes<'a>(alloc: Global) -> Arg<'a>
         alloc,
         "rotate-bytes",
         "B",
-        "Past how many bytes of text the log is given out as well, beside --rotate",
+        "Number of bytes of text past which it is written out as well, with --rotate only",
     )
 }
 
@@ -150,7 +164,7 @@ fn bare<'a>(alloc: Global) -> Command<'a>
     ensures local { (out-Command result).has_globals ≡ false }
 {
     Command::new(alloc, "serve")
-        .about("Serves HTTP/1.1 over TCP: many connections and many workers at once, on one log")
+        .about("Runs the server on a TCP port: HTTP/1.1, many connections and workers at once")
         .after_help(SERVE)
 }
 
@@ -163,6 +177,7 @@ pub fn serve<'a>(alloc: Global) -> Result<Command<'a>, AllocError>
     let command = command.arg(workers(alloc))?;
     let command = command.arg(connections(alloc))?;
     let command = command.arg(accept(alloc))?;
+    let command = command.arg(idle(alloc))?;
     let command = command.arg(log_limit(alloc))?;
     let command = command.arg(rotate(alloc))?;
     command.arg(rotate_bytes(alloc))

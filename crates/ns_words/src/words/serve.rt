@@ -10,7 +10,7 @@ use crate::words::pipe::BAD_SECRET;
 use crate::words::value::{given, refused};
 use clap::error::ErrorKind;
 use clap::{ArgMatches, Command, Error};
-use ns_given::{accept, connections, log_limit, rotate, rotate_bytes, secret, workers};
+use ns_given::{accept, connections, idle, log_limit, rotate, rotate_bytes, secret, workers};
 use ns_serve::Service;
 use std::alloc::Global;
 use std::net::SocketAddr;
@@ -23,6 +23,8 @@ const BAD_CONNECTIONS: &str = "1 to 64 connections are served at once";
 
 const BAD_ACCEPT: &str =
     "the connections to be accepted are a decimal number from 1 on, below 2^64";
+
+const BAD_IDLE: &str = "a connection may be idle for 1 to 86400 seconds";
 
 const BAD_LOG_LIMIT: &str = "the limit of the log is a decimal number from 1 on, below 2^64";
 
@@ -60,6 +62,9 @@ pub fn serve_given(
     let Some(accept) = accept(given(matches, "serve", "accept")) else {
         return Err(refused(command, BAD_ACCEPT));
     };
+    let Some(idle) = idle(given(matches, "serve", "idle")) else {
+        return Err(refused(command, BAD_IDLE));
+    };
     let Some(log_limit) = log_limit(given(matches, "serve", "log-limit")) else {
         return Err(refused(command, BAD_LOG_LIMIT));
     };
@@ -75,6 +80,7 @@ pub fn serve_given(
         workers,
         connections,
         accept,
+        idle,
         log_limit,
         rotate,
         rotate_bytes,
