@@ -25,6 +25,8 @@ import sys
 import tempfile
 
 sys.dont_write_bytecode = True
+# A stored document nests 1,000 deep.
+sys.setrecursionlimit(10_000)
 
 import plays
 from conversations import TOP, conversations, reply, request, stored
