@@ -57,9 +57,9 @@ struct Behind<'a, R: Wait> {
 impl<'a, R: Wait> Keep for Behind<'a, R> {
     ghost takes = { λ _ _ _. Unit {0} };
 
-    fn keep(&mut self, _alloc: Global, segment: Segment) {
+    fn keep(&mut self, _alloc: Global, segment: Segment) -> Option<Segment> {
         self.dam.pass(self.rt);
-        drop(segment);
+        Some(segment)
     }
 }
 

@@ -27,6 +27,8 @@ mod server;
 #[cfg(test)]
 mod serving;
 #[cfg(test)]
+mod spending;
+#[cfg(test)]
 mod stopping;
 #[cfg(test)]
 mod visits;

@@ -1,6 +1,6 @@
 //! What becomes of the segments of a server's log.
 
-ghost use Rattle.std.specs.Prelude.{◌≡◌, ◌++◌, [], ◌∷◌, None, true};
+ghost use Rattle.std.specs.Prelude.{◌≡◌, ◌++◌, [], ◌∷◌, IfNone, IfSome, None, true};
 ghost use Rattle.ns_http.specs.Counts.{HasGrown};
 ghost use Rattle.ns_serve.specs.Keeping.{IsTaken, WritesBy, text_of};
 
@@ -63,21 +63,24 @@ fn write_next<W: Write>(
     write_segment(alloc, secret, segment.start(), segment.entries(), writer).err()
 }
 
-/// Keeps the segment, where segments are kept and none is missing. Whether none is missing then.
-fn store(segments: &mut Vec<Segment>, segment: Segment, keeps: bool) -> bool
-    ensures { result ≡ true → segments.new.items ≡ segments.old.items ++ segment ∷ [] }
+/// Keeps the segment, where segments are kept and none is missing. Otherwise, and where there is no memory for it, it comes back.
+fn store(segments: &mut Vec<Segment>, segment: Segment, keeps: bool) -> Option<Segment>
+    ensures kept { IfNone result (segments.new.items ≡ segments.old.items ++ segment ∷ []) }
+    ensures back { IfSome result (λ back. back ≡ segment) }
 {
     if !keeps {
-        drop(segment);
-        return false;
+        return Some(segment);
     }
-    segments.push(segment).is_ok()
+    match segments.push(segment) {
+        Ok(()) => None,
+        Err(refused) => Some(refused.value),
+    }
 }
 
 impl<W: Write> Keep for Keeper<W> {
     ghost takes = { λ old segment new. IsTaken W.contents old segment new };
 
-    fn keep(&mut self, alloc: Global, segment: Segment) {
+    fn keep(&mut self, alloc: Global, segment: Segment) -> Option<Segment> {
         let Keeper {
             secret,
             writer,
@@ -87,6 +90,8 @@ impl<W: Write> Keep for Keeper<W> {
             is_whole,
         } = self;
         *fault = write_next(alloc, secret, &segment, *fault, writer);
-        *is_whole = store(segments, segment, *keeps && *is_whole) && *is_whole;
+        let back = store(segments, segment, *keeps && *is_whole);
+        *is_whole = back.is_none() && *is_whole;
+        back
     }
 }
