@@ -1,2 +1,3 @@
 pub mod Holdings
 pub mod Uncounted
+pub mod Steps

@@ -13,6 +13,7 @@ use Rattle.ns_api.specs.Cores.{ServedByHeld, history_of}
 use Rattle.ns_api.specs.Following.{driver_of}
 use Rattle.ns_api.specs.declared.following.Driven.{Driven}
 use Rattle.ns_api.specs.declared.following.Driver.{Driver}
+use Rattle.ns_written.specs.Readable.{AreAsRead, IsReadBack}
 use Rattle.ns_pipe.specs.Ending.{IsEnd}
 use Rattle.ns_faults.specs.Lines.{FailsToWrite}
 use Rattle.ns_pipe.specs.declared.logging.TheConstants.{LOG_LIMIT}
@@ -38,19 +39,24 @@ module _ {D R W V : Type 0} (draws : D → List ℕ → D → Type 0) (remaining
 
   -- from that server: the reader and what takes the replies, each before and after
   module _ (old : Holding History D Driver) (reader reader' : Counted R) (replies replies' : Counted V) where
+    -- The text of the log is read back as that log, and so has no bad line, where each policy that the log put at first has the
+    -- rules that its text says. A new server's log is empty.
+    abbrev pub HasGoodLines : Name → Holding History D Driver → Type 0
+    HasGoodLines secret last = AreAsRead old.server.log → IsReadBack secret last.server.log
+
     -- served to the end, and the log was written
     abbrev pub LogsServed : Name → Counted W → Counted W → Type 0
     LogsServed secret writer writer' = (end : End) × (last : Holding History D Driver)
         × IsLogged old last reader reader' replies replies' end
         × EndsWell end (remaining reader'.inner) reader'.counts
-        × WritesAll contents writer writer' (log_text secret last.server.log)
+        × WritesAll contents writer writer' (log_text secret last.server.log) × HasGoodLines secret last
 
     -- served up to a fault of the reader, and the log was written
     abbrev pub LogsToReadFault : Name → Counted W → Counted W → Type 0
     LogsToReadFault secret writer writer' = (end : End) × (last : Holding History D Driver)
         × IsLogged old last reader reader' replies replies' end
         × IsReadFault end (remaining reader'.inner) reader.counts reader'.counts
-        × WritesAll contents writer writer' (log_text secret last.server.log)
+        × WritesAll contents writer writer' (log_text secret last.server.log) × HasGoodLines secret last
 
     -- a first part of the log was written, and then the writer failed
     abbrev pub LogsInPart : Name → Counted W → Counted W → Type 0

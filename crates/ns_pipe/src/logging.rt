@@ -7,6 +7,7 @@ ghost use Rattle.ns_http.specs.Output.{WritesAll};
 ghost use Rattle.ns_pipe.specs.Ending.{IsEnd};
 ghost use Rattle.ns_faults.specs.Lines.{FailsToWrite, TriesToWrite, line_of, status_of};
 ghost use Rattle.ns_pipe.specs.Logging.{LogsInPart, LogsNothing, LogsServed, LogsToReadFault, opened_log};
+ghost use Rattle.ns_written.specs.Readable.{AreAsRead, IsReadBack};
 
 use ns_api::{Api, Driven, Driver, close_held, open_held, serve};
 use ns_asked::Draws;
@@ -15,15 +16,15 @@ use ns_faults::status::{OUT_OF_MEMORY, READ_FAULT, SERVED, WRITE_FAULT};
 use ns_held::Held;
 use ns_held::laws::chain_is_noted;
 use ns_http::{ConnFault, Counted, write_all};
-use ns_log::log_text;
 use ns_types::name::Secret;
+use ns_written::readable_text;
 use std::alloc::Global;
 use std::io::{Read, Write};
 
 /// How many entries the log of a connection has at most.
 pub const LOG_LIMIT: u64 = 1_000_000;
 
-/// Writes the text of the log.
+/// Writes the text of the log, which is read back as that log.
 fn write_log<W: Write>(
     alloc: Global,
     bootstrap: &Secret,
@@ -32,12 +33,14 @@ fn write_log<W: Write>(
 ) -> Result<(), ConnFault>
     ensures written { OnOk result (WritesAll W.contents writer.old writer.new
         (log_text bootstrap.now held.now.log)) }
+    ensures read_back { OnOk result
+        (AreAsRead held.now.log → IsReadBack bootstrap.now held.now.log) }
     ensures failed { IsErrOf result ConnFault.Write → FailsToWrite W.contents writer.old writer.new
         (log_text bootstrap.now held.now.log) }
     ensures memory { IsErrOf result ConnFault.Memory → writer.new ≡ writer.old }
     ensures no_read { result ≢ Err ConnFault.Read }
 {
-    let Ok(text) = log_text(alloc, bootstrap, held.log()) else {
+    let Ok(text) = readable_text(alloc, bootstrap, held.log()) else {
         return Err(ConnFault::Memory);
     };
     match write_all(writer, text.as_str().as_bytes()) {

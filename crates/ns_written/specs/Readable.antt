@@ -8,8 +8,8 @@ use Rattle.ns_json.specs.Replies.{Entry}
 use Rattle.ns_log_read.specs.Lines.{IsAsRead, IsLogOf, answer_fits, step_fits}
 use Rattle.ns_segments.specs.Segments.{Given}
 
--- What the type of an entry keeps of it: its step is within the limits of every step, and its numbers are those of values that
--- a program holds.
+-- What the type of an entry keeps of it: its step is within the limits of every step, and its numbers are those of values
+-- that a program holds.
 pub record IsTyped (e : Entry) : Type 0 where
   pub good : IsGoodStep e.0
   pub step : IsTrue (step_fits e.0)

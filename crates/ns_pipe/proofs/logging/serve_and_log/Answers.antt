@@ -15,7 +15,9 @@ use Rattle.ns_api.specs.Cores.{ServedByHeld, state_of}
 use Rattle.ns_api.specs.Serving.{holding}
 use Rattle.ns_api.specs.declared.following.Driver.{Driver}
 use Rattle.ns_faults.specs.Lines.{FailsToWrite}
+use Rattle.ns_written.specs.Readable.{AreAsRead, IsReadBack}
 use Rattle.ns_pipe.specs.Logging.{IsLogged}
+use Rattle.ns_pipe.proofs.Steps.{log_read}
 use Rattle.ns_pipe.proofs.logging.serve_and_log.Goals as goal
 
 -- what was served stands in the log, since a chain of steps does
@@ -27,9 +29,9 @@ logged : {D R W V : Type 0} (draws : D → List ℕ → D → Type 0) (remaining
 logged draws remaining contents replied old last reader reader' replies replies' end law served =
     record { served = served; noted = law old.server last.server served.run.steps served.run.answers served.run.chain }
 
-on_ok : {T E : Type 0} (r : Result T E) (P Q : Type 0) → (P → Q) → OnOk r P → OnOk r Q
-on_ok (Ok x) P Q f p = f p
-on_ok (Err e) P Q f p = tt
+on_ok : {T E : Type 0} (r : Result T E) (P Q R : Type 0) → (P → Q → R) → OnOk r P → OnOk r Q → OnOk r R
+on_ok (Ok x) P Q R f p q = f p q
+on_ok (Err e) P Q R f p q = tt
 
 same_fault : {T : Type 0} (r : Result T ConnFault) (fault other : ConnFault) → IsErrAnd r (λ y. y ≡ fault) → r ≡ Err other → fault ≡ other
 same_fault (Ok x) fault other is e = absurd is
@@ -40,6 +42,15 @@ written : {W : Type 0} (contents : W → Option (List ℕ)) (writer writer' : Co
     WritesAll contents writer writer' (log_text secret h.log) → WritesAll contents writer writer' (log_text secret t.log)
 written contents writer writer' secret h t same w = subst (λ (x : History). WritesAll contents writer writer' (log_text secret x.log)) same w
 
+-- and is read back, as what the server had at first was
+read_back : {D R W V : Type 0} (draws : D → List ℕ → D → Type 0) (remaining : R → Option (List ℕ)) (contents : W → Option (List ℕ))
+    (replied : V → Option (List ℕ)) (old last : Holding History D Driver) (reader reader' : Counted R) (replies replies' : Counted V) (end : End)
+    (secret : List ℕ) (h : History) → IsLogged draws remaining contents replied old last reader reader' replies replies' end → h ≡ last.server →
+    (AreAsRead h.log → IsReadBack secret h.log) → AreAsRead old.server.log → IsReadBack secret last.server.log
+read_back draws remaining contents replied old last reader reader' replies replies' end secret h l same back read =
+    let all = log_read draws old last (streams_between remaining replied reader reader' replies replies') end l.served l.noted read in
+    subst (λ (x : History). AreAsRead x.log → IsReadBack secret x.log) same back all
+
 failed : {W : Type 0} (contents : W → Option (List ℕ)) (writer writer' : Counted W) (secret : List ℕ) (h t : History) → h ≡ t →
     FailsToWrite contents writer writer' (log_text secret h.log) → FailsToWrite contents writer writer' (log_text secret t.log)
 failed contents writer writer' secret h t same w = subst (λ (x : History). FailsToWrite contents writer writer' (log_text secret x.log)) same w
@@ -47,14 +58,17 @@ failed contents writer writer' secret h t same w = subst (λ (x : History). Fail
 pub returns-in-Ok-clause-served : goal.returns-in-Ok-clause-served
 returns-in-Ok-clause-served g c =
     let h = c.in-Ok.ensures.ok in
-    on_ok c.write_log.result _ _ (λ w. (
+    let l = logged g.D.Draws.draws g.R.Read.remaining g.W.Write.contents g.V.Write.contents (holding c.args.api.now) (holding c.serve.new.api)
+    c.args.reader.now c.serve.new.reader c.args.replies.now c.serve.new.writer h.0 c.chain_is_noted.ensures h.1 in
+    on_ok c.write_log.result _ _ _ (λ w back. (
       h.0,
       holding c.serve.new.api,
-      logged g.D.Draws.draws g.R.Read.remaining g.W.Write.contents g.V.Write.contents (holding c.args.api.now) (holding c.serve.new.api)
-          c.args.reader.now c.serve.new.reader c.args.replies.now c.serve.new.writer h.0 c.chain_is_noted.ensures h.1,
+      l,
       h.2,
       written g.W.Write.contents c.args.writer.now c.write_log.new.writer c.args.bootstrap.now _ _ c.taker.ensures w,
-    )) c.write_log.ensures.written
+      read_back g.D.Draws.draws g.R.Read.remaining g.W.Write.contents g.V.Write.contents (holding c.args.api.now) (holding c.serve.new.api)
+          c.args.reader.now c.serve.new.reader c.args.replies.now c.serve.new.writer h.0 c.args.bootstrap.now _ l c.taker.ensures back,
+    )) c.write_log.ensures.written c.write_log.ensures.read_back
 
 pub returns-in-Ok-clause-write : goal.returns-in-Ok-clause-write
 returns-in-Ok-clause-write g c = λ e.
@@ -69,14 +83,18 @@ returns-in-Ok-clause-write g c = λ e.
 
 pub returns-in_ok-write_log-in-Err-Read-clause-read : goal.returns-in_ok-write_log-in-Err-Read-clause-read
 returns-in_ok-write_log-in-Err-Read-clause-read g c = λ _.
-    let h = c.in-Err-Read.ensures.read (ap Err c.in-Err-Read.field-0-is) in (
+    let h = c.in-Err-Read.ensures.read (ap Err c.in-Err-Read.field-0-is) in
+    let l = logged g.D.Draws.draws g.R.Read.remaining g.W.Write.contents g.V.Write.contents (holding c.args.api.now) (holding c.serve.new.api)
+    c.args.reader.now c.serve.new.reader c.args.replies.now c.serve.new.writer h.0 c.chain_is_noted.ensures h.1 in (
       h.0,
       holding c.serve.new.api,
-      logged g.D.Draws.draws g.R.Read.remaining g.W.Write.contents g.V.Write.contents (holding c.args.api.now) (holding c.serve.new.api)
-          c.args.reader.now c.serve.new.reader c.args.replies.now c.serve.new.writer h.0 c.chain_is_noted.ensures h.1,
+      l,
       h.2,
       written g.W.Write.contents c.args.writer.now c.write_log-in-Err-Read.new.writer c.args.bootstrap.now _ _ c.taker-in-Err-Read.ensures
           c.in_ok-write_log-in-Err-Read.ensures.written,
+      read_back g.D.Draws.draws g.R.Read.remaining g.W.Write.contents g.V.Write.contents (holding c.args.api.now) (holding c.serve.new.api)
+          c.args.reader.now c.serve.new.reader c.args.replies.now c.serve.new.writer h.0 c.args.bootstrap.now _ l c.taker-in-Err-Read.ensures
+          c.in_ok-write_log-in-Err-Read.ensures.read_back,
     )
 
 pub returns-in_err-write_log-in-Err-Read-clause-write : goal.returns-in_err-write_log-in-Err-Read-clause-write
