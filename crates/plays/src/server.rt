@@ -128,16 +128,28 @@ impl<'a> Server<'a> {
         work: Work,
         out: &mut W,
     ) -> anyhow::Result<()> {
-        let step = match work {
-            Work::Dequeue(number) => Step::Dequeue(number),
-            Work::Snap => return self.snap(worker, namespace, out),
-            Work::Submit(place) => Step::Submit(self.seen.find(worker, place)?),
-            Work::Apply => Step::Apply,
-            Work::Finish(place) => Step::Finish(self.seen.find(worker, place)?),
-            Work::Nack => Step::Nack,
-        };
-        let (core, watch) = (&mut self.core, &self.watch);
-        step.tell(core, watch, self.alloc, worker, namespace, out)
+        let alloc = self.alloc;
+        match work {
+            Work::Dequeue(number) => {
+                let step = Step::Dequeue(number);
+                step.tell(&mut self.core, &self.watch, alloc, worker, namespace, out)
+            }
+            Work::Snap => self.snap(worker, namespace, out),
+            Work::Submit(place) => {
+                let step = Step::Submit(self.seen.find(worker, place)?);
+                step.tell(&mut self.core, &self.watch, alloc, worker, namespace, out)
+            }
+            Work::Apply => {
+                Step::Apply.tell(&mut self.core, &self.watch, alloc, worker, namespace, out)
+            }
+            Work::Finish(place) => {
+                let step = Step::Finish(self.seen.find(worker, place)?);
+                step.tell(&mut self.core, &self.watch, alloc, worker, namespace, out)
+            }
+            Work::Nack => {
+                Step::Nack.tell(&mut self.core, &self.watch, alloc, worker, namespace, out)
+            }
+        }
     }
 
     fn looks<W: Write>(
