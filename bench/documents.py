@@ -55,12 +55,24 @@ def no_constant(_):
     raise BadJson
 
 
+def members_of(pairs):
+    """Of a member that is given twice the last one counts, but the first one too has to be text."""
+    json.dumps(pairs, ensure_ascii=False).encode()
+    return dict(pairs)
+
+
 def parsed(text):
     """The value of a JSON text."""
     if depth_of(text) > DEPTH:
         raise BadJson
     try:
-        value = json.loads(text, parse_int=whole_number, parse_float=real_number, parse_constant=no_constant)
+        value = json.loads(
+            text,
+            parse_int=whole_number,
+            parse_float=real_number,
+            parse_constant=no_constant,
+            object_pairs_hook=members_of,
+        )
         json.dumps(value, ensure_ascii=False).encode()
     except (ValueError, RecursionError):
         raise BadJson from None

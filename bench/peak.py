@@ -301,10 +301,12 @@ def is_waiting(number):
 
 def main():
     parser = argparse.ArgumentParser()
-    parser.add_argument("parts", nargs="*", choices=["request", "kept", "log"])
+    parser.add_argument("parts", nargs="*", metavar="PART", help="request, kept or log: all three where none is given")
     parser.add_argument("--most", type=float)
     parser.add_argument("--program", default=os.path.join(TOP, "crates", "nsd", "out", "nsd"))
     words = parser.parse_args()
+    if unknown := set(words.parts) - {"request", "kept", "log"}:
+        parser.error(f"no such part: {', '.join(sorted(unknown))}")
     try:
         for part in words.parts or ["request", "kept", "log"]:
             if part == "request":
