@@ -26,6 +26,7 @@ import random
 import re
 import subprocess
 import sys
+import tempfile
 import time
 from collections import Counter
 
@@ -219,10 +220,9 @@ def connections(program, seed, kind, number, counts):
 
 
 def kept(data):
-    path = f"/tmp/hostile-{os.getpid()}"
-    with open(path, "wb") as file:
+    with tempfile.NamedTemporaryFile(prefix="hostile-", delete=False) as file:
         file.write(data)
-    return path
+    return file.name
 
 
 class Log:
