@@ -70,7 +70,8 @@ static ONE_PLACED: [Shown; 4] = [
     ),
 ];
 
-/// Whether the first worker's plan outlives it, so that it is applied and nobody finishes the evaluation.
+/// Whether the first worker's plan may outlive it. Where it waits when that worker ends, nobody finishes the evaluation; where it was
+/// applied by then, the evaluation is given back, and the other worker finishes it.
 fn leaves_a_plan(plot: Plot) -> bool {
     plot == Plot::Dies(Point::Queued)
 }
@@ -117,12 +118,10 @@ fn expect_ended<L: Ledger, R: Wait + Abort>(
         }
         return;
     }
-    let status = if leaves_a_plan(plot) {
-        "\"Status\":\"pending\""
-    } else {
-        "\"Status\":\"complete\""
-    };
-    expect_shown(rt, alloc, guest, (FIRST_EVALUATION, status, 1));
+    if !leaves_a_plan(plot) {
+        let complete = (FIRST_EVALUATION, "\"Status\":\"complete\"", 1);
+        expect_shown(rt, alloc, guest, complete);
+    }
     for shown in &BOTH_PLACED {
         expect_shown(rt, alloc, guest, *shown);
     }
