@@ -1,4 +1,4 @@
-//! Policies, tokens and rights: whom a secret stands for, and what it may do.
+//! Keeps policies and tokens, and finds whom a secret stands for and what it may do.
 #![tactic(auto)]
 
 mod acl;

@@ -1,4 +1,4 @@
-//! Namespaces, quotas and pools, as administrators ask of them, over the tables of the whole world.
+//! Prepares and answers administrators' requests for namespaces, quotas and pools, over the tables of the whole world.
 #![tactic(auto)]
 
 mod beginning;

@@ -1,5 +1,5 @@
-//! Whether rows say the same, member by member, as the model asks it: keys, what nodes offer, what quotas allow, documents
-//! of jobs, and what replies show of jobs, evaluations and allocations.
+//! Compares rows as the model does, member by member: keys, what nodes offer, what quotas allow, documents of jobs, and what
+//! replies show of jobs, evaluations and allocations.
 #![tactic(auto)]
 
 mod documents;

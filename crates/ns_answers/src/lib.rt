@@ -1,4 +1,4 @@
-//! The answers of all steps as bytes, and room for them that is taken before a step.
+//! Renders the answers of all steps as bytes, and takes room for them before a step.
 #![tactic(auto)]
 
 mod body;

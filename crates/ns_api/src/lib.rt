@@ -1,4 +1,4 @@
-//! From the step that a request asks for to its answer's response, and what follows it.
+//! Makes the step of a request and writes its response, and drives a worker after it.
 #![tactic(auto)]
 
 mod answering;

@@ -1,4 +1,4 @@
-//! What an Apply leaves of the state, row by row. It has laws alone, and no code beside them.
+//! Says, as laws, what an Apply leaves of the state, row by row. It has no code of the program.
 #![tactic(auto)]
 
 pub mod laws;

@@ -1,4 +1,4 @@
-//! The plan applier: the plan that is served is checked against the present state, and what stands of it is done.
+//! Applies the next plan: checks it against the present state, and does what still fits.
 //! Nomad's page "Scheduling in Nomad", of the plan queue.
 #![tactic(auto)]
 

@@ -1,6 +1,6 @@
-//! What an Apply writes of a plan, once it is known which nodes do their part: the live stops, the victims and the
+//! Computes what an Apply writes of a plan, once it is known which nodes do their part: the live stops, the victims and the
 //! placements of these nodes, evaluations of the jobs that lose an allocation by preemption, the worker's row, and the
-//! answer. Each part is one function of the model, over whatever change stands.
+//! reply. Each part is one function of the model, over whatever change stands.
 #![tactic(auto)]
 
 mod answering;

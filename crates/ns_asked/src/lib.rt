@@ -1,4 +1,4 @@
-//! From a request to the step that it asks for.
+//! Finds the step that a request asks for, and draws the random bits that it needs.
 #![tactic(auto)]
 
 mod asking;

@@ -1,7 +1,7 @@
-//! Whether a step would pass the bound of a counter.
+//! Decides whether a step would pass the bound of a counter.
 //!
-//! `is_past_bound` asks it of any step, by its change. `given_room_passes` and `given_limits_pass` ask it of a step that gives
-//! one thing and does nothing else, before it is a change. None of them takes memory. Their work grows with what the step
+//! `is_past_bound` decides it for any step, by its change. `given_room_passes` and `given_limits_pass` decide it for a step that
+//! gives one thing and does nothing else, before it is a change. None of them takes memory. Their work grows with what the step
 //! changes alone. Only where an index ever was at its bound, all blocked evaluations are looked at.
 #![tactic(auto)]
 

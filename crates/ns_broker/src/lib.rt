@@ -1,6 +1,6 @@
-//! The evaluation broker: which evaluation is served next, and the steps in which a worker takes one, looks, hands in
-//! its plan, and gives it back.
-//! Each step is a command over the tables: what it answers and changes, or that it is not enabled.
+//! Finds the next evaluation, and prepares the steps in which a worker dequeues it, takes its snapshot, submits its plan, and
+//! gives it back.
+//! Each step is a command over the tables: what it replies and changes, or that it is not enabled.
 #![tactic(auto)]
 
 pub mod laws;

@@ -1,4 +1,4 @@
-//! Steps made one after the other by a server whose value stands for a state of the model and may keep more than that, such
+//! Makes steps one after the other on a server whose value stands for a state of the model and may keep more than that, such
 //! as a log.
 #![tactic(auto)]
 

@@ -1,4 +1,4 @@
-//! What a step changes, as one value: by owner the rows that it writes or takes away, the numbers that it gives, the
+//! Holds what a step changes, as one value: by owner the rows that it writes or takes away, the numbers that it gives, the
 //! records that it puts over those of quotas, and what leaves each of the three lists and what is put at its end. Its
 //! meaning is `changed`, from the world before to the world that the step itself makes. The tables are read and never
 //! written here. So a step that is refused, or finds no memory, lets its change go, and nothing has happened.

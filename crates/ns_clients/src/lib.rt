@@ -1,4 +1,4 @@
-//! Connections with a server that threads share.
+//! Answers a connection by steps of a server that threads share.
 #![tactic(auto)]
 
 mod chair;

@@ -1,4 +1,4 @@
-//! Copies of the tables: of all of them, or of what one namespace has. Vacant slots and room are not copied, and what many
+//! Copies the tables: all of them, or what one namespace has. Vacant slots and room are not copied, and what many
 //! owners share is shared once more.
 #![tactic(auto)]
 

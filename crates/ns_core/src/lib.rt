@@ -1,4 +1,4 @@
-//! The server as one value: each call is a step of the model.
+//! Is the server as one value: each call is a step of the model.
 #![tactic(auto)]
 
 mod administration;

@@ -1,4 +1,4 @@
-//! The documents of namespaces, quotas, pools, policies and tokens, and those of nodes.
+//! Reads the documents of namespaces, quotas, pools, policies and tokens, and those of nodes.
 #![tactic(auto)]
 
 mod namespace;

@@ -1,4 +1,4 @@
-//! Where a server's connections come in: a listener that another thread can shut.
+//! Listens on a TCP port, until another thread shuts it.
 #![tactic(auto)]
 
 mod door;

@@ -1,4 +1,4 @@
-//! One worker of the server, driven: it takes what is ready, plans it, has its plans applied, and finishes.
+//! Drives one worker: it takes the next ready evaluation, plans it, has its plan applied, and finishes it.
 #![tactic(auto)]
 
 mod driving;

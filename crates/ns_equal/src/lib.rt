@@ -1,4 +1,4 @@
-//! Whether two values are the same in every part, asked without memory.
+//! Compares two snapshots in every part, without taking memory.
 #![tactic(auto)]
 
 mod equal;

@@ -1,4 +1,4 @@
-//! The last events of a namespace.
+//! Keeps the last hundred events of a namespace, in a ring.
 #![tactic(auto)]
 
 mod copying;

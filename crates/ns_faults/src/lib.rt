@@ -1,4 +1,4 @@
-//! Faults of a program: its exit statuses, and their lines on standard error.
+//! Names the exit statuses of the program's faults, and writes their lines on standard error.
 #![tactic(auto)]
 
 mod lines;

@@ -1,5 +1,5 @@
-//! A worker finishes its evaluation: the follower that remembers what kept allocations from being placed, and whether it
-//! has missed a release since the snapshot.
+//! Finishes an evaluation: makes the follower that remembers what kept allocations from being placed, and decides whether it
+//! missed a release since the snapshot.
 #![tactic(auto)]
 
 mod ending;

@@ -1,4 +1,4 @@
-//! What the values that are given for the program's arguments say. `clap`, which finds them, is not needed for it.
+//! Reads the values of the program's arguments. It does not need `clap`, which finds them.
 #![tactic(auto)]
 
 mod alone;

@@ -1,4 +1,4 @@
-//! When a step passes the bound of a counter by the allocations that it ends.
+//! Decides when a step that ends allocations would pass the bound of a counter.
 //!
 //! The laws say it of any step, by the worlds before and after it, and of a step that only counts, by the world before
 //! it. `Headroom` judges what ends before anything is written, and with it what is done of a plan is judged but for the

@@ -1,4 +1,4 @@
-//! A server with the log of what it did: each step with its answer as bytes.
+//! Keeps a server with the log of what it did: each step with its answer as bytes.
 #![tactic(auto)]
 
 mod driven;

@@ -1,4 +1,5 @@
-//! Laws of a namespace that has its pools and its quotas to itself. Each is the contract of a function that does nothing.
+//! Says, as laws, what holds of a namespace that has its pools and its quotas to itself. Each is the contract of a function that
+//! does nothing.
 #![tactic(auto)]
 
 pub mod parting;

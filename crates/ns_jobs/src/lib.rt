@@ -1,5 +1,5 @@
-//! What is asked in a namespace, over the tables of the whole world. What changes rows is prepared: a command says what
-//! it answers and what the step itself changes, and writes nothing. What only reads is answered.
+//! Prepares registrations and stops of jobs, and answers all reads in a namespace, over the tables of the whole world. A
+//! command says what it replies and what it changes itself, and writes nothing.
 #![tactic(auto)]
 
 mod allocations;

@@ -1,4 +1,4 @@
-//! Documents and replies as JSON.
+//! Reads registrations, and writes their replies and jobs, as JSON.
 #![tactic(auto)]
 
 mod constraint;

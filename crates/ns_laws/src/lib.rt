@@ -1,4 +1,4 @@
-//! Small laws of the model: that its definitions say what they should. Each is the contract of a function that does
+//! Says, as small laws of the model, that its definitions mean what they should. Each is the contract of a function that does
 //! nothing.
 #![tactic(auto)]
 

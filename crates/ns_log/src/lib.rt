@@ -1,4 +1,4 @@
-//! The text of a log: a line with the bootstrap secret, then one line for each step and its answer.
+//! Writes the text of a log: a line with the bootstrap secret, then one line for each step and its answer.
 #![tactic(auto)]
 
 mod call;

@@ -1,4 +1,4 @@
-//! A log's text, read back: its secret and its entries, or the first bad line.
+//! Reads a log's text back: its secret and its entries, or its first bad line.
 #![tactic(auto)]
 
 mod administered;

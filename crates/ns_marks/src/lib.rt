@@ -1,4 +1,4 @@
-//! Which numbers stand in a list. Those below 1,000, as the places of a pool's nodes are, are looked up at once. It takes
+//! Marks which numbers stand in a list. Those below 1,000, as the places of a pool's nodes are, are looked up at once. It takes
 //! no memory.
 #![tactic(auto)]
 

@@ -1,4 +1,4 @@
-//! Members that several documents have.
+//! Reads members that several administrators' documents have.
 #![tactic(auto)]
 
 ghost use Rattle.std.specs.Prelude.{◌≡◌, [], option_copied};

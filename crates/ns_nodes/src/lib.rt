@@ -1,5 +1,5 @@
-//! Commands on nodes. Each looks at the tables and answers what it comes to, with what it changes itself; settling and
-//! committing that come after, the same for every step. A command by which a counter would pass its bound once it has
+//! Prepares commands on nodes. Each looks at the tables and says what it replies and what it changes itself; settling and
+//! committing come after, the same for every step. A command by which a counter would pass its bound once it has
 //! settled is refused here, before any memory is taken: so want of memory is answered where the step would be made.
 #![tactic(auto)]
 

@@ -1,4 +1,4 @@
-//! The values of a query's parameters, of each name the first one.
+//! Finds the values of a query's parameters, the first one of each name.
 #![tactic(auto)]
 
 ghost use Rattle.std.specs.Prelude.{◌≡◌, IfOk, OnOk, Some};

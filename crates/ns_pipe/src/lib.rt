@@ -1,4 +1,4 @@
-//! What the program does once its words are read: one connection over a reader and a writer.
+//! Runs one connection over a reader and a writer, on a server of its own.
 #![tactic(auto)]
 
 mod asked;

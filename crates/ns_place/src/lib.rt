@@ -1,4 +1,4 @@
-//! Which nodes a job may use, the choice among those with room, and what placing there and giving way there mean.
+//! Finds the nodes that a job may use, chooses the best of those with room, and says what a placement and an eviction do to a node.
 #![tactic(auto)]
 
 mod amounts;

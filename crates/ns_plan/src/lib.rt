@@ -1,4 +1,4 @@
-//! Which parts of a plan are done in the present state. Nomad's page "Scheduling in Nomad", of the plan queue.
+//! Decides which parts of a plan still fit the present state. Nomad's page "Scheduling in Nomad", of the plan queue.
 #![tactic(auto)]
 
 mod after;

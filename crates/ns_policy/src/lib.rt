@@ -1,4 +1,4 @@
-//! The rules of a policy's text.
+//! Reads the rules of a policy's text, in both its forms.
 #![tactic(auto)]
 
 mod fault;

@@ -1,4 +1,4 @@
-//! Which allocations give way to a job of higher priority, where no node has room. Nomad's page "Preemption".
+//! Chooses the allocations to evict for a job of higher priority, where no node has room. Nomad's page "Preemption".
 #![tactic(auto)]
 
 mod costs;

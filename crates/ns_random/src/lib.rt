@@ -1,4 +1,4 @@
-//! Random bits for new tokens and secrets, drawn from generators that the system seeds one by one.
+//! Draws random bits for new tokens and secrets, from generators that the system seeds one by one.
 #![tactic(auto)]
 
 mod random;

@@ -1,4 +1,4 @@
-//! What callers were answered, settled against a log: each entry was answered to one of them, and nothing else was.
+//! Settles what callers were answered against a log: each entry was answered to one of them, and nothing else was.
 #![tactic(auto)]
 
 mod agreement;

@@ -1,8 +1,8 @@
-//! What a step releases, whom that wakes, and which rows it shows otherwise than before, asked of its change and of what was
-//! there before.
+//! Finds what a step releases, which evaluations that wakes, and which rows change as replies show them, from the step's change and
+//! the tables before it.
 //!
-//! Nothing here takes memory, so the same is asked before a step is made, whether a counter would pass its bound, and at its
-//! end. The work grows with what the step changes, never with the tables.
+//! Nothing here takes memory, so the same functions serve before a step is made, to see whether a counter would pass its bound,
+//! and at its end. The work grows with what the step changes, never with the tables.
 #![tactic(auto)]
 
 mod asking;

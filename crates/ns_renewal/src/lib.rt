@@ -1,4 +1,4 @@
-//! Evaluations of the jobs that lose allocations by preemption: each gets one, in whichever namespace it is.
+//! Makes an evaluation for each job that loses allocations with a node or by preemption, in whichever namespace it is.
 #![tactic(auto)]
 
 mod counted;

@@ -1,5 +1,5 @@
-//! A log replayed: all of it by the whole server, and beside that a namespace's own steps by the server that holds the
-//! namespace alone, with its pools and its quotas.
+//! Replays a log: all of it on the whole server, and a namespace's own steps on the server that holds the namespace alone,
+//! with its pools and its quotas.
 #![tactic(auto)]
 
 mod claim;

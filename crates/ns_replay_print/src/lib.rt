@@ -1,5 +1,4 @@
-//! What a log comes to for a namespace alone, as text: the log is read from an input, replayed, and
-//! printed line by line.
+//! Reads a log, replays it for a namespace alone, and prints line by line what it comes to.
 #![tactic(auto)]
 
 mod base;

@@ -1,4 +1,4 @@
-//! Replies as JSON texts, and room for those of writes.
+//! Writes replies as JSON texts, and takes the room of a write's reply before its step.
 #![tactic(auto)]
 
 mod access;

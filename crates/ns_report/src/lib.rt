@@ -1,4 +1,4 @@
-//! What a node's client reports of an allocation, prepared: what the report answers and what the step itself changes.
+//! Prepares what a node's client reports of an allocation: what the report replies, and what it changes itself.
 //! Nothing is written, and a report by which a counter would pass its bound is refused before any memory is taken.
 #![tactic(auto)]
 

@@ -1,4 +1,4 @@
-//! Logs made once more: a server makes the step of each entry, and compares what it answers with what is logged.
+//! Repeats a log: a server makes the step of each entry, and its answer is compared with the one that is logged.
 #![tactic(auto)]
 
 mod replying;

@@ -1,4 +1,4 @@
-//! Tests of the running server in one process: what callers write and read, what their receipts say of the log, and what a server
+//! Tests the running server in one process: what callers write and read, what their receipts say of the log, and what a server
 //! over a port answers and prints.
 #![tactic(auto)]
 

@@ -1,4 +1,4 @@
-//! Runs of a server: any step of the model as one call, and a list of steps as one.
+//! Makes any step of the model by one call, and a list of steps by another.
 #![tactic(auto)]
 
 mod planned;

@@ -1,4 +1,4 @@
-//! The plan of a snapshot: what stops, and where the missing allocations go.
+//! Computes the plan of a snapshot: what stops, and where the missing allocations go.
 #![tactic(auto)]
 
 mod choice;

@@ -1,4 +1,4 @@
-//! Logs that were given out one after the other: whether they follow each other, and what they are together.
+//! Decides whether logs that were given out one after the other follow each other, and joins them.
 #![tactic(auto)]
 
 mod following;

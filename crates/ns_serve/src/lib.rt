@@ -1,4 +1,4 @@
-//! A server on a TCP port, which settles what its threads did against its log when it ends.
+//! Runs a server on a TCP port, and settles what its threads did against its log when it ends.
 #![tactic(auto)]
 
 mod closing;

@@ -1,4 +1,4 @@
-//! The end of a step: what it releases, whom that wakes, and the indexes and events of the rows that changed.
+//! Completes each step: what it releases, whom that wakes, and the indexes and events of the rows that changed.
 //!
 //! `settle` answers all that the step changes: what leads from the world before to the model's `settle` of the world that
 //! the change leaves. It reads the change, and looks up what was there before. Its work grows with what the step changes, and

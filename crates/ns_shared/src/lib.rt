@@ -1,4 +1,4 @@
-//! A server that threads share, with its log. Each caller has a seat, which has what it was answered.
+//! Shares a server and its log between threads. Each caller has a seat, which keeps what it was answered.
 #![tactic(auto)]
 
 mod changes;

@@ -1,4 +1,5 @@
-//! What a namespace may use, and whether it has a list of pools and a list of quotas to itself. Nothing here takes memory.
+//! Decides which pools a namespace may use, whether it has its pools and its quotas to itself, and whether a put finds its table
+//! full. Nothing here takes memory.
 #![tactic(auto)]
 
 ghost use Rattle.std.specs.Prelude.{◌≡◌, option_copied};

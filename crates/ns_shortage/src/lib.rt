@@ -1,4 +1,4 @@
-//! What a follower remembers of the snapshot that it was planned from: the classes of nodes that a constraint rules out
+//! Finds what a follower remembers of the snapshot that it was planned from: the classes of nodes that a constraint rules out
 //! by their class, and whether some constraint looks at more than classes.
 #![tactic(auto)]
 

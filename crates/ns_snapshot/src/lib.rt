@@ -1,6 +1,6 @@
-//! What a worker looks at: one evaluation's part of the state, taken from the tables as it is then. The live allocations
-//! of a node come from the index of them, so no namespace is walked for that but those that have some there. Nodes that
-//! did not change are shared with the snapshots before.
+//! Takes the snapshot that a worker plans from: one evaluation's part of the state, out of the tables as they are then. The live
+//! allocations of a node come from the index of them, so only the namespaces that have some there are visited. Nodes that
+//! did not change are shared with earlier snapshots.
 #![tactic(auto)]
 
 mod owning;

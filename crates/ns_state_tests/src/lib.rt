@@ -1,4 +1,4 @@
-//! Tests of the crates that hold the state and that keep, write and read its log, through their public calls.
+//! Tests, through their public calls, the crates that hold the state and that keep, write and read its log.
 #![tactic(auto)]
 
 #[cfg(test)]

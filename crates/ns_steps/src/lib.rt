@@ -1,4 +1,4 @@
-//! The table of the steps that are served, and what the reply to each holds.
+//! Lists the steps that requests ask for, and what the reply to each holds.
 #![tactic(auto)]
 
 pub mod laws;

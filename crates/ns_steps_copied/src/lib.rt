@@ -1,4 +1,4 @@
-//! Copies of steps and of rendered answers, the same in every part. A copy of a step asks no more than the step itself.
+//! Copies steps and rendered answers. A copy of a step is the same step, in every part.
 #![tactic(auto)]
 
 mod command;

@@ -1,4 +1,4 @@
-//! Whether two steps, or two rendered answers, are the same in every part, asked without memory.
+//! Compares two steps, or two rendered answers, in every part, without taking memory.
 #![tactic(auto)]
 
 mod command;

@@ -1,8 +1,8 @@
-//! Whose turn it is, by look-up: for which namespace a worker is busy, which evaluation is served next, and which blocked ones
-//! wait for what a step releases.
+//! Finds by look-up for which namespace a worker is busy, which evaluation is next, and which blocked evaluations wait for what a
+//! step releases.
 //!
-//! All of it stands in the tables too, and whoever asks may go through them. So an index that can no longer be known to be
-//! right is given up, and the tables are asked. Room is made before a step, and no step takes memory here.
+//! The tables say the same, to whoever goes through them. So an index that is no longer known to be right is given up, and
+//! the tables are searched. Room is made before a step, and no step takes memory here.
 #![tactic(auto)]
 
 mod after;

@@ -1,4 +1,4 @@
-//! What the crates of the server share: the rows of its state, its steps and its answers.
+//! Defines what the crates of the server share: the rows of its state, its steps and its replies, and the whole model.
 #![tactic(auto)]
 
 pub mod acl;

@@ -1,4 +1,4 @@
-//! The present state, as a plan is checked against it: the tables of the world with the index of live allocations.
+//! Shows the present state to the plan applier: the tables of the world with the index of live allocations.
 #![tactic(auto)]
 
 mod checking;

@@ -1,4 +1,4 @@
-//! Tests of the crates that read requests and write replies, of the arguments and of a run by them, through their public calls: what
+//! Tests, through their public calls, the crates that read requests and write replies, the arguments, and a run by them: what
 //! stored lines cannot show, as readers and writers that fail, and texts on standard error. Expected bytes are written from the
 //! formats, not from the program.
 #![tactic(auto)]

@@ -1,4 +1,4 @@
-//! The words that the program is started with, as `clap` finds them: what they ask for, and a run of the program by them.
+//! Reads the program's arguments by `clap`, and runs the program by them.
 #![tactic(auto)]
 
 mod command;

@@ -1,4 +1,4 @@
-//! The steps of workers, by what a worker does.
+//! Names the steps of a worker.
 #![tactic(auto)]
 
 ghost use Rattle.std.specs.Prelude.{◌≡◌};

@@ -1,5 +1,5 @@
-//! Workers that plan side by side, and the one that applies their plans and rotates the log: loops over the calls of a shared
-//! server.
+//! Runs workers that plan side by side, and the applier that applies their plans and rotates the log, as loops over the calls of a
+//! shared server.
 #![tactic(auto)]
 
 mod applying;

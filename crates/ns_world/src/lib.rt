@@ -1,4 +1,4 @@
-//! The tables of the whole world: what namespaces, pools and quotas own, and the lists of evaluations that are ready,
+//! Keeps the tables of the whole world: what namespaces, pools and quotas own, and the lists of evaluations that are ready,
 //! planned and blocked. `world_of` is the world that they hold, without vacant slots and room. Steps are built over
 //! these tables; they are written in one place alone, where a settled change is committed.
 #![tactic(auto)]

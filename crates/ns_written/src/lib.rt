@@ -1,4 +1,4 @@
-//! What is written of a log is read back as that log: it has no bad line.
+//! Says, as laws, that what is written of a log is read back as that log: it has no bad line.
 #![tactic(auto)]
 
 pub mod laws;

@@ -1,4 +1,4 @@
-//! The program `nsd`.
+//! Is the program `nsd`: a scheduling server that tenants who do not trust each other can share.
 #![tactic(auto)]
 
 mod host;
