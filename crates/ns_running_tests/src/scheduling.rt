@@ -70,8 +70,8 @@ static ONE_PLACED: [Shown; 4] = [
     ),
 ];
 
-/// Whether the first worker's plan may outlive it. Where it waits when that worker ends, nobody finishes the evaluation; where it was
-/// applied by then, the evaluation is given back, and the other worker finishes it.
+/// Whether the first worker's plan outlives it. The applier begins behind that worker's end, so the plan still waits when the worker
+/// gives its evaluation back, which is refused then: the plan is applied, and nobody finishes the evaluation.
 fn leaves_a_plan(plot: Plot) -> bool {
     plot == Plot::Dies(Point::Queued)
 }
@@ -118,10 +118,12 @@ fn expect_ended<L: Ledger, R: Wait + Abort>(
         }
         return;
     }
-    if !leaves_a_plan(plot) {
-        let complete = (FIRST_EVALUATION, "\"Status\":\"complete\"", 1);
-        expect_shown(rt, alloc, guest, complete);
-    }
+    let status = if leaves_a_plan(plot) {
+        "\"Status\":\"pending\""
+    } else {
+        "\"Status\":\"complete\""
+    };
+    expect_shown(rt, alloc, guest, (FIRST_EVALUATION, status, 1));
     for shown in &BOTH_PLACED {
         expect_shown(rt, alloc, guest, *shown);
     }
@@ -182,6 +184,9 @@ fn perform<L: Ledger, R: Wait + Clock + Abort>(
     }
     let mut seat = seat(rt, alloc, shared);
     if number == 2 {
+        if leaves_a_plan(meeting.plot) {
+            meeting.wait(rt);
+        }
         applier(rt, alloc, shared, &mut Nowhere, &mut seat);
     } else {
         work(rt, alloc, shared, meeting, number as u64, &mut seat);
