@@ -7,6 +7,8 @@ use anyhow::ensure;
 use ns_core::Core;
 use ns_equal::same_snapshot;
 use ns_http::Request;
+use ns_types::refusal::Refusal;
+use ns_types::reply::Response;
 use ns_types::snapshot::Snapshot;
 use std::alloc::{AllocError, Global};
 use std::io::Write;
@@ -29,13 +31,8 @@ fn copied(alloc: Global, core: &Core) -> Result<Core, AllocError> {
     }
 }
 
-/// Writes what a read of the target is answered.
-fn write_read<W: Write>(
-    alloc: Global,
-    core: &mut Core,
-    target: &str,
-    out: &mut W,
-) -> anyhow::Result<()> {
+/// What a read of the target is answered. One that found no memory is made once more, so that it shows what the core holds.
+fn read(alloc: Global, core: &mut Core, target: &str) -> Result<Response, AllocError> {
     let request = Request {
         method: b"GET",
         target,
@@ -43,7 +40,20 @@ fn write_read<W: Write>(
         body: b"",
     };
     let mut next = 1;
-    let response = answered(alloc, core, &mut next, 0, &request)?;
+    match answered(alloc, core, &mut next, 0, &request)? {
+        Response::Refused(Refusal::Memory) => answered(alloc, core, &mut next, 0, &request),
+        response => Ok(response),
+    }
+}
+
+/// Writes what a read of the target is answered.
+fn write_read<W: Write>(
+    alloc: Global,
+    core: &mut Core,
+    target: &str,
+    out: &mut W,
+) -> anyhow::Result<()> {
+    let response = read(alloc, core, target)?;
     let written = write_response(out, &response);
     drop(response);
     Ok(written?)
