@@ -41,7 +41,10 @@ until answer=$(ask "https://nsd.example.com:$port/v1/jobs" 2> "$folder/refused")
     [ $tries -le 100 ] || { cat "$folder/refused" "$folder/nginx.errors" >&2; echo "the proxy does not serve: $answer" >&2; exit 1; }
     sleep 0.1
 done
-sleep 600 | openssl s_client -connect "127.0.0.1:$port" > "$folder/silent" 2>&1 &
+# Its input is a pipe that this script holds open and never writes.
+mkfifo "$folder/nothing"
+exec 3<> "$folder/nothing"
+openssl s_client -connect "127.0.0.1:$port" < "$folder/nothing" > "$folder/silent" 2>&1 &
 silent=$!
 count=0
 while [ $count -lt 160 ]; do
