@@ -1,7 +1,8 @@
-"""Prints how long `nsd serve` with one worker takes for jobs that come faster than they are placed.
+"""Prints how long `nsd serve` takes for jobs that come faster than they are placed.
 
-    python3 bench/burst.py                 2,000 and 10,000 jobs of one allocation
+    python3 bench/burst.py                 2,000 and 10,000 jobs of one allocation, with one worker
     python3 bench/burst.py 5000            another number of them: thousands, each in a namespace and a pool of its own
+    python3 bench/burst.py --workers 4     with so many workers
 
 All are registered over one connection, one request after the other without waiting for replies. Then it is asked every tenth of a
 second what the nodes use, until all jobs are placed.
@@ -45,8 +46,8 @@ class Connection:
         return replies
 
 
-def burst(number):
-    words = ["./nsd", "serve", "--listen", "127.0.0.1:0", "--bootstrap", "root", "--workers", "1"]
+def burst(number, workers):
+    words = ["./nsd", "serve", "--listen", "127.0.0.1:0", "--bootstrap", "root", "--workers", workers]
     program = subprocess.Popen(words, stdout=subprocess.DEVNULL, stderr=subprocess.PIPE, text=True)
     connection = Connection(program.stderr.readline().split()[1])
     names = [f"t{owner}" for owner in range(number // EACH)]
