@@ -1,5 +1,7 @@
 -- Logs that were given out one after the other.
 use Rattle.std.specs.Prelude.{◌≡◌, ◌≢◌, ◌⊎◌, ℕ, ◌+◌, List, [], ◌∷◌, ◌++◌, flat_map, length}
+use Rattle.ns_types.specs.State.Names.{Name}
+use Rattle.ns_json.specs.Logs.{segment_text}
 use Rattle.ns_json.specs.Replies.{Entry}
 
 -- one of them: how many entries come before it, and its own
@@ -10,6 +12,18 @@ pub record Given : Type 0 where
 -- together, with the log that was not given out
 abbrev pub joined : List Given → List Entry → List Entry
 joined segments log = flat_map (λ s. s.log) segments ++ log
+
+-- the text of one, by the bootstrap secret
+abbrev pub text_of : Name → Given → Name
+text_of secret s = segment_text secret s.start s.log
+
+-- of all of them, one behind the other
+abbrev pub texts_of : Name → List Given → Name
+texts_of secret segments = flat_map (text_of secret) segments
+
+-- and behind them that of the log that was not given out, which begins after so many entries
+abbrev pub whole_text : Name → List Given → ℕ → List Entry → Name
+whole_text secret segments given log = texts_of secret segments ++ segment_text secret given log
 
 -- they follow each other from the one place to the other
 abbrev pub Follows : ℕ → List Given → ℕ → Type 0

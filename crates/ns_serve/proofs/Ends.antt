@@ -6,7 +6,7 @@ use Rattle.std.proofs.Common.{ap, arith, inl, inr, refl, subst, sym}
 use Rattle.std.proofs.lemmas.List.{append-nil}
 use Rattle.ns_types.specs.State.Names.{Name}
 use Rattle.ns_json.specs.Logs.{segment_text}
-use Rattle.ns_segments.specs.Segments.{Given}
+use Rattle.ns_segments.specs.Segments.{Given, texts_of}
 use Rattle.ns_shared.specs.Settling.{Settlement, present}
 use Rattle.ns_http.specs.Counts.{HasGrown}
 use Rattle.ns_http.specs.Output.{WritesAll, WritesPart}
@@ -15,7 +15,7 @@ use Rattle.ns_http.specs.declared.engine.ConnFault.{ConnFault}
 use Rattle.ns_faults.specs.Lines.{FailsToWrite, TriesToWrite, line_of, mismatch_line, status_of}
 use Rattle.ns_faults.specs.declared.status.TheConstants.{SERVED, MISMATCH, WRITE_FAULT}
 use Rattle.ns_serve.specs.Ending.{EndsBy, EndsInPart, EndsSettled, EndsUnsettled, IsChosen, IsEnd, IsLastLine, fault_line, fault_status}
-use Rattle.ns_serve.specs.Keeping.{WritesText, texts_of}
+use Rattle.ns_serve.specs.Keeping.{WritesText}
 use Rattle.ns_serve.specs.Opening.{opening_lines}
 use Rattle.ns_serve.specs.Printing.{IsRunOf, settled_line}
 use Rattle.ns_serve.proofs.Written.{text_then}

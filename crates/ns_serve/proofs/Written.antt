@@ -5,7 +5,7 @@ use Rattle.std.proofs.Common.{refl, sym, ap, subst, ◌∙◌, arith, inl, inr}
 use Rattle.std.proofs.lemmas.List.Concat.{flat_map-append, flat_map-cons}
 use Rattle.std.proofs.lemmas.List.{append-nil, append_assoc, drop_more, take-append-drop, take_more}
 use Rattle.ns_types.specs.State.Names.{Name}
-use Rattle.ns_segments.specs.Segments.{Given}
+use Rattle.ns_segments.specs.Segments.{Given, text_of, texts_of}
 use Rattle.ns_http.specs.Counts.{HasGrown, IsWriteFault}
 use Rattle.ns_http.specs.Output.{WritesAll, WritesPart}
 use Rattle.ns_http.specs.declared.counting.Counted.{Counted}
@@ -13,7 +13,7 @@ use Rattle.ns_http.specs.declared.counting.Counts.{Counts}
 use Rattle.ns_http.specs.declared.engine.ConnFault.{ConnFault}
 use Rattle.ns_http.proofs.StreamLemmas.{Appends-none, Appends-then, WritesSome-front, WritesSome-then}
 use Rattle.ns_workers.specs.Keeping.{TakesAll}
-use Rattle.ns_serve.specs.Keeping.{IsTaken, WritesBy, WritesText, text_of, texts_of}
+use Rattle.ns_serve.specs.Keeping.{IsTaken, WritesBy, WritesText}
 use Rattle.ns_serve.specs.declared.keeper.Keeper.{Keeper}
 
 pub grown_same : (a : Counts) → HasGrown a a

@@ -1,10 +1,10 @@
 -- A server whose threads have ended.
 use Rattle.std.specs.Prelude.{ℕ, List, Option, IfOk}
 use Rattle.ns_types.specs.State.Names.{Name}
-use Rattle.ns_segments.specs.Segments.{Given}
+use Rattle.ns_segments.specs.Segments.{Given, texts_of}
 use Rattle.ns_http.specs.Counts.{HasGrown}
 use Rattle.ns_http.specs.declared.counting.Counted.{Counted}
-use Rattle.ns_serve.specs.Keeping.{WritesText, texts_of}
+use Rattle.ns_serve.specs.Keeping.{WritesText}
 use Rattle.ns_serve.specs.Printing.{IsRunOf}
 use Rattle.ns_serve.specs.declared.closing.Closing.{Closing}
 

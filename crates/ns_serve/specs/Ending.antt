@@ -2,15 +2,14 @@
 use Rattle.std.specs.Prelude.{◌≡◌, ◌⊎◌, ℕ, List, [], ◌∷◌, ◌++◌, Option, length}
 use Rattle.std.specs.declared.net.socket_addr.SocketAddr.{SocketAddr}
 use Rattle.ns_types.specs.State.Names.{Name}
-use Rattle.ns_segments.specs.Segments.{Given}
-use Rattle.ns_shared.specs.Settling.{Settlement}
+use Rattle.ns_segments.specs.Segments.{Given, texts_of, whole_text}
+use Rattle.ns_shared.specs.Settling.{Settlement, present}
 use Rattle.ns_http.specs.Output.{WritesAll, WritesPart}
 use Rattle.ns_http.specs.declared.counting.Counted.{Counted}
 use Rattle.ns_faults.specs.Lines.{FailsToWrite, TriesToWrite, line_of, mismatch_line, status_of}
 use Rattle.ns_faults.specs.declared.status.TheConstants.{SERVED, MISMATCH, READ_FAULT, WRITE_FAULT, OUT_OF_MEMORY}
-use Rattle.ns_serve.specs.Keeping.{texts_of}
 use Rattle.ns_serve.specs.Opening.{IsSecret, opening_lines}
-use Rattle.ns_serve.specs.Printing.{IsRunOf, settled_line, whole_text}
+use Rattle.ns_serve.specs.Printing.{IsRunOf, settled_line}
 use Rattle.ns_serve.specs.declared.fault.ServeFault.{ServeFault}
 use Rattle.ns_serve.specs.declared.service.Service.{Service}
 
@@ -55,7 +54,7 @@ module _ {D W E : Type 0} (draws : D → List ℕ → D → Type 0) (contents : 
     pub opened : Counted E
     pub is_secret : IsChosen draws service.bootstrap drawers secret
     pub is_run : IsRunOf secret segments settlement
-    pub printed : WritesAll contents writer writer' (whole_text secret segments settlement)
+    pub printed : WritesAll contents writer writer' (whole_text secret segments settlement.given (present settlement))
     pub listens : TriesToWrite error_text errors opened (opening_lines service address secret)
     pub settled : TriesToWrite error_text opened errors' (settled_line (length settlement.log))
 
@@ -66,7 +65,7 @@ module _ {D W E : Type 0} (draws : D → List ℕ → D → Type 0) (contents : 
     pub is_secret : IsChosen draws service.bootstrap drawers secret
     pub printed : FailsToWrite contents writer writer' (texts_of secret segments)
         ⊎ ((s : Settlement) × IsRunOf secret segments s
-        × FailsToWrite contents writer writer' (whole_text secret segments s))
+        × FailsToWrite contents writer writer' (whole_text secret segments s.given (present s)))
 
   -- segments were printed at most, or a first part of them
   abbrev pub EndsUnsettled : Counted W → Counted W → Type 0

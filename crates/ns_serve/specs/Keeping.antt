@@ -1,21 +1,12 @@
 -- What becomes of the segments of a server's log: they are written, and kept where they are settled.
-use Rattle.std.specs.Prelude.{◌≡◌, ℕ, true, List, ◌∷◌, [], ◌++◌, Option, Some, None, flat_map}
-use Rattle.ns_types.specs.State.Names.{Name}
-use Rattle.ns_json.specs.Logs.{segment_text}
-use Rattle.ns_segments.specs.Segments.{Given}
+use Rattle.std.specs.Prelude.{◌≡◌, ℕ, true, List, ◌∷◌, [], ◌++◌, Option, Some, None}
+use Rattle.ns_segments.specs.Segments.{Given, text_of}
 use Rattle.ns_http.specs.Counts.{HasGrown}
 use Rattle.ns_http.specs.Output.{WritesAll, WritesPart}
 use Rattle.ns_http.specs.declared.counting.Counted.{Counted}
 use Rattle.ns_http.specs.declared.engine.ConnFault.{ConnFault}
 use Rattle.ns_faults.specs.Lines.{FailsToWrite}
 use Rattle.ns_serve.specs.declared.keeper.Keeper.{Keeper}
-
-abbrev pub text_of : Name → Given → List ℕ
-text_of secret segment = segment_text secret segment.start segment.log
-
--- segments, one behind the other
-abbrev pub texts_of : Name → List Given → List ℕ
-texts_of secret segments = flat_map (text_of secret) segments
 
 module _ {W : Type 0} (contents : W → Option (List ℕ)) where
   -- the text was written: all of it, or with a fault a first part

@@ -2,10 +2,8 @@
 use Rattle.std.specs.Prelude.{◌≡◌, ℕ, List, ◌++◌, codes, decimal}
 use Rattle.ns_types.specs.State.Names.{Name}
 use Rattle.ns_types.specs.Steps.{opening}
-use Rattle.ns_json.specs.Logs.{segment_text}
 use Rattle.ns_segments.specs.Segments.{Follows, Given, joined}
 use Rattle.ns_shared.specs.Settling.{IsRun, Settlement, present}
-use Rattle.ns_serve.specs.Keeping.{texts_of}
 
 -- the log is a run of the server that the secret opens, and begins with these segments
 pub record IsRunOf (secret : Name) (segments : List Given) (s : Settlement) : Type 0 where
@@ -13,10 +11,6 @@ pub record IsRunOf (secret : Name) (segments : List Given) (s : Settlement) : Ty
   pub runs : IsRun s
   pub follow : Follows 0 segments s.given
   pub joins : s.log ≡ joined segments (present s)
-
--- the segments, and behind them the entries that were not given out
-abbrev pub whole_text : Name → List Given → Settlement → List ℕ
-whole_text secret segments s = texts_of secret segments ++ segment_text secret s.given (present s)
 
 -- the line by how many entries the log has
 abbrev pub settled_line : ℕ → List ℕ

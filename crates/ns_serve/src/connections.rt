@@ -28,6 +28,19 @@ fn set_up(stream: &TcpStream, idle: Option<u64>) -> io::Result<()> {
     stream.set_write_timeout(longest)
 }
 
+/// Answers the requests of the stream. Whether the connection ended in order.
+fn answer<L: Ledger, R: Wait, D: Draws, M: Retention>(
+    alloc: Global,
+    stream: &TcpStream,
+    guest: &mut Guest<'_, L, R, D, M>,
+) -> bool
+    ensures { Grows (IsRequested D.draws) guest.old.seated.seat guest.new.seated.seat }
+{
+    let mut reader = Counted::new(stream);
+    let mut writer = Counted::new(stream);
+    serve(alloc, &mut reader, &mut writer, guest).is_ok()
+}
+
 /// Answers the requests of a connection. A client that is idle for longer than it may has failed. How a connection ends concerns
 /// nobody else.
 fn converse<L: Ledger, R: Wait + Clock, D: Draws, M: Retention>(
@@ -42,9 +55,7 @@ fn converse<L: Ledger, R: Wait + Clock, D: Draws, M: Retention>(
     if set_up(stream, idle).is_err() {
         return;
     }
-    let mut reader = Counted::new(stream);
-    let mut writer = Counted::new(stream);
-    if serve(alloc, &mut reader, &mut writer, guest).is_ok() {
+    if answer(alloc, stream, guest) {
         leave(rt, alloc, stream);
     }
 }

@@ -2,7 +2,8 @@
 
 ghost use Rattle.std.specs.Prelude.{◌≡◌, ◌++◌, [], ◌∷◌, IfNone, IfSome, None, true};
 ghost use Rattle.ns_http.specs.Counts.{HasGrown};
-ghost use Rattle.ns_serve.specs.Keeping.{IsTaken, WritesBy, text_of};
+ghost use Rattle.ns_segments.specs.Segments.{text_of};
+ghost use Rattle.ns_serve.specs.Keeping.{IsTaken, WritesBy};
 
 use crate::segments::write_segment;
 use ns_http::{ConnFault, Counted};

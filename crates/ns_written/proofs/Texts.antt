@@ -14,9 +14,9 @@ use Rattle.ns_json.specs.Replies.{Entry}
 use Rattle.ns_log.specs.Lines.{entry_text}
 use Rattle.ns_log_read.specs.Lines.{CanStand, IsWritable, LogLine, entries_of, lines_text}
 use Rattle.ns_log_read.proofs.Lines.{opened}
-use Rattle.ns_segments.specs.Segments.{Follows, Given, joined}
+use Rattle.ns_segments.specs.Segments.{Follows, Given, joined, text_of, whole_text}
 use Rattle.ns_written.specs.Laws.{SegmentsAreReadBack}
-use Rattle.ns_written.specs.Readable.{AreAsRead, IsReadBack, IsTyped, text_of, whole_text}
+use Rattle.ns_written.specs.Readable.{AreAsRead, IsReadBack, IsTyped}
 
 -- ---- UTF-8, line by line
 

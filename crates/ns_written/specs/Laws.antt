@@ -11,10 +11,10 @@ use Rattle.ns_json.specs.Replies.{Entry}
 use Rattle.ns_log_read.specs.Lines.{IsAsRead, IsLogOf}
 use Rattle.ns_receipts.specs.declared.receipt.Receipt.{Receipt}
 use Rattle.ns_receipts.specs.Settling.{IsAt, Settles}
-use Rattle.ns_segments.specs.Segments.{Follows, Given, joined}
+use Rattle.ns_segments.specs.Segments.{Follows, Given, joined, whole_text}
 use Rattle.ns_asked.specs.Asking.{asked}
 use Rattle.ns_asked.specs.Drawing.{DrawsFor}
-use Rattle.ns_written.specs.Readable.{AreAsRead, IsTyped, whole_text}
+use Rattle.ns_written.specs.Readable.{AreAsRead, IsTyped}
 
 -- ---- rules are the reading of their text
 

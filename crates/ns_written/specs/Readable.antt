@@ -1,12 +1,11 @@
 -- Logs whose text is read back.
-use Rattle.std.specs.Prelude.{ℕ, List, ◌++◌, IsTrue, flat_map}
+use Rattle.std.specs.Prelude.{List, IsTrue}
 use Rattle.ns_types.specs.State.Lists.{Each}
 use Rattle.ns_types.specs.State.Names.{Name}
 use Rattle.ns_types.specs.Within.{IsGoodStep}
-use Rattle.ns_json.specs.Logs.{log_text, segment_text}
+use Rattle.ns_json.specs.Logs.{log_text}
 use Rattle.ns_json.specs.Replies.{Entry}
 use Rattle.ns_log_read.specs.Lines.{IsAsRead, IsLogOf, answer_fits, step_fits}
-use Rattle.ns_segments.specs.Segments.{Given}
 
 -- What the type of an entry keeps of it: its step is within the limits of every step, and its numbers are those of values
 -- that a program holds.
@@ -22,10 +21,3 @@ AreAsRead log = Each (λ (e : Entry). IsAsRead e.0) log
 -- the text of the log is read back as that log, and so has no bad line
 abbrev pub IsReadBack : Name → List Entry → Type 0
 IsReadBack secret log = IsLogOf (log_text secret log) secret log
-
--- the texts of segments, one behind the other, and behind them that of the entries that come after so many
-abbrev pub text_of : Name → Given → Name
-text_of secret s = segment_text secret s.start s.log
-
-abbrev pub whole_text : Name → List Given → ℕ → List Entry → Name
-whole_text secret segments given rest = flat_map (text_of secret) segments ++ segment_text secret given rest
