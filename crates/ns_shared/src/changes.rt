@@ -1,8 +1,9 @@
 //! What callers that wait look at.
 
 ghost use Rattle.std.specs.Prelude.{◌≡◌};
-ghost use Rattle.ns_shared.specs.Moments.{is_left};
+ghost use Rattle.ns_shared.specs.Moments.{is_any, is_applied, is_left, is_of_all, is_planned, offers_work};
 
+use ns_types::key::EvalKey;
 use ns_types::text::Text;
 use ns_types::worker::Phase;
 
@@ -34,12 +35,84 @@ impl Stage {
 pub(crate) enum Wakes {
     /// Nobody: it leaves nothing to do, but to its caller.
     Nobody,
-    /// All, where an evaluation is served, for the workers that are idle.
+    /// A worker that is idle, where an evaluation is served.
     WhereServed,
-    /// The same, and where the server is closed, since workers end once they are idle.
+    /// The same, and all where the server is closed, since workers end once they are idle.
     WhereServedOrClosed,
-    /// All: there is a plan for the applier, or one was applied for its worker.
+    /// The applier, for the plan that was handed in.
+    Planned,
+    /// The workers whose plans wait, since one was applied, and one that is idle where an evaluation is served.
+    Applied,
+    /// All.
     All,
+}
+
+impl Wakes {
+    /// Whether it wakes a worker that is idle, where an evaluation is served.
+    pub(crate) fn offers_work(self) -> bool
+        ensures { result ≡ offers_work self }
+    {
+        matches!(
+            self,
+            Wakes::WhereServed | Wakes::WhereServedOrClosed | Wakes::Applied
+        )
+    }
+
+    /// Whether it wakes the workers whose plans wait.
+    pub(crate) fn is_applied(self) -> bool
+        ensures { result ≡ is_applied self }
+    {
+        matches!(self, Wakes::Applied)
+    }
+
+    /// Whether it wakes the applier.
+    pub(crate) fn is_planned(self) -> bool
+        ensures { result ≡ is_planned self }
+    {
+        matches!(self, Wakes::Planned)
+    }
+
+    /// Whether it wakes all, where the server is closed or not.
+    pub(crate) fn is_of_all(self, is_closed: bool) -> bool
+        ensures { result ≡ is_of_all self is_closed }
+    {
+        match self {
+            Wakes::All => true,
+            Wakes::WhereServedOrClosed => is_closed,
+            _ => false,
+        }
+    }
+}
+
+/// Who is notified.
+#[derive(Clone, Copy)]
+pub(crate) struct Notified {
+    /// One worker that waits for an evaluation.
+    pub(crate) idle: bool,
+    /// The workers that wait for their plans to be applied.
+    pub(crate) planners: bool,
+    pub(crate) applier: bool,
+    /// All that wait.
+    pub(crate) all: bool,
+}
+
+impl Notified {
+    pub(crate) fn is_any(self) -> bool
+        ensures { result ≡ is_any self }
+    {
+        self.idle || self.planners || self.applier || self.all
+    }
+}
+
+/// What a thread waits for.
+#[derive(Clone, Copy)]
+pub enum Waits {
+    /// A worker waits for an evaluation.
+    ForWork,
+    /// A worker waits for its plan to be applied.
+    ForApply,
+    /// The applier waits for a plan, or for the log to be rotated.
+    ForPlans,
 }
 
 /// How it stands with those who share a server.
@@ -70,4 +143,23 @@ pub struct Busy {
 pub struct Planner {
     pub worker: u64,
     pub namespace: Text,
+}
+
+/// What a worker looks at before its turn, all of one moment.
+#[derive(Drop)]
+pub struct WorkerView {
+    pub seen: Moment,
+    pub busy: Option<Busy>,
+    /// The next evaluation, where the worker is idle.
+    pub next: Option<EvalKey>,
+}
+
+/// What the applier looks at before its turn, all of one moment.
+#[derive(Drop)]
+pub struct ApplierView {
+    pub seen: Moment,
+    /// Whether the log is to be rotated.
+    pub is_due: bool,
+    /// The worker with the next plan.
+    pub planner: Option<Planner>,
 }

@@ -4,10 +4,10 @@ ghost use Rattle.std.specs.Option.{option_map_or};
 ghost use Rattle.std.specs.Prelude.{◌≡◌, false, is_some, length, nat_lt, true};
 ghost use Rattle.ns_types.specs.Working.Looks.{served_ready};
 ghost use Rattle.ns_shared.specs.declared.changes.Stage.TheVariants as Stage;
-ghost use Rattle.ns_shared.specs.Moments.{bytes_after, changes_after, is_due, is_left, is_stirred, passes, stirs};
+ghost use Rattle.ns_shared.specs.Moments.{bytes_after, changes_after, is_any, is_due, is_left, notified, passes};
 ghost use Rattle.ns_shared.specs.Moments.{stage_entered, stage_left, workers_entered, workers_left};
 
-use crate::changes::{Moment, Role, Stage, Wakes};
+use crate::changes::{Moment, Notified, Role, Stage, Wakes};
 use crate::ended::Ended;
 use std::sync::ledger::Ledger;
 
@@ -70,19 +70,6 @@ impl<L: Ledger> Desk<L> {
         self.kept.held.core().has_served()
     }
 
-    /// Whether there is something to do for those whom the call wakes.
-    fn is_stirred(&self, wakes: Wakes) -> bool
-        ensures { let world = self.now.kept.held.state.world in
-            result ≡ is_stirred wakes self.now.is_closed world }
-    {
-        match wakes {
-            Wakes::Nobody => false,
-            Wakes::WhereServed => self.has_served(),
-            Wakes::WhereServedOrClosed => self.is_closed || self.has_served(),
-            Wakes::All => true,
-        }
-    }
-
     /// Whether the log has just as many entries as it is rotated at.
     fn is_due(&self, rotates_at: Option<u64>) -> bool
         ensures { result ≡ is_due rotates_at (length self.now.kept.held.log) }
@@ -93,19 +80,31 @@ impl<L: Ledger> Desk<L> {
         }
     }
 
-    /// Counts a change, if there is something to do for those whom the call wakes, or the log is to be rotated. Whether there is.
-    pub(crate) fn stir(&mut self, wakes: Wakes, rotates_at: Option<u64>) -> bool
-        ensures stirred { let held = self.old.kept.held in
-            result ≡ stirs wakes rotates_at self.old.is_closed held }
-        ensures desk { let held = self.old.kept.held in
-            let stirred = stirs wakes rotates_at self.old.is_closed held in
-            self.new ≡ record self.old { changes = changes_after stirred self.old.changes } }
+    /// Who is notified by a call that wakes those.
+    fn notified(&self, wakes: Wakes, rotates_at: Option<u64>) -> Notified
+        ensures { result ≡ notified wakes rotates_at self.now.is_closed self.now.kept.held }
     {
-        if !self.is_stirred(wakes) && !self.is_due(rotates_at) {
-            return false;
+        Notified {
+            idle: wakes.offers_work() && self.has_served(),
+            planners: wakes.is_applied(),
+            applier: wakes.is_planned() || self.is_due(rotates_at),
+            all: wakes.is_of_all(self.is_closed),
         }
-        self.changes = self.changes.wrapping_add(1);
-        true
+    }
+
+    /// Counts a change, if anyone is notified. Who is.
+    pub(crate) fn stir(&mut self, wakes: Wakes, rotates_at: Option<u64>) -> Notified
+        ensures notified { let held = self.old.kept.held in
+            result ≡ notified wakes rotates_at self.old.is_closed held }
+        ensures desk { let held = self.old.kept.held in
+            let any = is_any (notified wakes rotates_at self.old.is_closed held) in
+            self.new ≡ record self.old { changes = changes_after any self.old.changes } }
+    {
+        let notified = self.notified(wakes, rotates_at);
+        if notified.is_any() {
+            self.changes = self.changes.wrapping_add(1);
+        }
+        notified
     }
 
     /// Whether the entries have more bytes of text than the log is rotated past.

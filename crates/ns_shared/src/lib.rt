@@ -14,7 +14,7 @@ mod shared;
 mod spent;
 mod work;
 
-pub use changes::{Busy, Moment, Planner, Role};
+pub use changes::{ApplierView, Busy, Moment, Planner, Role, Waits, WorkerView};
 pub use ended::{Ended, PARTS};
 pub use looking::WORKERS_END;
 pub use retention::{Forgets, Retains, Retention};

@@ -1,11 +1,11 @@
 //! Looks at a server that give what its callers keep.
 
-ghost use Rattle.std.specs.Prelude.{◌≡◌, IfOk, option_map};
+ghost use Rattle.std.specs.Prelude.{◌≡◌, IfOk, IsNone, option_map};
 ghost use Rattle.ns_types.specs.Working.Looks.{row_of, served_ready};
 ghost use Rattle.ns_broker.specs.Looking.{busy_of};
 ghost use Rattle.ns_shared.specs.Looking.{IsFirstAt, IsFirstPlanner, fields_of, has_evaluation, is_busy_with};
 
-use crate::changes::{Busy, Planner};
+use crate::changes::{ApplierView, Busy, Moment, Planner, WorkerView};
 use ns_core::Core;
 use ns_types::key::EvalKey;
 use ns_types::text::same_text;
@@ -86,4 +86,43 @@ pub(crate) fn planner(core: &Core) -> Result<Option<Planner>, AllocError>
         Some(key) => first_at(core, key),
         None => Ok(None),
     }
+}
+
+/// What the worker looks at before its turn, at that moment.
+pub(crate) fn worker_view(core: &Core, worker: u64, seen: Moment) -> Result<WorkerView, AllocError>
+    ensures seen { IfOk result (λ view. view.seen ≡ seen) }
+    ensures busy { IfOk result (λ view.
+        option_map fields_of view.busy ≡ option_map busy_of (row_of core.now.world worker)) }
+    ensures next { IfOk result (λ view.
+        IsNone view.busy → view.next ≡ served_ready core.now.world) }
+{
+    if let Some(busy) = busy(core, worker)? {
+        return Ok(WorkerView {
+            seen,
+            busy: Some(busy),
+            next: None,
+        });
+    }
+    Ok(WorkerView {
+        seen,
+        busy: None,
+        next: served(core)?,
+    })
+}
+
+/// What the applier looks at before its turn, at that moment.
+pub(crate) fn applier_view(
+    core: &Core,
+    seen: Moment,
+    is_due: bool,
+) -> Result<ApplierView, AllocError>
+    ensures seen { IfOk result (λ view. view.seen ≡ seen) }
+    ensures due { IfOk result (λ view. view.is_due ≡ is_due) }
+    ensures planner { IfOk result (λ view. IsFirstPlanner core.now.world view.planner) }
+{
+    Ok(ApplierView {
+        seen,
+        is_due,
+        planner: planner(core)?,
+    })
 }

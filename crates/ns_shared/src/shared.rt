@@ -1,14 +1,16 @@
 //! A server that threads share.
 
-ghost use Rattle.std.specs.Prelude.{◌≡◌, ◌≢◌, [], IfErr, IfSome, IsFalse, IsNone};
+ghost use Rattle.std.specs.Prelude.{◌≡◌, ◌≢◌, [], IfErr, IfOk, IfSome, IsFalse, IsNone};
 ghost use Rattle.ns_types.specs.declared.refusal.Refusal.TheVariants as Refusal;
 ghost use Rattle.ns_types.specs.declared.step.Step.TheVariants as Step;
 ghost use Rattle.ns_drive.specs.Calls.{snapped};
 ghost use Rattle.ns_steps.specs.Served.{IsServed};
-ghost use Rattle.ns_shared.specs.Moments.{changes_after, stirs};
+ghost use Rattle.ns_shared.specs.Moments.{changes_after, is_any, notified};
 ghost use Rattle.ns_shared.specs.Receiving.{Asks, Receives};
 
-use crate::changes::{Busy, Moment, Planner, Role, Wakes};
+use crate::changes::{
+    ApplierView, Busy, Moment, Notified, Planner, Role, Waits, Wakes, WorkerView,
+};
 use crate::desk::Desk;
 use crate::ended::Ended;
 use crate::looking;
@@ -34,7 +36,12 @@ use std::sync::{Condvar, Mutex, Wait};
 /// caller's seat.
 pub struct Shared<L: Ledger> {
     desk: Mutex<Desk<L>>,
-    changed: Condvar,
+    /// Workers that wait for an evaluation.
+    idle: Condvar,
+    /// Workers that wait for their plans to be applied.
+    planners: Condvar,
+    /// The applier, where it waits.
+    applier: Condvar,
     /// Entries that were given out and that nobody needs any more.
     spent: Mutex<Spent>,
     /// With how many entries the log is rotated. None: never.
@@ -47,7 +54,9 @@ impl<L: Ledger> Drop for Shared<L> {
     fn drop(self) {
         let Shared {
             desk: _desk,
-            changed: _changed,
+            idle: _idle,
+            planners: _planners,
+            applier: _applier,
             spent: _spent,
             rotates_at: _,
             rotates_past: _,
@@ -74,7 +83,9 @@ impl<L: Ledger> Shared<L> {
         let desk = Desk::new(Ended::new(held, blank));
         Shared {
             desk: Mutex::new(desk),
-            changed: Condvar::new(),
+            idle: Condvar::new(),
+            planners: Condvar::new(),
+            applier: Condvar::new(),
             spent: Mutex::new(Spent::new()),
             rotates_at,
             rotates_past,
@@ -88,14 +99,27 @@ impl<L: Ledger> Shared<L> {
         self.desk.lock(rt).kept.seat::<M>(alloc)
     }
 
-    /// Wakes those who wait, if there is something to do for them. Changes are counted exactly where it does.
-    fn wake(&self, desk: &mut Desk<L>, wakes: Wakes)
+    /// Counts a change where anyone is notified. Who is.
+    fn stir(&self, desk: &mut Desk<L>, wakes: Wakes) -> Notified
         ensures { let held = desk.old.kept.held in
-            let stirred = stirs wakes self.now.rotates_at desk.old.is_closed held in
-            desk.new ≡ record desk.old { changes = changes_after stirred desk.old.changes } }
+            let any = is_any (notified wakes self.now.rotates_at desk.old.is_closed held) in
+            desk.new ≡ record desk.old { changes = changes_after any desk.old.changes } }
     {
-        if desk.stir(wakes, self.rotates_at) {
-            self.changed.notify_all();
+        desk.stir(wakes, self.rotates_at)
+    }
+
+    /// Notifies them. The caller has released the lock, so none of them wakes only to wait for it.
+    fn notify(&self, notified: Notified) {
+        if notified.all {
+            self.idle.notify_all();
+        } else if notified.idle {
+            self.idle.notify_one();
+        }
+        if notified.all || notified.planners {
+            self.planners.notify_all();
+        }
+        if notified.all || notified.applier {
+            self.applier.notify_all();
         }
     }
 
@@ -113,7 +137,7 @@ impl<L: Ledger> Shared<L> {
         };
         let more = seat.added_bytes(alloc, before);
         if self.desk.lock(rt).weigh(more, limit) {
-            self.changed.notify_all();
+            self.applier.notify_all();
         }
     }
 
@@ -154,8 +178,9 @@ impl<L: Ledger> Shared<L> {
         let before = seat.forget();
         let mut desk = self.desk.lock(rt);
         let answer = desk.kept.take(alloc, seat, step);
-        self.wake(&mut desk, wakes);
+        let notified = self.stir(&mut desk, wakes);
         drop(desk);
+        self.notify(notified);
         self.follow(rt, alloc, seat, before);
         answer
     }
@@ -178,8 +203,9 @@ impl<L: Ledger> Shared<L> {
         let answer = desk
             .kept
             .dequeue(alloc, seat, worker, namespace, evaluation);
-        self.wake(&mut desk, Wakes::Nobody);
+        let notified = self.stir(&mut desk, Wakes::WhereServed);
         drop(desk);
+        self.notify(notified);
         self.follow(rt, alloc, seat, before);
         answer
     }
@@ -200,8 +226,9 @@ impl<L: Ledger> Shared<L> {
         let before = seat.forget();
         let mut desk = self.desk.lock(rt);
         let seen = desk.kept.snap(alloc, seat, worker, namespace);
-        self.wake(&mut desk, Wakes::Nobody);
+        let notified = self.stir(&mut desk, Wakes::Nobody);
         drop(desk);
+        self.notify(notified);
         self.follow(rt, alloc, seat, before);
         seen
     }
@@ -222,8 +249,9 @@ impl<L: Ledger> Shared<L> {
         let before = seat.forget();
         let mut desk = self.desk.lock(rt);
         let answer = desk.kept.submit(alloc, seat, worker, namespace, planned);
-        self.wake(&mut desk, Wakes::All);
+        let notified = self.stir(&mut desk, Wakes::Planned);
         drop(desk);
+        self.notify(notified);
         self.follow(rt, alloc, seat, before);
         answer
     }
@@ -243,8 +271,9 @@ impl<L: Ledger> Shared<L> {
         let before = seat.forget();
         let mut desk = self.desk.lock(rt);
         let answer = desk.kept.apply(alloc, seat, worker, namespace);
-        self.wake(&mut desk, Wakes::All);
+        let notified = self.stir(&mut desk, Wakes::Applied);
         drop(desk);
+        self.notify(notified);
         self.follow(rt, alloc, seat, before);
         answer
     }
@@ -265,8 +294,9 @@ impl<L: Ledger> Shared<L> {
         let before = seat.forget();
         let mut desk = self.desk.lock(rt);
         let answer = desk.kept.finish(alloc, seat, worker, namespace, planned);
-        self.wake(&mut desk, Wakes::WhereServedOrClosed);
+        let notified = self.stir(&mut desk, Wakes::WhereServedOrClosed);
         drop(desk);
+        self.notify(notified);
         self.follow(rt, alloc, seat, before);
         answer
     }
@@ -286,8 +316,9 @@ impl<L: Ledger> Shared<L> {
         let before = seat.forget();
         let mut desk = self.desk.lock(rt);
         let answer = desk.kept.nack(alloc, seat, worker, namespace);
-        self.wake(&mut desk, Wakes::WhereServedOrClosed);
+        let notified = self.stir(&mut desk, Wakes::WhereServedOrClosed);
         drop(desk);
+        self.notify(notified);
         self.follow(rt, alloc, seat, before);
         answer
     }
@@ -323,11 +354,31 @@ impl<L: Ledger> Shared<L> {
     pub fn is_due<R: Wait>(&self, rt: &R) -> bool
         ensures { IsNone self.now.rotates_at → IsFalse result }
     {
-        let Some(entries) = self.rotates_at else {
-            return false;
-        };
+        self.is_due_at(&self.desk.lock(rt))
+    }
+
+    fn is_due_at(&self, desk: &Desk<L>) -> bool
+        ensures { IsNone self.now.rotates_at → IsFalse result }
+    {
+        match self.rotates_at {
+            Some(entries) => desk.kept.entries() >= entries || desk.is_heavy(self.rotates_past),
+            None => false,
+        }
+    }
+
+    /// What the worker looks at before its turn, under one lock.
+    pub fn worker_view<R: Wait>(&self, rt: &R, worker: u64) -> Result<WorkerView, AllocError> {
         let desk = self.desk.lock(rt);
-        desk.kept.entries() >= entries || desk.is_heavy(self.rotates_past)
+        looking::worker_view(desk.kept.held.core(), worker, desk.moment())
+    }
+
+    /// What the applier looks at before its turn, under one lock.
+    pub fn applier_view<R: Wait>(&self, rt: &R) -> Result<ApplierView, AllocError>
+        ensures { IsNone self.now.rotates_at → IfOk result (λ view. IsFalse view.is_due) }
+    {
+        let desk = self.desk.lock(rt);
+        let is_due = self.is_due_at(&desk);
+        looking::applier_view(desk.kept.held.core(), desk.moment(), is_due)
     }
 
     /// The evaluation that is served next.
@@ -350,11 +401,16 @@ impl<L: Ledger> Shared<L> {
         self.desk.lock(rt).moment()
     }
 
-    /// Waits for a change after this moment.
-    pub fn wait_past<R: Wait>(&self, rt: &R, seen: Moment) -> Moment
+    /// Waits for a change after this moment that concerns whoever waits for that.
+    pub fn wait_past<R: Wait>(&self, rt: &R, waits: Waits, seen: Moment) -> Moment
         ensures { result.changes ≢ seen.changes }
     {
-        let desk = self.changed.wait_while(rt, self.desk.lock(rt), |desk| {
+        let room = match waits {
+            Waits::ForWork => &self.idle,
+            Waits::ForApply => &self.planners,
+            Waits::ForPlans => &self.applier,
+        };
+        let desk = room.wait_while(rt, self.desk.lock(rt), |desk| {
             desk.changes == seen.changes
         });
         desk.moment()
@@ -369,14 +425,18 @@ impl<L: Ledger> Shared<L> {
     pub fn leave<R: Wait>(&self, rt: &R, role: Role) {
         let mut desk = self.desk.lock(rt);
         desk.leave(role);
-        self.wake(&mut desk, Wakes::All);
+        let notified = self.stir(&mut desk, Wakes::All);
+        drop(desk);
+        self.notify(notified);
     }
 
     /// Lets workers end once they are idle, and the applier once they ended.
     pub fn close<R: Wait>(&self, rt: &R) {
         let mut desk = self.desk.lock(rt);
         desk.close();
-        self.wake(&mut desk, Wakes::All);
+        let notified = self.stir(&mut desk, Wakes::All);
+        drop(desk);
+        self.notify(notified);
     }
 
     /// Whether it was closed. It is never opened again.
@@ -388,7 +448,9 @@ impl<L: Ledger> Shared<L> {
     pub fn end(self) -> Ended<L> {
         let Shared {
             desk,
-            changed: _changed,
+            idle: _idle,
+            planners: _planners,
+            applier: _applier,
             spent: _spent,
             rotates_at: _,
             rotates_past: _,

@@ -8,7 +8,7 @@ ghost use Rattle.ns_workers.specs.Keeping.{TakesSome};
 use crate::keep::Keep;
 use crate::pausing::pause;
 use ns_segments::Segment;
-use ns_shared::{Moment, Planner, Retention, Role, Seat, Shared};
+use ns_shared::{ApplierView, Moment, Planner, Retention, Role, Seat, Shared, Waits};
 use ns_types::refusal::Refusal;
 use ns_types::reply::Reply;
 use std::alloc::Global;
@@ -91,7 +91,7 @@ fn await_plan<L: Ledger, R: Wait>(rt: &R, shared: &Shared<L>, seen: Moment) -> b
     if is_over(seen) {
         return false;
     }
-    shared.wait_past(rt, seen);
+    shared.wait_past(rt, Waits::ForPlans, seen);
     true
 }
 
@@ -117,11 +117,12 @@ fn rotate<L: Ledger, K: Keep, R: Wait>(
     alloc: Global,
     shared: &Shared<L>,
     keeper: &mut K,
+    is_due: bool,
 ) -> bool
     ensures takes { TakesSome K.takes keeper.old keeper.new }
-    ensures never { IsNone shared.now.rotates_at → IsTrue result × (keeper.new ≡ keeper.old) }
+    ensures never { IsFalse is_due → IsTrue result × (keeper.new ≡ keeper.old) }
 {
-    if !shared.is_due(rt) {
+    if !is_due {
         return true;
     }
     match shared.rotate(rt, alloc) {
@@ -133,28 +134,24 @@ fn rotate<L: Ledger, K: Keep, R: Wait>(
     }
 }
 
-/// Applies the plan that is served next, or waits. Whether the applier goes on. The count of changes is taken before it
-/// looks, so no change is missed.
+/// Applies the next plan, or waits for one. Whether the applier goes on.
 fn apply_next<L: Ledger, R: Wait + Clock, M: Retention>(
     rt: &R,
     alloc: Global,
     shared: &Shared<L>,
     seat: &mut Seat<L, M>,
-    seen: Moment,
+    view: &ApplierView,
 ) -> bool
     ensures { Grows IsApply seat.old seat.new }
 {
-    match shared.first_plan(rt) {
-        Ok(Some(planner)) => apply(rt, alloc, shared, seat, &planner),
-        Ok(None) => await_plan(rt, shared, seen),
-        Err(_) => {
-            pause(rt);
-            true
-        }
+    match &view.planner {
+        Some(planner) => apply(rt, alloc, shared, seat, planner),
+        None => await_plan(rt, shared, view.seen),
     }
 }
 
-/// Rotates the log where that is due, and then applies the plan that is served next, or waits. Whether the applier goes on.
+/// Rotates the log where that is due, and then applies the next plan, or waits for one. Whether the applier goes on. What it looks
+/// at is of one moment, so a wait past that moment misses no change.
 fn step<L: Ledger, K: Keep, R: Wait + Clock, M: Retention>(
     rt: &R,
     alloc: Global,
@@ -166,12 +163,15 @@ fn step<L: Ledger, K: Keep, R: Wait + Clock, M: Retention>(
     ensures takes { TakesSome K.takes keeper.old keeper.new }
     ensures never { IsNone shared.now.rotates_at → keeper.new ≡ keeper.old }
 {
-    let seen = shared.now(rt);
-    if !rotate(rt, alloc, shared, keeper) {
+    let Ok(view) = shared.applier_view(rt) else {
+        pause(rt);
+        return true;
+    };
+    if !rotate(rt, alloc, shared, keeper, view.is_due) {
         pause(rt);
         return true;
     }
-    apply_next(rt, alloc, shared, seat, seen)
+    apply_next(rt, alloc, shared, seat, &view)
 }
 
 /// Applies one plan after another, and rotates the log before a plan, where it has as many entries as it is rotated at or more, or

@@ -1,4 +1,4 @@
-//! One turn of a worker: a step, or a wait.
+//! One turn of a worker: the steps up to where it has to wait for others, or a wait.
 
 ghost use Rattle.std.specs.Prelude.{◌≡◌, ◌≤◌, IfErr, IsErrOf, IsFalse, IsOk, IsTrue};
 ghost use Rattle.ns_workers.specs.declared.halt.Halt.TheVariants as Halt;
@@ -7,7 +7,8 @@ ghost use Rattle.ns_workers.specs.Growing.{Grows, IsOfWorker};
 use crate::gate::{Gate, Point};
 use crate::halt::Halt;
 use ns_drive::Kept;
-use ns_shared::{Busy, Moment, Retention, Seat, Shared, WORKERS_END};
+use ns_shared::{Busy, Moment, Retention, Seat, Shared, WORKERS_END, Waits};
+use ns_types::key::EvalKey;
 use ns_types::planned::Planned;
 use ns_types::text::Text;
 use ns_types::worker::Phase;
@@ -38,8 +39,14 @@ impl<'a, L: Ledger, G: Gate, R: Wait> Post<'a, L, G, R> {
         }
     }
 
-    /// Takes what is served, or waits for it until the server is closed.
-    fn take<M: Retention>(&self, seat: &mut Seat<L, M>, seen: Moment) -> Result<(), Halt>
+    /// Takes the next evaluation and goes on with it, or waits for one until the server is closed.
+    fn take<M: Retention>(
+        &self,
+        seat: &mut Seat<L, M>,
+        kept: &mut Kept,
+        seen: Moment,
+        next: Option<&EvalKey>,
+    ) -> Result<(), Halt>
         ensures grows { Grows (IsOfWorker self.now.number) seat.old seat.new }
         ensures closed { IsTrue seen.is_closed → IsErrOf result Halt.Ends }
         ensures past { 64 ≤ self.now.number → IsErrOf result Halt.Ends }
@@ -47,10 +54,18 @@ impl<'a, L: Ledger, G: Gate, R: Wait> Post<'a, L, G, R> {
         if seen.is_closed || self.number >= WORKERS_END {
             return Err(Halt::Ends);
         }
-        let Some(key) = self.shared.served(self.rt)? else {
-            self.shared.wait_past(self.rt, seen);
+        let Some(key) = next else {
+            self.shared.wait_past(self.rt, Waits::ForWork, seen);
             return Ok(());
         };
+        self.dequeue(seat, key)?;
+        self.plan_anew(seat, kept, key.namespace())
+    }
+
+    /// Takes this evaluation.
+    fn dequeue<M: Retention>(&self, seat: &mut Seat<L, M>, key: &EvalKey) -> Result<(), Halt>
+        ensures { Grows (IsOfWorker self.now.number) seat.old seat.new }
+    {
         let (namespace, evaluation) = (key.namespace(), key.number());
         let reply = self.shared.dequeue(
             self.rt,
@@ -129,6 +144,19 @@ impl<'a, L: Ledger, G: Gate, R: Wait> Post<'a, L, G, R> {
         self.pass(Point::Queued)
     }
 
+    /// Takes a snapshot, and hands in its plan, or finishes where it does nothing.
+    fn plan_anew<M: Retention>(
+        &self,
+        seat: &mut Seat<L, M>,
+        kept: &mut Kept,
+        namespace: &Text,
+    ) -> Result<(), Halt>
+        ensures { Grows (IsOfWorker self.now.number) seat.old seat.new }
+    {
+        self.look(seat, kept, namespace)?;
+        self.place(seat, kept, namespace)
+    }
+
     /// Waits for the plan to be applied, unless the applier has ended.
     fn await_applied(&self, seen: Moment) -> Result<(), Halt>
         ensures left { IsTrue seen.applier_left → IsErrOf result Halt.Ends }
@@ -137,11 +165,11 @@ impl<'a, L: Ledger, G: Gate, R: Wait> Post<'a, L, G, R> {
         if seen.applier_left {
             return Err(Halt::Ends);
         }
-        self.shared.wait_past(self.rt, seen);
+        self.shared.wait_past(self.rt, Waits::ForApply, seen);
         Ok(())
     }
 
-    /// Makes the step that the worker's phase asks for.
+    /// Makes the steps that the worker's phase allows, or waits.
     fn work<M: Retention>(
         &self,
         seat: &mut Seat<L, M>,
@@ -153,23 +181,24 @@ impl<'a, L: Ledger, G: Gate, R: Wait> Post<'a, L, G, R> {
     {
         let namespace = &busy.namespace;
         match busy.phase {
-            Phase::Took => self.look(seat, kept, namespace),
+            Phase::Took => self.plan_anew(seat, kept, namespace),
             Phase::Snapped => self.place(seat, kept, namespace),
             Phase::Submitted => self.await_applied(seen),
             Phase::Applied => self.finish(seat, kept, namespace),
             Phase::Dropped if busy.tries == 0 => self.finish(seat, kept, namespace),
-            Phase::Dropped => self.look(seat, kept, namespace),
+            Phase::Dropped => self.plan_anew(seat, kept, namespace),
         }
     }
 
-    /// Makes the step that is due, or waits. The count of changes is taken before it looks, so no change is missed.
+    /// Makes the steps that are due until the worker has to wait for others, or waits. What it looks at is of one moment, so a wait
+    /// past that moment misses no change.
     pub fn turn<M: Retention>(&self, seat: &mut Seat<L, M>, kept: &mut Kept) -> Result<(), Halt>
         ensures { Grows (IsOfWorker self.now.number) seat.old seat.new }
     {
-        let seen = self.shared.now(self.rt);
-        match self.shared.busy(self.rt, self.number)? {
-            Some(busy) => self.work(seat, kept, &busy, seen),
-            None => self.take(seat, seen),
+        let view = self.shared.worker_view(self.rt, self.number)?;
+        match &view.busy {
+            Some(busy) => self.work(seat, kept, busy, view.seen),
+            None => self.take(seat, kept, view.seen, view.next.as_ref()),
         }
     }
 
