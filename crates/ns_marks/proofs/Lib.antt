@@ -1,1 +1,2 @@
 mod Marks
+mod Rising
