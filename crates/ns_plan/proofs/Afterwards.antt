@@ -22,7 +22,7 @@ use Rattle.ns_types.specs.Settling.Gone.{rows_gone}
 use Rattle.ns_types.proofs.Gone.{stopped_are, stopped_row}
 use Rattle.ns_types.proofs.Less.{nodes_stay, quotas_stay, allocation_then, gone_alike, load_less, named_stays, use_less}
 use Rattle.ns_types.proofs.Lists.{not_both}
-use Rattle.ns_types.proofs.Named.{first_of_both, one_number, same_name_refl, second_of_both}
+use Rattle.ns_types.proofs.Named.{one_number, same_name_refl}
 use Rattle.ns_types.proofs.Once.{key_is, once, once_apart, once_has, once_push}
 use Rattle.ns_types.proofs.Taken.{node_part, quota_part, row_size, size_at}
 use Rattle.ns_types.proofs.Tables.{tied}

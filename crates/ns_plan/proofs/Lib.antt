@@ -5,6 +5,7 @@ pub mod Few
 pub mod Gathered
 pub mod Holding
 pub mod Leaves
+pub mod Lowering
 pub mod Steps
 pub mod Parts
 pub mod Bounded

@@ -10,6 +10,7 @@ ghost use Rattle.ns_plan.specs.Looks.{AreCounted, if_live, live_at};
 ghost use Rattle.ns_plan.specs.Reader.{quota_left};
 
 use crate::view::View;
+use ns_marks::Marked;
 use ns_types::allocation::Allocation;
 use ns_types::plan::Eviction;
 use ns_types::resources::{Resources, less, none, same_resources};
@@ -24,10 +25,10 @@ pub(crate) fn has_number(numbers: &[u64], number: u64) -> bool
 }
 
 #[tactic(auto, using(crate::proofs::Afterwards::stopped_has))]
-fn is_stopped(namespace: &Text, stops: &[u64], owner: &Text, number: u64) -> bool
+fn is_stopped(namespace: &Text, stops: &Marked<'_>, owner: &Text, number: u64) -> bool
     ensures { result ≡ has_key (stop_keys namespace.now stops.now) (owner.now, number) }
 {
-    same_text(owner, namespace) && has_number(stops, number)
+    same_text(owner, namespace) && stops.has(number)
 }
 
 fn if_live<'a>(row: Option<&'a Allocation>) -> Option<&'a Allocation>
@@ -43,7 +44,7 @@ fn if_live<'a>(row: Option<&'a Allocation>) -> Option<&'a Allocation>
 fn live<'a, V: View>(
     view: &'a V,
     namespace: &Text,
-    stops: &[u64],
+    stops: &Marked<'_>,
     owner: &Text,
     number: u64,
 ) -> Option<&'a Allocation>
@@ -75,7 +76,7 @@ fn counts_on(row: &Allocation, pool: &Text, node: &Text, priority: u64) -> bool
 pub(crate) fn counted<'a, V: View>(
     view: &'a V,
     namespace: &Text,
-    stops: &[u64],
+    stops: &Marked<'_>,
     pool: &Text,
     node: &Text,
     eviction: &Eviction,
@@ -117,30 +118,22 @@ fn names<V: View>(view: &V, quota: &Text, namespace: &Text) -> bool
     }
 }
 
-/// Whether the number at the place stands earlier too.
-fn stands_earlier(numbers: &[u64], place: usize) -> bool
-    requires { place < length numbers.now }
-    ensures { (d : ℕ) → result ≡
-        has_number (take place numbers.now) (slice_index_or numbers.now place d) }
-{
-    has_number(&numbers[..place], numbers[place])
-}
-
 /// Whether the number at the place takes something and stands there for the first time. The numbers before it are
 /// looked at only where it takes something.
-fn takes_first(part: Resources, numbers: &[u64], place: usize) -> bool
+fn takes_first(part: Resources, numbers: &Marked<'_>, place: usize) -> bool
     requires { place < length numbers.now }
     ensures { (d : ℕ) → result ≡ (not (same_resources part none)
         && not (has_number (take place numbers.now) (slice_index_or numbers.now place d))) }
 {
-    !same_resources(part, none()) && !stands_earlier(numbers, place)
+    !same_resources(part, none()) && !numbers.stands_earlier(place)
 }
 
-/// The node's load after the stops. It costs a look-up for each of them.
+/// The node's load after the stops. It costs a look-up for each of them, and where they do not rise a walk over those
+/// before each that takes something from the node.
 pub(crate) fn load<V: View>(
     view: &V,
     namespace: &Text,
-    stops: &[u64],
+    stops: &Marked<'_>,
     pool: &Text,
     node: &Text,
 ) -> Resources
@@ -149,8 +142,9 @@ pub(crate) fn load<V: View>(
         pool.now node.now }
 {
     let mut left = view.load(pool, node);
-    for i in 0..stops.len() {
-        let part = part_on(view.allocation(namespace, stops[i]), pool, node);
+    let numbers = stops.as_slice();
+    for i in 0..numbers.len() {
+        let part = part_on(view.allocation(namespace, numbers[i]), pool, node);
         if takes_first(part, stops, i) {
             left = less(left, part);
         }
@@ -158,30 +152,31 @@ pub(crate) fn load<V: View>(
     left
 }
 
-fn used<V: View>(view: &V, namespace: &Text, stops: &[u64], quota: &Text) -> Resources
+fn used<V: View>(view: &V, namespace: &Text, stops: &Marked<'_>, quota: &Text) -> Resources
     requires { AreCounted (V.world view.now) }
     ensures { result ≡ quota_use (after_stops (V.world view.now) namespace.now stops.now)
         quota.now }
 {
     let named = names(view, quota, namespace);
     let mut left = view.used(quota);
-    for i in 0..stops.len() {
-        if !stands_earlier(stops, i) {
+    let numbers = stops.as_slice();
+    for i in 0..numbers.len() {
+        if !stops.stands_earlier(i) {
             left = less(
                 left,
-                part_of_quota(named, view.allocation(namespace, stops[i])),
+                part_of_quota(named, view.allocation(namespace, numbers[i])),
             );
         }
     }
     left
 }
 
-/// The use of the quota after the stops, where there is one. It costs a look-up for each of them, and the square of
-/// their number.
+/// The use of the quota after the stops, where there is one. It costs a look-up for each of them, and where they do not
+/// rise the square of their number.
 pub(crate) fn use_of<V: View>(
     view: &V,
     namespace: &Text,
-    stops: &[u64],
+    stops: &Marked<'_>,
     quota: Option<&Text>,
 ) -> Resources
     requires { AreCounted (V.world view.now) }

@@ -79,11 +79,15 @@ fn list_nodes(snapshot: &Snapshot, plan: &Plan, nodes: &mut ArrayVec<u64, 1000>)
 /// Of the plan's stops those count whose allocations are live (`live_stops`). What the nodes that do their part evict,
 /// `victims` lists.
 ///
-/// It goes over the placements twice; over at most 16 once, and once more for each of their nodes. For each node of the
-/// plan it asks the node's load once, looks each stop up, and goes from the node's first placement that evicts to its
-/// last. It looks each eviction up once, with a walk over the stops where it is of the snapshot's namespace, and for
-/// each that counts it goes from the node's first such placement to the eviction. What a quota has in use is asked once,
-/// and costs the square of the stops.
+/// It goes over the placements twice; over at most 16 once, and once more for each of their nodes. It looks each stop up
+/// once with its node, and asks the load of each node of the snapshot; where there are few stops and placements it looks
+/// each stop up for each node of the plan instead, and asks the load of no other. For each node of the plan it goes from
+/// the node's first placement that evicts to its last. It looks each eviction up once, and among the stops where it is of
+/// the snapshot's namespace, and for each that counts it goes from the node's first such placement to the eviction. What
+/// a quota has in use is asked once, with a look-up for each stop.
+///
+/// That holds of stops that rise, as those of a job that is gone or replaced do. Of others each look-up among the stops is
+/// a walk.
 pub fn check<V: View>(snapshot: &Snapshot, plan: &Plan, view: &V) -> Outcome
     requires counted { AreCounted (V.world view.now) }
     requires fits { IsOnFewNodes snapshot.now plan.now }

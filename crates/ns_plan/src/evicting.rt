@@ -11,17 +11,18 @@ ghost use Rattle.ns_plan.specs.Looks.{AreVictims, IsOnFewNodes};
 use crate::after::{counted, has_number};
 use crate::taking::node_name;
 use crate::view::View;
+use ns_marks::Marked;
 use ns_types::plan::{Eviction, Placement, Plan};
 use ns_types::snapshot::Snapshot;
 use ns_types::text::same_text;
 use std::alloc::{AllocError, Global};
 
 /// Whether the eviction counts, after the plan's stops, on the node at that place of the snapshot. It takes no memory,
-/// and costs a look-up and a walk over the stops.
+/// and costs two look-ups, of which the one among the stops is a walk where these do not rise.
 pub fn counts<V: View>(
     view: &V,
     snapshot: &Snapshot,
-    stops: &[u64],
+    stops: &Marked<'_>,
     node: u64,
     eviction: &Eviction,
 ) -> bool
@@ -61,7 +62,7 @@ fn is_held(held: &[&Eviction], eviction: &Eviction) -> bool
 fn is_new<V: View>(
     view: &V,
     snapshot: &Snapshot,
-    stops: &[u64],
+    stops: &Marked<'_>,
     node: u64,
     held: &[&Eviction],
     eviction: &Eviction,
@@ -79,7 +80,7 @@ fn is_new<V: View>(
 fn hold<'a, V: View>(
     view: &V,
     snapshot: &Snapshot,
-    stops: &[u64],
+    stops: &Marked<'_>,
     placement: &'a Placement,
     held: &mut Vec<&'a Eviction>,
 ) -> Result<(), AllocError>
@@ -98,8 +99,8 @@ fn hold<'a, V: View>(
 }
 
 /// The evictions of committed nodes that count, each allocation once, in the order of the plan. It costs a walk over
-/// the committed nodes for each placement, a look-up and a walk over the stops for each eviction of these nodes, and
-/// the square of how many count.
+/// the committed nodes for each placement, two look-ups for each eviction of these nodes, and the square of how many
+/// count.
 pub fn victims<'a, V: View>(
     alloc: Global,
     view: &V,
@@ -114,11 +115,11 @@ pub fn victims<'a, V: View>(
     ensures checked { IfOk result (λ v. AreVictims snapshot.now plan.now (V.world view.now)
         committed.now (keys_of (map (λ e. e.now) v.items))) }
 {
-    let stops = plan.stops.as_slice();
+    let stops = Marked::new(plan.stops.as_slice());
     let mut held = Vec::new(alloc);
     for placement in plan.placing.placements.as_slice() {
         if has_number(committed, placement.node) {
-            hold(view, snapshot, stops, placement, &mut held)?;
+            hold(view, snapshot, &stops, placement, &mut held)?;
         }
     }
     Ok(held)

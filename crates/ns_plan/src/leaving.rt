@@ -4,15 +4,16 @@ ghost use Rattle.std.specs.Prelude.{◌≡◌, ◌++◌, ◌&&◌, ◌||◌, Non
 ghost use Rattle.std.specs.List.{list_any};
 ghost use Rattle.ns_types.specs.declared.resources.Resources.{Resources};
 ghost use Rattle.ns_types.specs.State.Names.{Key, same_number};
+ghost use Rattle.ns_types.specs.State.Sums.{node_load};
 ghost use Rattle.ns_types.specs.Working.Commit.{part_of};
 ghost use Rattle.ns_types.proofs.Once.{once};
 ghost use Rattle.ns_plan.specs.After.{after_stops, counted, shares};
-ghost use Rattle.ns_plan.specs.Looks.{AreCounted};
 ghost use Rattle.ns_plan.specs.Reader.{AreElsewhere, Leaves, evictions_of, left_by, quota_left};
 ghost use Rattle.ns_plan.specs.Reader.{same_eviction, with_gone};
 
-use crate::after::{counted, load, shares};
+use crate::after::{counted, shares};
 use crate::view::View;
+use ns_marks::Marked;
 use ns_types::allocation::Allocation;
 use ns_types::plan::{Eviction, Placement};
 use ns_types::resources::{Resources, less};
@@ -74,7 +75,7 @@ fn stands_earlier(
 fn new_victim<'a, V: View>(
     view: &'a V,
     snapshot: &Snapshot,
-    stops: &[u64],
+    stops: &Marked<'_>,
     name: &Text,
     before: &[Placement],
     node: u64,
@@ -117,7 +118,7 @@ fn with_gone(left: Left, size: Resources, shared: bool) -> Left
 fn without_victims<V: View>(
     view: &V,
     snapshot: &Snapshot,
-    stops: &[u64],
+    stops: &Marked<'_>,
     quota: Option<&Text>,
     name: &Text,
     before: &[Placement],
@@ -148,31 +149,31 @@ fn without_victims<V: View>(
     left
 }
 
-/// What is left of the node's load, and of the use that was left of the quota, without the victims of the node's part
-/// of these placements. It costs a walk over them, a look-up for each stop and for each eviction of the part, and for
-/// each of these that counts another walk over the placements before it.
+/// What is left of the node's whole load, and of the use that was left of the quota, without the victims of the node's
+/// part of these placements. It costs a walk over them, a look-up for each eviction of the part, and for each of these that
+/// counts another walk over the placements before it.
 pub(crate) fn left_at<V: View>(
     view: &V,
     snapshot: &Snapshot,
-    stops: &[u64],
+    stops: &Marked<'_>,
     placements: &[Placement],
     quota: Option<&Text>,
     node: u64,
     name: &Text,
-    used: Resources,
+    whole: Left,
 ) -> Left
-    requires { AreCounted (V.world view.now) }
+    requires { whole.load ≡ node_load (after_stops (V.world view.now) snapshot.now.namespace stops.now)
+        snapshot.now.pool name.now }
     ensures { (keys : List Key) →
         AreElsewhere (after_stops (V.world view.now) snapshot.now.namespace stops.now)
         snapshot.now.pool name.now keys →
-        used ≡ quota_left (after_stops (V.world view.now) snapshot.now.namespace stops.now)
+        whole.used ≡ quota_left (after_stops (V.world view.now) snapshot.now.namespace stops.now)
         (option_copied quota.entry) (once keys) →
         result ≡ left_by (after_stops (V.world view.now) snapshot.now.namespace stops.now)
         snapshot.now.pool name.now (option_copied quota.entry) keys
         (evictions_of (part_of node placements.now)) }
 {
-    let load = load(view, &snapshot.namespace, stops, &snapshot.pool, name);
-    let mut left = Left { load, used };
+    let mut left = whole;
     for i in 0..placements.len() {
         let placement = &placements[i];
         if placement.node == node {

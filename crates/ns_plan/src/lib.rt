@@ -8,6 +8,7 @@ mod evicting;
 mod gathering;
 pub mod laws;
 mod leaving;
+mod loads;
 mod stops;
 mod taking;
 mod view;

@@ -1,4 +1,4 @@
-use Rattle.std.proofs.Common.{◌≤◌, ◌&&◌, ◌∙◌, cond, get_or, length, refl, sym, ap, arith, take}
+use Rattle.std.proofs.Common.{◌<◌, ◌≤◌, ◌&&◌, ◌∙◌, cond, get_or, length, refl, subst, sym, ap, arith, take}
 use Rattle.std.specs.Prelude.{not}
 use Rattle.std.proofs.lemmas.List.{take_all}
 use Rattle.ns_types.specs.State.Resources.{minus, none, same_resources}
@@ -19,11 +19,13 @@ loop-i-preserved g c =
     let pool = c.args.pool.now in
     let node = c.args.node.now in
     let at = c.loop-i.i in
+    let seen = c.as_slice-numbers.ensures in
+    let inside = subst (λ l. at < length l) seen c.loop-i-test.true in
     let before = load_left w pool node (once (stop_keys ns (take at stops))) in
     let row = allocation_at w (ns, get_or stops at 0) in
     let stood = has_number (take at stops) (get_or stops at 0) in
-    let part = c.part_on-part.ensures ∙ ap (part_on pool node) c.allocation.ensures in
-    let next = first_less before (part_on pool node row) stood ∙ sym (load_step ns stops at c.loop-i-test.true w stood refl pool node) in
+    let part = c.part_on-part.ensures ∙ ap (part_on pool node) (c.allocation.ensures ∙ ap (λ l. allocation_at w (ns, get_or l at 0)) seen) in
+    let next = first_less before (part_on pool node row) stood ∙ sym (load_step ns stops at inside w stood refl pool node) in
     let first = ap (λ r. not (same_resources r none) && not stood) (sym part) ∙ sym (c.takes_first.ensures 0) in
     elim c.if-takes_first.branch [
       | then-takes_first v ↦ v.left-is ∙ v.less-left.ensures ∙ (λ i. minus (c.loop-i.invariant i) (part i))
@@ -35,7 +37,8 @@ loop-i-preserved g c =
 pub returns : goal.returns
 returns g c =
     let w = g.V.View.world c.args.view.now in
-    let at_end : length c.args.stops.now ≤ c.loop-i.i = omega arith in
+    let long = ap length c.as_slice-numbers.ensures in
+    let at_end : length c.args.stops.now ≤ c.loop-i.i = omega (arith, long) in
     c.loop-i.invariant
     ∙ ap (λ l. load_left w c.args.pool.now c.args.node.now (once (stop_keys c.args.namespace.now l)))
     (take_all c.loop-i.i c.args.stops.now at_end)

@@ -1,4 +1,4 @@
-use Rattle.std.proofs.Common.{◌≡◌, ◌∙◌, Bool, ap, false, not, refl, sym, true}
+use Rattle.std.proofs.Common.{◌≡◌, ◌∙◌, Bool, ap, false, not, sym, true}
 use Rattle.ns_types.specs.Working.Commit.{still_stands}
 use Rattle.ns_plan.specs.Looks.{decision_of}
 use Rattle.ns_plan.proofs.Parts.{checked_is, done_is}

@@ -1,4 +1,5 @@
 use Rattle.std.proofs.Common.{◌∙◌, ◌++◌, ◌∷◌, [], ap, option_copied, subst, sym}
+use Rattle.ns_types.specs.State.Sums.{node_load}
 use Rattle.ns_types.specs.Working.Commit.{node_name, part_of, size_of}
 use Rattle.ns_types.proofs.Once.{once}
 use Rattle.ns_plan.specs.After.{after_stops}
@@ -8,6 +9,11 @@ use Rattle.ns_plan.specs.Reader.{evictions_of, is_on, left_by, quota_left, takes
 use Rattle.ns_types.proofs.Amounts.{amount_added}
 use Rattle.ns_plan.proofs.Steps.{left_is, step_left, step_taken, takes_same}
 use Rattle.ns_plan.proofs.deciding.decide.Goals as goal
+
+pub left_at-left-requires : goal.left_at-left-requires
+left_at-left-requires g c =
+    let x = after_stops (g.V.View.world c.args.view.now) c.args.snapshot.now.namespace c.args.stops.now in
+    c.requires.load ∙ ap (node_load x c.args.snapshot.now.pool) (sym c.node_name-name.ensures)
 
 pub returns-then-takes : goal.returns-then-takes
 returns-then-takes g c = λ r so_far elsewhere.
@@ -20,7 +26,7 @@ returns-then-takes g c = λ r so_far elsewhere.
     let quota = option_copied c.args.quota in
     let k = c.args.node in
     let part = part_of k ps in
-    let stops_is = c.as_slice-stops.ensures in
+    let stops_is = c.requires.stops in
     let ps_is = c.as_slice-placements.ensures in
     let name_is = c.node_name-name.ensures in
     let run_is = c.evicting-run.ensures k (subst (λ l. IsPart k l c.args.part) (sym ps_is) c.requires.part) ∙ ap (λ l. evictions_of (part_of k l)) ps_is in
@@ -48,7 +54,7 @@ returns-else-takes g c = λ r so_far elsewhere.
     let quota = option_copied c.args.quota in
     let k = c.args.node in
     let part = part_of k ps in
-    let stops_is = c.as_slice-stops.ensures in
+    let stops_is = c.requires.stops in
     let ps_is = c.as_slice-placements.ensures in
     let name_is = c.node_name-name.ensures in
     let run_is = c.evicting-run.ensures k (subst (λ l. IsPart k l c.args.part) (sym ps_is) c.requires.part) ∙ ap (λ l. evictions_of (part_of k l)) ps_is in

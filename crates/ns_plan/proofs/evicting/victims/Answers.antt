@@ -25,7 +25,7 @@ loop-placement-preserved g c =
     let so_far = keys_of (victims_of x kept (filter (λ p. has_number nodes p.node) (take at ps))) in
     elim c.if-has_number.branch [
       | then-has_number+in_ok-hold v ↦ (λ j. keys_of (map (λ e. e.now) (v.held-is j).items)) ∙ v.in_ok-hold.ensures so_far c.loop-placement.invariant
-          ∙ (λ i. once (so_far ++ keys_of (victims_in (after_stops w kept.namespace (c.as_slice-stops.ensures i)) kept p)))
+          ∙ (λ i. once (so_far ++ keys_of (victims_in (after_stops w kept.namespace ((c.new-stops.ensures ∙ c.as_slice.ensures) i)) kept p)))
           ∙ ap once (sym (next true (sym c.has_number.ensures ∙ v.if-has_number.true)))
       | else-has_number v ↦ (λ j. keys_of (map (λ e. e.now) (v.held-is j).items)) ∙ c.loop-placement.invariant
           ∙ ap once (sym (next false (sym c.has_number.ensures ∙ v.if-has_number.false) ∙ append-nil so_far))

@@ -1,4 +1,4 @@
-use Rattle.std.proofs.Common.{◌≤◌, ◌++◌, ◌∷◌, [], arith, length, subst, sym, take}
+use Rattle.std.proofs.Common.{◌++◌, ◌∷◌, [], arith, subst, sym, take}
 use Rattle.std.proofs.lemmas.List.{length-take-le, take_all}
 use Rattle.ns_plan.specs.Gathered.{IsPart}
 use Rattle.ns_plan.proofs.Gathered.{not_there}

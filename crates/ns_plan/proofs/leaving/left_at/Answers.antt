@@ -12,8 +12,8 @@ use Rattle.ns_plan.proofs.leaving.left_at.Goals.{then-placement-node, else-place
 pub loop-i-init : goal.loop-i-init
 loop-i-init g c = λ keys elsewhere used.
     let x = after_stops (g.V.View.world c.args.view.now) c.args.snapshot.now.namespace c.args.stops.now in
-    (λ i. record { load = c.load-load.ensures i; used = c.args.used })
-    ∙ nothing_left_out x c.args.snapshot.now.pool c.args.name.now (option_copied c.args.quota) keys c.args.used elsewhere used
+    (λ i. record { load = c.requires i; used = c.args.whole.used })
+    ∙ nothing_left_out x c.args.snapshot.now.pool c.args.name.now (option_copied c.args.quota) keys c.args.whole.used elsewhere used
 
 pub loop-i-preserved : goal.loop-i-preserved
 loop-i-preserved g c = λ keys elsewhere used.

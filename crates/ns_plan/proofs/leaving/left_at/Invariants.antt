@@ -8,6 +8,6 @@ use Rattle.ns_plan.proofs.leaving.left_at.Given as goal
 
 abbrev pub invariant-loop-i : goal.invariant-loop-i
 invariant-loop-i g l = (keys : List Key) → AreElsewhere (after_stops (g.V.View.world l.view) l.snapshot.namespace l.stops) l.snapshot.pool l.name keys →
-    l.fn.used ≡ quota_left (after_stops (g.V.View.world l.view) l.snapshot.namespace l.stops) (option_copied l.quota) (once keys) →
+    l.fn.whole.used ≡ quota_left (after_stops (g.V.View.world l.view) l.snapshot.namespace l.stops) (option_copied l.quota) (once keys) →
     l.left ≡ left_by (after_stops (g.V.View.world l.view) l.snapshot.namespace l.stops) l.snapshot.pool l.name (option_copied l.quota) keys
     (evictions_of (part_of l.node (take l.i l.placements)))

@@ -1,0 +1,167 @@
+//! What is in use on each node of a snapshot after a plan's stops, in one walk over them.
+
+ghost use Rattle.std.specs.Prelude.{◌≡◌, ◌+◌, ◌<◌, ◌≤◌, ◌&&◌, IfSome, Some, length, take, true};
+ghost use Rattle.ns_types.specs.State.Names.{same_name};
+ghost use Rattle.ns_types.specs.State.Rows.{is_live};
+ghost use Rattle.ns_types.specs.State.Sums.{node_load};
+ghost use Rattle.ns_types.specs.Working.Commit.{node_name};
+ghost use Rattle.ns_plan.specs.After.{after_stops, part_on, stop_keys};
+ghost use Rattle.ns_plan.specs.Loads.{AreApart, AreLeft, AreLoads, IsPlaceOf, IsTaken, taken};
+ghost use Rattle.ns_plan.specs.Looks.{AreCounted, IsOnFewNodes};
+
+use crate::after::load;
+use crate::taking::node_name;
+use crate::view::View;
+use ns_marks::Marked;
+use ns_types::allocation::Allocation;
+use ns_types::plan::Plan;
+use ns_types::resources::{Resources, less, none};
+use ns_types::shared::Shared;
+use ns_types::snapshot::{PoolNode, Snapshot};
+use ns_types::text::{Text, same_text};
+
+/// Where the node of that name stands, if the nodes are in the order of their names.
+fn guess(nodes: &[Shared<PoolNode>], name: &Text) -> usize {
+    nodes.partition_point(|node| node.get().name < *name)
+}
+
+/// Where it stands, by a walk over all nodes.
+fn walk_to(nodes: &[Shared<PoolNode>], name: &Text) -> Option<usize>
+    ensures { IsPlaceOf nodes.now name.now result }
+{
+    for place in 0..nodes.len() {
+        if same_text(&nodes[place].get().name, name) {
+            return Some(place);
+        }
+    }
+    None
+}
+
+/// Where the node of that name stands. It costs a binary search, and only where that fails a walk.
+fn place_of(nodes: &[Shared<PoolNode>], name: &Text) -> Option<usize>
+    ensures { IsPlaceOf nodes.now name.now result }
+{
+    let place = guess(nodes, name);
+    match nodes.get(place) {
+        Some(node) if same_text(&node.get().name, name) => Some(place),
+        _ => walk_to(nodes, name),
+    }
+}
+
+fn is_live_in(row: &Allocation, pool: &Text) -> bool
+    ensures { result ≡ (is_live row.now && same_name pool.now row.now.pool) }
+{
+    row.is_live() && same_text(pool, &row.pool)
+}
+
+/// What the allocation takes from its node, if that is of the snapshot.
+fn taken_by(snapshot: &Snapshot, row: &Allocation) -> Option<(usize, Resources)>
+    requires apart { AreApart snapshot.now }
+    requires lives { (is_live row.now && same_name snapshot.now.pool row.now.pool) ≡ true }
+    ensures { IsTaken snapshot.now
+        (λ k. part_on snapshot.now.pool (node_name snapshot.now k) (Some row.now)) result }
+{
+    match place_of(snapshot.nodes.as_slice(), &row.node) {
+        Some(node) => Some((node, row.size)),
+        None => None,
+    }
+}
+
+/// What the allocation of the stop at the place takes, and from which node of the snapshot. None: it takes nothing from
+/// any of them, or its number stands earlier too.
+fn taken<V: View>(
+    view: &V,
+    snapshot: &Snapshot,
+    stops: &Marked<'_>,
+    place: usize,
+) -> Option<(usize, Resources)>
+    requires apart { AreApart snapshot.now }
+    requires inside { place < length stops.now }
+    ensures { IsTaken snapshot.now (taken (V.world view.now) snapshot.now stops.now place) result }
+{
+    match view.allocation(&snapshot.namespace, stops.as_slice()[place]) {
+        Some(row) if is_live_in(row, &snapshot.pool) && !stops.stands_earlier(place) => {
+            taken_by(snapshot, row)
+        }
+        _ => None,
+    }
+}
+
+/// The loads of the nodes before the stops.
+fn present_loads<V: View>(view: &V, snapshot: &Snapshot) -> [Resources; 1000]
+    requires counted { AreCounted (V.world view.now) }
+    requires few { length snapshot.now.nodes ≤ 1000 }
+    ensures { AreLoads (V.world view.now) snapshot.now result }
+{
+    let mut loads = [none(); 1000];
+    for node in 0..snapshot.nodes.as_slice().len() {
+        loads[node] = view.load(&snapshot.pool, node_name(snapshot, node as u64));
+    }
+    loads
+}
+
+/// Takes the allocation of the stop at the place off the load of its node.
+fn take_off<V: View>(
+    view: &V,
+    snapshot: &Snapshot,
+    stops: &Marked<'_>,
+    place: usize,
+    loads: &mut [Resources; 1000],
+)
+    requires few { length snapshot.now.nodes ≤ 1000 }
+    requires apart { AreApart snapshot.now }
+    requires inside { place < length stops.now }
+    requires left { let kept = snapshot.now in AreLeft (V.world view.now) kept
+        (stop_keys kept.namespace (take place stops.now)) loads.old }
+    ensures { let kept = snapshot.now in AreLeft (V.world view.now) kept
+        (stop_keys kept.namespace (take (place + 1) stops.now)) loads.new }
+{
+    if let Some((node, size)) = taken(view, snapshot, stops, place) {
+        loads[node] = less(loads[node], size);
+    }
+}
+
+/// The loads of the nodes after the stops. It costs two look-ups for each of the stops, and one for each node.
+pub(crate) fn loads_of<V: View>(
+    view: &V,
+    snapshot: &Snapshot,
+    plan: &Plan,
+    stops: &Marked<'_>,
+) -> [Resources; 1000]
+    requires counted { AreCounted (V.world view.now) }
+    requires fits { IsOnFewNodes snapshot.now plan.now }
+    ensures { AreLoads (after_stops (V.world view.now) snapshot.now.namespace stops.now)
+        snapshot.now result }
+{
+    let mut loads = present_loads(view, snapshot);
+    for place in 0..stops.as_slice().len() {
+        take_off(view, snapshot, stops, place, &mut loads);
+    }
+    loads
+}
+
+/// The load of the node after the stops, which is looked up where the loads of all nodes were gathered.
+pub(crate) fn load_at<V: View>(
+    view: &V,
+    snapshot: &Snapshot,
+    stops: &Marked<'_>,
+    loads: Option<&[Resources; 1000]>,
+    node: u64,
+) -> Resources
+    requires counted { AreCounted (V.world view.now) }
+    requires few { length snapshot.now.nodes ≤ 1000 }
+    requires inside { node < length snapshot.now.nodes }
+    requires right { IfSome loads (λ loads. AreLoads
+        (after_stops (V.world view.now) snapshot.now.namespace stops.now)
+        snapshot.now loads.now) }
+    ensures { result ≡ node_load (after_stops (V.world view.now) snapshot.now.namespace stops.now)
+        snapshot.now.pool (node_name snapshot.now node) }
+{
+    match loads {
+        Some(loads) => loads[node as usize],
+        None => {
+            let name = node_name(snapshot, node);
+            load(view, &snapshot.namespace, stops, &snapshot.pool, name)
+        }
+    }
+}
