@@ -19,7 +19,7 @@ fn any_eviction_passes<V: View>(
     headroom: &Headroom,
     view: &V,
     snapshot: &Snapshot,
-    stops: &[u64],
+    stops: &Marked<'_>,
     node: u64,
     evictions: &[Eviction],
 ) -> bool
@@ -40,7 +40,7 @@ fn placement_passes<V: View>(
     headroom: &Headroom,
     view: &V,
     snapshot: &Snapshot,
-    stops: &[u64],
+    stops: &Marked<'_>,
     committed: &Marked<'_>,
     placement: &Placement,
 ) -> bool
@@ -65,7 +65,7 @@ fn any_placement_passes<V: View>(
     headroom: &Headroom,
     view: &V,
     snapshot: &Snapshot,
-    stops: &[u64],
+    stops: &Marked<'_>,
     committed: &Marked<'_>,
     placements: &[Placement],
 ) -> bool
@@ -82,8 +82,8 @@ fn any_placement_passes<V: View>(
 /// of a namespace that loses an allocation. Whether the namespaces have numbers for the evaluations of their jobs is
 /// not asked here.
 ///
-/// It costs a look-up for each eviction of these nodes. Whether one counts, for which the plan's stops are gone over,
-/// is asked only where it passes.
+/// It costs a walk over the stops, and a look-up for each eviction of these nodes. Whether one counts is asked only
+/// where it passes.
 pub fn lost_part_passes<V: View>(
     headroom: &Headroom,
     view: &V,
@@ -99,7 +99,7 @@ pub fn lost_part_passes<V: View>(
         headroom,
         view,
         snapshot,
-        plan.stops.as_slice(),
+        &Marked::new(plan.stops.as_slice()),
         committed,
         plan.placing.placements.as_slice(),
     )
