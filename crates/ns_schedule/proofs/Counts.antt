@@ -1,11 +1,9 @@
 -- Sums that are checked as they are made.
-use Rattle.std.specs.Prelude.{◌≡◌, ℕ, zero, suc, ◌+◌, ◌*◌, ◌^◌, ◌<◌, ◌≤◌, true, List, ◌∷◌, length, drop}
-use Rattle.std.specs.Prelude.{get_or, nat_lt, replicate, sum_by}
-use Rattle.std.proofs.Common.{refl, sym, ap, subst, ◌∙◌, arith}
-use Rattle.std.proofs.lemmas.Bool.{lt-ltb}
+use Rattle.std.specs.Prelude.{◌≡◌, ℕ, ◌+◌, ◌*◌, ◌^◌, ◌<◌, List, ◌∷◌, length, drop}
+use Rattle.std.specs.Prelude.{get_or, replicate, sum_by}
+use Rattle.std.proofs.Common.{sym, ap, subst, ◌∙◌, arith}
 use Rattle.std.proofs.lemmas.List.Folds.{sum_by-replicate}
 use Rattle.std.proofs.lemmas.List.Sums.{sum_by-append}
-use Rattle.std.proofs.Math.Nat.{suc-mul}
 use Rattle.ns_types.specs.declared.job.Group.{Group}
 use Rattle.ns_types.specs.declared.job.Job.{Job}
 use Rattle.ns_types.specs.declared.plan.Demand.{Demand}
@@ -13,9 +11,9 @@ use Rattle.ns_types.specs.declared.resources.Resources.{Resources}
 use Rattle.ns_types.specs.declared.snapshot.OwnAllocation.{OwnAllocation}
 use Rattle.ns_types.specs.Placing.Wanted.{demands_from, group_size, missing}
 use Rattle.ns_types.specs.State.Resources.{IsCounted, plus, quantity, total}
-use Rattle.ns_types.specs.State.Resources.{is_counted, times}
+use Rattle.ns_types.specs.State.Resources.{times}
 use Rattle.ns_schedule.proofs.Wants.{first_of_rest}
-use Rattle.ns_types.proofs.Amounts.{at, counted_at, every, every_true, same_of_each}
+use Rattle.ns_types.proofs.Amounts.{at, every, same_of_each}
 
 -- what the missing ones of a group take, and of those after it
 pub demanded : (f : Resources → ℕ) (i : ℕ) (j : Job) (own : List OwnAllocation) (g : Group) (gs : List Group)

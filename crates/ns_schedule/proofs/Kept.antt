@@ -1,15 +1,14 @@
 -- What a valid state keeps is far within 64 bits.
-use Rattle.std.specs.Prelude.{◌≡◌, ℕ, ◌+◌, ◌*◌, ◌^◌, ◌≤◌, ◌<◌, Bool, true, false, cond, List, [], ◌∷◌, Option, Some, None, length, nat_le, sum_by}
+use Rattle.std.specs.Prelude.{◌≡◌, ℕ, ◌+◌, ◌*◌, ◌^◌, ◌≤◌, ◌<◌, Bool, true, false, cond, List, [], ◌∷◌, Option, Some, None, length, sum_by}
 use Rattle.std.specs.List.{list_all}
 use Rattle.std.specs.Option.{unwrap_or}
 use Rattle.std.proofs.Common.{refl, arith}
-use Rattle.std.proofs.lemmas.Bool.{and_from, leb-true}
+use Rattle.std.proofs.lemmas.Bool.{and_from}
 use Rattle.std.proofs.lemmas.List.Sums.{sum_by-le}
 use Rattle.std.proofs.lemmas.Nat.{mul-le}
 use Rattle.ns_types.specs.declared.job.Group.{Group}
 use Rattle.ns_types.specs.declared.job.Job.{Job}
 use Rattle.ns_types.specs.declared.job.Task.{Task}
-use Rattle.ns_types.specs.declared.name.NameKind.TheVariants as NameKind
 use Rattle.ns_types.specs.declared.plan.Demand.{Demand}
 use Rattle.ns_types.specs.declared.resources.Resources.{Resources}
 use Rattle.ns_types.specs.declared.snapshot.OwnAllocation.{OwnAllocation}
@@ -18,13 +17,12 @@ use Rattle.ns_types.specs.declared.snapshot.QuotaSeen.{QuotaSeen}
 use Rattle.ns_types.specs.declared.snapshot.Snapshot.{Snapshot}
 use Rattle.ns_types.specs.Placing.Plan.{no_quota, quota_of}
 use Rattle.ns_types.specs.Placing.Wanted.{demands, demands_from, group_size, missing}
-use Rattle.ns_types.specs.State.Limits.{is_amount, is_between, is_good_document, is_good_group, is_good_offer, is_good_task}
-use Rattle.ns_types.specs.State.Name.{is_name}
+use Rattle.ns_types.specs.State.Limits.{is_amount, is_good_document, is_good_group, is_good_offer, is_good_task}
 use Rattle.ns_types.specs.State.Resources.{Resource, Cpu, Memory, Disk, is_within, plus, quantity, total}
 use Rattle.ns_types.specs.Validity.{IsCountable, IsSmall, seen_load}
 use Rattle.ns_types.proofs.Documents.{few_groups, few_missing, few_tasks, good_cpu, good_disk, good_groups, good_memory, good_tasks}
 use Rattle.ns_types.proofs.Elements.{all_from, each_from_all, each_of}
-use Rattle.ns_types.proofs.Amounts.{at, every, quantity_of, within_at}
+use Rattle.ns_types.proofs.Amounts.{at, every, within_at}
 use Rattle.ns_types.proofs.LiveSums.{most_at, most_of}
 use Rattle.ns_types.proofs.Named.{first_of_both, second_of_both}
 use Rattle.ns_schedule.specs.Fits.{fits, node_fits}

@@ -11,7 +11,7 @@ use Rattle.ns_types.specs.Placing.Choice.{is_unbeaten, best}
 use Rattle.ns_types.specs.Placing.Placement.{Candidate, fits, better, best_fit}
 use Rattle.ns_types.specs.Placing.Planning.{preempt}
 use Rattle.ns_types.specs.Placing.Preemption.{victims, cheaper, best_victims}
-use Rattle.ns_types.specs.State.Resources.{plus, is_within, none}
+use Rattle.ns_types.specs.State.Resources.{is_within}
 use Rattle.ns_preempt.specs.Fewest.{IsFewest}
 use Rattle.ns_schedule.specs.Chosen.{IsChosen}
 use Rattle.ns_types.proofs.Amounts.{plus_none}

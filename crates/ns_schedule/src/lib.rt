@@ -6,6 +6,7 @@ pub mod laws;
 mod opening;
 mod placing;
 mod planned;
+mod stops;
 mod sums;
 mod wanted;
 

@@ -1,11 +1,12 @@
 //! The nodes as the job sees them, without what stops.
 
-ghost use Rattle.std.specs.Prelude.{◌≡◌, ◌==◌, IfOk, map};
-ghost use Rattle.std.specs.List.{All, list_any};
-ghost use Rattle.ns_types.specs.Placing.Plan.{candidate_of, is_among, staying, stays};
+ghost use Rattle.std.specs.Prelude.{◌≡◌, IfOk, map};
+ghost use Rattle.std.specs.List.{All};
+ghost use Rattle.ns_types.specs.Placing.Plan.{candidate_of, staying, stays};
 ghost use Rattle.ns_types.specs.State.Resources.{IsCounted, minus, plus, total};
 ghost use Rattle.ns_types.specs.Validity.{seen_load};
 
+use crate::stops::Stops;
 use ns_place::{Candidate, feasible};
 use ns_preempt::evictable;
 use ns_types::job::Job;
@@ -15,34 +16,22 @@ use ns_types::snapshot::{LiveAllocation, OwnAllocation, PoolNode};
 use ns_types::text::Text;
 use std::alloc::{AllocError, Global};
 
-fn has_number(stops: &[&OwnAllocation], number: u64) -> bool
-    ensures { result ≡ list_any (λ s. s.now.number == number) stops.now }
-{
-    stops.iter().any(|s| s.number == number)
-}
-
-fn is_among(stops: &[&OwnAllocation], number: u64) -> bool
-    ensures { result ≡ is_among (map (λ a. a.now) stops.now) number }
-{
-    has_number(stops, number)
-}
-
 /// The number is looked at first: most plans stop nothing, and then no name has to be compared.
-fn stays(namespace: &Text, stops: &[&OwnAllocation], allocation: &LiveAllocation) -> bool
-    ensures { result ≡ stays namespace.now (map (λ a. a.now) stops.now) allocation.now }
+fn stays(namespace: &Text, stops: &Stops<'_>, allocation: &LiveAllocation) -> bool
+    ensures { result ≡ stays namespace.now stops.now allocation.now }
 {
-    !(is_among(stops, allocation.number) && *allocation.namespace.get() == *namespace)
+    !(stops.has(allocation.number) && *allocation.namespace.get() == *namespace)
 }
 
 /// What those that stay leave of the capacity.
 fn left_of(
     capacity: Resources,
     namespace: &Text,
-    stops: &[&OwnAllocation],
+    stops: &Stops<'_>,
     live: &[LiveAllocation],
 ) -> Resources
     ensures { result ≡ minus capacity
-        (total (λ a. a.size) (staying namespace.now (map (λ a. a.now) stops.now) live.now)) }
+        (total (λ a. a.size) (staying namespace.now stops.now live.now)) }
 {
     let mut left = capacity;
     for a in live {
@@ -56,11 +45,11 @@ fn left_of(
 fn staying<'a>(
     alloc: Global,
     namespace: &Text,
-    stops: &[&OwnAllocation],
+    stops: &Stops<'_>,
     order: &[&'a LiveAllocation],
 ) -> Result<Vec<&'a LiveAllocation>, AllocError>
     ensures { IfOk result (λ v. map (λ a. a.now) v.items
-        ≡ staying namespace.now (map (λ a. a.now) stops.now) (map (λ a. a.now) order.now)) }
+        ≡ staying namespace.now stops.now (map (λ a. a.now) order.now)) }
 {
     let mut left = Vec::new(alloc);
     for a in order {
@@ -75,12 +64,12 @@ fn candidate<'a>(
     alloc: Global,
     job: &Job,
     namespace: &Text,
-    stops: &[&OwnAllocation],
+    stops: &Stops<'_>,
     node: &'a PoolNode,
 ) -> Result<Candidate<'a>, AllocError>
     requires { IsCounted (plus node.now.row.offer.capacity (seen_load node.now)) }
     ensures { IfOk result (λ c. c
-        ≡ candidate_of job.now namespace.now (map (λ a. a.now) stops.now) node.now) }
+        ≡ candidate_of job.now namespace.now stops.now node.now) }
 {
     let live = node.live.as_slice();
     let order = evictable(alloc, live, job.document.priority)?;
@@ -96,12 +85,12 @@ pub(crate) fn candidates<'a>(
     alloc: Global,
     job: &Job,
     namespace: &Text,
-    stops: &[&OwnAllocation],
+    stops: &Stops<'_>,
     nodes: &'a [Shared<PoolNode>],
 ) -> Result<Vec<Candidate<'a>>, AllocError>
     requires { All (λ n. IsCounted (plus n.row.offer.capacity (seen_load n))) nodes.now }
     ensures { IfOk result (λ v. v.items
-        ≡ map (candidate_of job.now namespace.now (map (λ a. a.now) stops.now)) nodes.now) }
+        ≡ map (candidate_of job.now namespace.now stops.now) nodes.now) }
 {
     let mut candidates = Vec::with_capacity(alloc, nodes.len())?;
     for node in nodes {

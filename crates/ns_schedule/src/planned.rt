@@ -9,6 +9,7 @@ ghost use Rattle.ns_schedule.specs.Fits.{fits};
 
 use crate::opening::{candidates, used_without};
 use crate::placing::place_in_order;
+use crate::stops::Stops;
 use crate::sums::fits;
 use crate::wanted::{demands, stopping};
 use ns_place::Order;
@@ -61,14 +62,14 @@ fn placing_under(
     alloc: Global,
     snapshot: &Snapshot,
     job: &Job,
-    stops: &[&OwnAllocation],
+    stops: &Stops<'_>,
     quota: &QuotaSeen,
 ) -> Result<Placing, AllocError>
     requires fits { IsTrue (fits snapshot.now) }
     requires job { snapshot.now.job ≡ Some job.now }
     requires quota { quota.now ≡ quota_of snapshot.now }
     ensures { IfOk result (λ p. p ≡ place quota.now (demands (Some job.now) snapshot.now.own)
-        (opening snapshot.now job.now (map (λ a. a.now) stops.now))) }
+        (opening snapshot.now job.now stops.now)) }
 {
     let demands = demands(alloc, job, snapshot.own.as_slice())?;
     let Some(first) = demands.first() else {
@@ -77,18 +78,14 @@ fn placing_under(
     let nodes = snapshot.nodes.as_slice();
     let mut candidates = candidates(alloc, job, &snapshot.namespace, stops, nodes)?;
     let mut order = Order::new(alloc, candidates.as_slice(), first.size)?;
-    let used = used_without(quota.used, stops);
+    let used = used_without(quota.used, stops.as_slice());
     place_in_order(alloc, &mut candidates, &mut order, used, quota, &demands)
 }
 
-fn placing(
-    alloc: Global,
-    snapshot: &Snapshot,
-    stops: &[&OwnAllocation],
-) -> Result<Placing, AllocError>
+fn placing(alloc: Global, snapshot: &Snapshot, stops: &Stops<'_>) -> Result<Placing, AllocError>
     requires { IsTrue (fits snapshot.now) }
     ensures { IfOk result (λ p. p
-        ≡ placing_of snapshot.now snapshot.now.job (map (λ a. a.now) stops.now)) }
+        ≡ placing_of snapshot.now snapshot.now.job stops.now) }
 {
     match (&snapshot.job, &snapshot.quota) {
         (None, _) => Ok(all_placed(alloc)),
@@ -103,7 +100,7 @@ fn plan_of(alloc: Global, snapshot: &Snapshot) -> Result<Plan, AllocError>
 {
     let stopping = stopping(alloc, &snapshot.job, snapshot.own.as_slice())?;
     let stops = numbers(alloc, &stopping)?;
-    let placing = placing(alloc, snapshot, &stopping)?;
+    let placing = placing(alloc, snapshot, &Stops::new(&stopping, stops.as_slice()))?;
     Ok(Plan { stops, placing })
 }
 

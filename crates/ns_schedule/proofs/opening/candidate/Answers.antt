@@ -1,6 +1,5 @@
 use Rattle.std.proofs.Common.{◌≡◌, ◌∙◌, ap, sym, map, Bor, List, subst}
 use Rattle.ns_types.specs.declared.snapshot.LiveAllocation.{LiveAllocation}
-use Rattle.ns_types.specs.declared.snapshot.OwnAllocation.{OwnAllocation}
 use Rattle.ns_types.specs.declared.resources.Resources.{Resources}
 use Rattle.ns_types.specs.Placing.Plan.{staying, stays}
 use Rattle.ns_types.specs.Placing.Preemption.{evictable}
@@ -11,7 +10,7 @@ use Rattle.ns_schedule.proofs.opening.candidate.Goals as goal
 pub new-requires : goal.new-requires
 new-requires c =
     let seen = λ (a : Bor LiveAllocation). a.now in
-    let stops = map (λ (a : Bor OwnAllocation). a.now) c.args.stops.now in
+    let stops = c.args.stops.now in
     let namespace = c.args.namespace.now in
     let priority = c.args.job.now.document.priority in
     let live = c.args.node.now.live in

@@ -3,4 +3,4 @@ use Rattle.ns_types.specs.Placing.Plan.{candidate_of}
 use Rattle.ns_schedule.proofs.opening.candidates.Given as goal
 
 abbrev pub invariant-loop-node : goal.invariant-loop-node
-invariant-loop-node l = l.candidates.items ≡ map (candidate_of l.job l.namespace (map (λ x. x.now) l.stops)) (take l.node-index l.nodes)
+invariant-loop-node l = l.candidates.items ≡ map (candidate_of l.job l.namespace l.stops) (take l.node-index l.nodes)

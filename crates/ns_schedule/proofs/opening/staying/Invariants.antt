@@ -4,4 +4,4 @@ use Rattle.ns_schedule.proofs.opening.staying.Given as goal
 
 abbrev pub invariant-loop-a : goal.invariant-loop-a
 invariant-loop-a l = map (λ x. x.now) l.left.items
-    ≡ staying l.namespace (map (λ x. x.now) l.stops) (map (λ x. x.now) (take l.a-index l.order))
+    ≡ staying l.namespace l.stops (map (λ x. x.now) (take l.a-index l.order))
