@@ -27,12 +27,12 @@ use Rattle.ns_types.specs.Wire.Words.{target_text}
 use Rattle.ns_types.proofs.Named.{second_of_both}
 use Rattle.ns_json.specs.declared.registration.RegistrationDocument.{RegistrationDocument}
 use Rattle.ns_json.specs.declared.registration.JobTerms.{JobTerms}
-use Rattle.ns_json.specs.Reading.{Read, Gives, same, top, present, demanded, or_else, or_refuse, an_object, a_flag, a_number, a_text, a_name}
+use Rattle.ns_json.specs.Reading.{Read, Gives, same, top, present, demanded, or_else, or_refuse, an_object, a_number, a_text, a_name}
 use Rattle.ns_json.specs.Reading.{has_name, unless}
 use Rattle.ns_json.specs.Registration.{disk_in, resources_in, default_resources, no_constraints, task_in, tasks_in, group_in, groups_in, without_prefix}
 use Rattle.ns_json.specs.Registration.{without_suffix, attribute_key, target_of, operand_of, constraint_in, constraint_after, constraints_in, kind_in}
 use Rattle.ns_json.specs.Registration.{name_if_any, not_all, pool_in, absent, job_groups_in, work_in, terms_in, names_in, job_in, enforced_in}
-use Rattle.ns_json.specs.Registration.{registration_in, max_quantity, max_index, compared_in}
+use Rattle.ns_json.specs.Registration.{registration_in, max_quantity, compared_in}
 use Rattle.ns_json.proofs.Distinct.{Distinct, distinct_is, names_more}
 use Rattle.ns_json.proofs.Posts.{Post, post_then, post_any, post_map, post_unless, post_else, read_so, text_good, name_good, name_if_any_good, number_good}
 use Rattle.ns_json.proofs.Posts.{list_of_good}

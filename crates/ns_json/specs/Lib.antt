@@ -6,3 +6,4 @@ pub mod Replies
 pub mod Rendered
 pub mod Logs
 pub mod Part
+pub mod JobText

@@ -35,7 +35,7 @@ pub fn kind_text(kind: JobKind) -> &'static str
     }
 }
 
-fn operand_text<'a>(operand: Operand) -> &'a str
+pub(crate) fn operand_text<'a>(operand: Operand) -> &'a str
     ensures { result.now ≡ operand_text operand }
 {
     match operand {
@@ -44,7 +44,7 @@ fn operand_text<'a>(operand: Operand) -> &'a str
     }
 }
 
-fn target_text(alloc: Global, target: &Target) -> Result<String, AllocError>
+pub(crate) fn target_text(alloc: Global, target: &Target) -> Result<String, AllocError>
     ensures { IfOk result (λ s. string_bytes s ≡ target_text target.now) }
 {
     match target {
@@ -169,73 +169,4 @@ pub fn write_groups(out: &mut Writer, groups: &[Group]) -> Result<(), AllocError
         write_group(out, group)?;
     }
     Ok(())
-}
-
-/// The members between the constraints and the groups.
-#[tactic(auto, unfolding(crate::specs::Part::member_tokens))]
-fn write_members(out: &mut Writer, job: &JobShown) -> Result<(), AllocError>
-    ensures { Adds result out.old out.new (member_tokens job.now) }
-{
-    write_parts(
-        out,
-        &[
-            Part::EndArray,
-            Part::Key("CreateIndex"),
-            Part::Number(job.row.create_index),
-            Part::Key("ID"),
-            Part::Text(job.id.as_str()),
-            Part::Key("JobModifyIndex"),
-            Part::Number(job.row.modify_index),
-            Part::Key("Namespace"),
-            Part::Text(job.namespace.as_str()),
-            Part::Key("NodePool"),
-            Part::Text(job.row.document.pool.as_str()),
-            Part::Key("Priority"),
-            Part::Number(job.row.document.priority),
-            Part::Key("Status"),
-            Part::Text(status_text(job.status)),
-            Part::Key("Stop"),
-            Part::Flag(job.row.stop),
-            Part::Key("TaskGroups"),
-            Part::BeginArray,
-        ],
-    )
-}
-
-#[tactic(auto, unfolding(crate::specs::Rendering::job_json))]
-fn write_job(out: &mut Writer, alloc: Global, job: &JobShown) -> Result<(), AllocError>
-    ensures { OnOk result (Follows out.old out.new (tokens_of (job_json job.now))) }
-{
-    write_parts(
-        out,
-        &[
-            Part::BeginObject,
-            Part::Key("Constraints"),
-            Part::BeginArray,
-        ],
-    )?;
-    write_constraints(out, alloc, job.row.document.constraints.as_slice())?;
-    write_members(out, job)?;
-    write_groups(out, job.row.document.groups.as_slice())?;
-    write_parts(
-        out,
-        &[
-            Part::EndArray,
-            Part::Key("Type"),
-            Part::Text(kind_text(job.row.document.kind)),
-            Part::Key("Version"),
-            Part::Number(job.row.version),
-            Part::EndObject,
-        ],
-    )
-}
-
-/// The text of a job.
-pub fn job_text(alloc: Global, job: &JobShown) -> Result<String, AllocError>
-    ensures { IfOk result (λ s. string_bytes s ≡ compact_text (job_json job.now)) }
-{
-    let mut out = Writer::new(Vec::with_capacity(alloc, 512)?);
-    write_job(&mut out, alloc, job)?;
-    // What a writer wrote is UTF-8.
-    Ok(unsafe { String::from_utf8_unchecked(out.into_inner()) })
 }

@@ -4,6 +4,7 @@
 mod constraint;
 mod group;
 pub mod job_reply;
+mod job_text;
 pub mod member;
 pub mod part;
 mod registration;

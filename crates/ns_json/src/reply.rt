@@ -8,7 +8,7 @@ ghost use Rattle.ns_json.specs.Rendered.{IsRegistered, IsRendered, longest_regis
 ghost use Rattle.ns_json.specs.Rendering.{registered_json};
 ghost use Rattle.ns_json.specs.Replies.{rendered};
 
-use crate::job_reply::job_text;
+use crate::job_text::job_text;
 use crate::part::{Part, write_parts};
 use json::Writer;
 use ns_types::id::{IdKind, id_str};

@@ -1,0 +1,254 @@
+//! A job as it is replied, as text: the fixed parts are constants, and the rest is copied from the row where it stands.
+
+ghost use Rattle.std.specs.Prelude.{◌≡◌, ◌∷◌, OnOk, IfOk, codes, decimal, string_bytes};
+ghost use Rattle.std.specs.List.{flat_map, list_all};
+ghost use Rattle.json.specs.Print.{quoted};
+ghost use Rattle.json.specs.Run.{is_plain};
+ghost use Rattle.serde_json.specs.Written.{compact_text};
+ghost use Rattle.ns_json.specs.JobText.{Continues, joined, member_text, numbered, stop_text, texted};
+ghost use Rattle.ns_json.specs.Rendering.{constraint_json, group_json, job_json, task_json};
+
+use crate::job_reply::{kind_text, operand_text, status_text, target_text};
+use itoa::Buffer;
+use json::Writer;
+use ns_types::job::{Constraint, Group, Task};
+use ns_types::reply::JobShown;
+use std::alloc::{AllocError, Global};
+
+fn push(out: &mut String, text: &str) -> Result<(), AllocError>
+    ensures { OnOk result (Continues (string_bytes out.old) (string_bytes out.new)
+        (text.now)) }
+{
+    out.push_str(text)
+}
+
+/// Whether no byte of a JSON string with this text is escaped.
+fn is_plain(text: &str) -> bool
+    ensures { result ≡ list_all is_plain text.now }
+{
+    text.as_bytes()
+        .iter()
+        .all(|b| *b != b'"' && *b != b'\\' && *b >= 32)
+}
+
+/// The text as a JSON string, some of whose bytes are escaped.
+fn push_escaped(out: &mut String, alloc: Global, text: &str) -> Result<(), AllocError>
+    ensures { OnOk result (Continues (string_bytes out.old) (string_bytes out.new)
+        (quoted text.now)) }
+{
+    let mut writer = Writer::new(Vec::new(alloc));
+    writer.string(text)?;
+    // What a writer wrote is UTF-8.
+    let escaped = unsafe { String::from_utf8_unchecked(writer.into_inner()) };
+    push(out, escaped.as_str())
+}
+
+/// The text as a JSON string.
+fn push_quoted(out: &mut String, alloc: Global, text: &str) -> Result<(), AllocError>
+    ensures { OnOk result (Continues (string_bytes out.old) (string_bytes out.new)
+        (quoted text.now)) }
+{
+    if !is_plain(text) {
+        return push_escaped(out, alloc, text);
+    }
+    push(out, "\"")?;
+    push(out, text)?;
+    push(out, "\"")
+}
+
+fn push_number(out: &mut String, n: u64) -> Result<(), AllocError>
+    ensures { OnOk result (Continues (string_bytes out.old) (string_bytes out.new)
+        (decimal n)) }
+{
+    let mut buffer = Buffer::new();
+    push(out, buffer.format(n))
+}
+
+/// What stands before a number, and the number.
+fn push_numbered(out: &mut String, before: &str, n: u64) -> Result<(), AllocError>
+    ensures { OnOk result (Continues (string_bytes out.old) (string_bytes out.new)
+        (numbered before.now n)) }
+{
+    push(out, before)?;
+    push_number(out, n)
+}
+
+/// What stands before a text, and the text.
+fn push_texted(out: &mut String, alloc: Global, before: &str, text: &str) -> Result<(), AllocError>
+    ensures { OnOk result (Continues (string_bytes out.old) (string_bytes out.new)
+        (texted before.now text.now)) }
+{
+    push(out, before)?;
+    push_quoted(out, alloc, text)
+}
+
+#[tactic(auto, unfolding(crate::specs::Rendering::constraint_json))]
+fn push_constraint(
+    out: &mut String,
+    alloc: Global,
+    constraint: &Constraint,
+) -> Result<(), AllocError>
+    ensures { OnOk result (Continues (string_bytes out.old) (string_bytes out.new)
+        (compact_text (constraint_json constraint.now))) }
+{
+    let target = target_text(alloc, &constraint.target)?;
+    push_texted(out, alloc, "{\"LTarget\":", target.as_str())?;
+    let operand = operand_text(constraint.operand);
+    push_texted(out, alloc, ",\"Operand\":", operand)?;
+    push_texted(out, alloc, ",\"RTarget\":", constraint.value.as_str())?;
+    push(out, "}")
+}
+
+/// Each behind a comma.
+fn push_more_constraints(
+    out: &mut String,
+    alloc: Global,
+    constraints: &[Constraint],
+) -> Result<(), AllocError>
+    ensures { OnOk result (Continues (string_bytes out.old) (string_bytes out.new)
+        (flat_map (λ x. 44 ∷ compact_text (constraint_json x)) constraints.now)) }
+{
+    for constraint in constraints {
+        push(out, ",")?;
+        push_constraint(out, alloc, constraint)?;
+    }
+    Ok(())
+}
+
+fn push_constraints(
+    out: &mut String,
+    alloc: Global,
+    constraints: &[Constraint],
+) -> Result<(), AllocError>
+    ensures { OnOk result (Continues (string_bytes out.old) (string_bytes out.new)
+        (joined (λ x. compact_text (constraint_json x)) constraints.now)) }
+{
+    let [first, rest @ ..] = constraints else {
+        return Ok(());
+    };
+    push_constraint(out, alloc, first)?;
+    push_more_constraints(out, alloc, rest)
+}
+
+#[tactic(auto, unfolding(crate::specs::Rendering::task_json))]
+fn push_task(out: &mut String, alloc: Global, task: &Task) -> Result<(), AllocError>
+    ensures { OnOk result (Continues (string_bytes out.old) (string_bytes out.new)
+        (compact_text (task_json task.now))) }
+{
+    push_texted(out, alloc, "{\"Name\":", task.name.as_str())?;
+    push_numbered(out, ",\"Resources\":{\"CPU\":", task.resources.cpu)?;
+    push_numbered(out, ",\"MemoryMB\":", task.resources.memory)?;
+    push(out, "}}")
+}
+
+/// Each behind a comma.
+fn push_more_tasks(out: &mut String, alloc: Global, tasks: &[Task]) -> Result<(), AllocError>
+    ensures { OnOk result (Continues (string_bytes out.old) (string_bytes out.new)
+        (flat_map (λ x. 44 ∷ compact_text (task_json x)) tasks.now)) }
+{
+    for task in tasks {
+        push(out, ",")?;
+        push_task(out, alloc, task)?;
+    }
+    Ok(())
+}
+
+fn push_tasks(out: &mut String, alloc: Global, tasks: &[Task]) -> Result<(), AllocError>
+    ensures { OnOk result (Continues (string_bytes out.old) (string_bytes out.new)
+        (joined (λ x. compact_text (task_json x)) tasks.now)) }
+{
+    let [first, rest @ ..] = tasks else {
+        return Ok(());
+    };
+    push_task(out, alloc, first)?;
+    push_more_tasks(out, alloc, rest)
+}
+
+#[tactic(auto, unfolding(crate::specs::Rendering::group_json))]
+fn push_group(out: &mut String, alloc: Global, group: &Group) -> Result<(), AllocError>
+    ensures { OnOk result (Continues (string_bytes out.old) (string_bytes out.new)
+        (compact_text (group_json group.now))) }
+{
+    push_numbered(out, "{\"Count\":", group.count)?;
+    push_numbered(out, ",\"EphemeralDisk\":{\"SizeMB\":", group.disk)?;
+    push_texted(out, alloc, "},\"Name\":", group.name.as_str())?;
+    push(out, ",\"Tasks\":[")?;
+    push_tasks(out, alloc, group.tasks.as_slice())?;
+    push(out, "]}")
+}
+
+/// Each behind a comma.
+fn push_more_groups(out: &mut String, alloc: Global, groups: &[Group]) -> Result<(), AllocError>
+    ensures { OnOk result (Continues (string_bytes out.old) (string_bytes out.new)
+        (flat_map (λ x. 44 ∷ compact_text (group_json x)) groups.now)) }
+{
+    for group in groups {
+        push(out, ",")?;
+        push_group(out, alloc, group)?;
+    }
+    Ok(())
+}
+
+fn push_groups(out: &mut String, alloc: Global, groups: &[Group]) -> Result<(), AllocError>
+    ensures { OnOk result (Continues (string_bytes out.old) (string_bytes out.new)
+        (joined (λ x. compact_text (group_json x)) groups.now)) }
+{
+    let [first, rest @ ..] = groups else {
+        return Ok(());
+    };
+    push_group(out, alloc, first)?;
+    push_more_groups(out, alloc, rest)
+}
+
+/// Whether the job was stopped, and what stands up to its groups.
+fn stop_text<'a>(stop: bool) -> &'a str
+    ensures { result.now ≡ stop_text stop }
+{
+    if stop {
+        ",\"Stop\":true,\"TaskGroups\":["
+    } else {
+        ",\"Stop\":false,\"TaskGroups\":["
+    }
+}
+
+/// The members between the constraints and the groups.
+#[tactic(auto, unfolding(crate::specs::JobText::member_text))]
+fn push_members(out: &mut String, alloc: Global, job: &JobShown) -> Result<(), AllocError>
+    ensures { OnOk result (Continues (string_bytes out.old) (string_bytes out.new)
+        (member_text job.now)) }
+{
+    let status = status_text(job.status);
+    push_numbered(out, "],\"CreateIndex\":", job.row.create_index)?;
+    push_texted(out, alloc, ",\"ID\":", job.id.as_str())?;
+    push_numbered(out, ",\"JobModifyIndex\":", job.row.modify_index)?;
+    push_texted(out, alloc, ",\"Namespace\":", job.namespace.as_str())?;
+    push_texted(out, alloc, ",\"NodePool\":", job.row.document.pool.as_str())?;
+    push_numbered(out, ",\"Priority\":", job.row.document.priority)?;
+    push_texted(out, alloc, ",\"Status\":", status)?;
+    let stop = stop_text(job.row.stop);
+    push(out, stop)
+}
+
+#[tactic(auto, unfolding(crate::specs::Rendering::job_json))]
+fn push_job(out: &mut String, alloc: Global, job: &JobShown) -> Result<(), AllocError>
+    ensures { OnOk result (Continues (string_bytes out.old) (string_bytes out.new)
+        (compact_text (job_json job.now))) }
+{
+    push(out, "{\"Constraints\":[")?;
+    push_constraints(out, alloc, job.row.document.constraints.as_slice())?;
+    push_members(out, alloc, job)?;
+    push_groups(out, alloc, job.row.document.groups.as_slice())?;
+    let kind = kind_text(job.row.document.kind);
+    push_texted(out, alloc, "],\"Type\":", kind)?;
+    push_numbered(out, ",\"Version\":", job.row.version)?;
+    push(out, "}")
+}
+
+/// The text of a job.
+pub fn job_text(alloc: Global, job: &JobShown) -> Result<String, AllocError>
+    ensures { IfOk result (λ s. string_bytes s ≡ compact_text (job_json job.now)) }
+{
+    let mut out = String::with_capacity(alloc, 512)?;
+    push_job(&mut out, alloc, job)?;
+    Ok(out)
+}
