@@ -68,10 +68,14 @@ def burst(number, workers):
 
 
 def main():
-    for number in [int(it) for it in sys.argv[1:]] or [2_000, 10_000]:
+    words = sys.argv[1:]
+    workers = "1"
+    if words[:1] == ["--workers"]:
+        workers, words = words[1], words[2:]
+    for number in [int(it) for it in words] or [2_000, 10_000]:
         if number % EACH > 0 or number == 0:
             sys.exit("a number of thousands is needed")
-        burst(number)
+        burst(number, workers)
 
 
 if __name__ == "__main__":
