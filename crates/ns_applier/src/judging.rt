@@ -37,10 +37,11 @@ fn evaluations_pass(
         let counted = counted_of (is_victim stopped snapshot.now nodes.now) in
         result ≡ numbers_pass (victims_at w (counted plan.now.placing.placements)) w }
 {
+    let stops = Marked::new(plan.stops.as_slice());
     let evicting = Evicting {
         present,
         snapshot,
-        stops: plan.stops.as_slice(),
+        stops: &stops,
         nodes,
     };
     let placements = plan.placing.placements.as_slice();

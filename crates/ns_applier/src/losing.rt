@@ -12,7 +12,7 @@ use ns_view::Present;
 pub(crate) struct Evicting<'a> {
     pub(crate) present: &'a Present<'a>,
     pub(crate) snapshot: &'a Snapshot,
-    pub(crate) stops: &'a [u64],
+    pub(crate) stops: &'a Marked<'a>,
     /// The places in the snapshot of the nodes that do their part.
     pub(crate) nodes: &'a Marked<'a>,
 }

@@ -15,10 +15,7 @@ use ns_world::Tables;
 /// is written. That loads and uses are counted holds of each valid world (`ns_plan::laws::sound_is_counted`), and that
 /// the plan is on few nodes of each snapshot that a valid state keeps (`ns_plan::laws::kept_is_on_few_nodes`).
 ///
-/// It goes over the plan's placements twice. For each node of the plan it looks its load and each stop up, and goes from
-/// the node's first placement that evicts to its last. It looks each eviction of the plan up once, with a walk over the
-/// stops where it is of the same namespace, and compares each that counts with those of its node before it. Where the
-/// namespace names a quota, the check costs once the square of the stops.
+/// `ns_plan::check` says what it costs: most of all a few look-ups for each stop, each placement and each eviction.
 pub fn check(tables: &Tables, live: &Live, snapshot: &Snapshot, plan: &Plan) -> Outcome
     requires right { IsRight (world_of tables.now) live.now }
     requires counted { AreCounted (world_of tables.now) }
