@@ -1,0 +1,156 @@
+"""Times how a job is replaced by its next version on 1,000 nodes, by `./nsd`.
+
+    python3 bench/replace.py                   jobs of 1,000, 4,000 and 16,000 allocations, which is the most that a job can have
+    python3 bench/replace.py 16                of so many thousand, 16 at most
+    python3 bench/replace.py 16 quota          the same under a quota that the job fills
+    python3 bench/replace.py 16 --show         prints the requests of `nsd pipe --drive`, and runs nothing
+
+The nodes have room for the job once, so each allocation of the next version goes where one of the version before stops. The job is
+registered, placed and then registered again: over one connection of `nsd pipe --drive`, which does all steps one after the other, and
+then with `nsd serve --workers 1`, where another connection reads the quotas all the while. The longest of these reads waits for the
+longest step under the server's lock. Of five rounds of each the median counts, and the least and the most are printed beside it.
+
+At 16,000 allocations 40 ms are asked for of Snap and Apply, which the whole has beside the registration, the plan and the other steps,
+and 50 ms of any step. If one of the versions was not placed whole, or the one before did not stop whole, the exit status is 1.
+"""
+
+import json
+import os
+import statistics
+import sys
+import threading
+import time
+
+from driven import DISK, MHZ, NODES, Server, nodes, request
+from served import Connection, Served
+
+ROUNDS = 5
+GROUP = 1_000
+ASKED = {"the whole": 40.0, "the longest read": 50.0}
+
+
+def job(thousands, version):
+    """Groups of 1,000, whose task is named after the version."""
+    task = {"Name": f"t{version}", "Resources": {"CPU": MHZ, "MemoryMB": MHZ}}
+    groups = [{"Name": f"g{group}", "Count": GROUP, "Tasks": [task]} for group in range(thousands)]
+    return request("POST", "/v1/jobs?namespace=own", {"Job": {"ID": "big", "TaskGroups": groups}})
+
+
+def tenant(thousands, limited):
+    """The namespace, and its quota, which the job fills where it is limited."""
+    most = thousands * GROUP
+    sizes = {"CPU": most * MHZ, "MemoryMB": most * MHZ, "DiskMB": most * DISK} if limited else {}
+    limits = [{"Region": "global", "RegionLimit": sizes}]
+    quota = request("PUT", "/v1/quota", {"Name": "own", "Limits": limits})
+    namespace = {"Name": "own", "Quota": "own"} if limited else {"Name": "own"}
+    return [quota, request("PUT", "/v1/namespace", namespace)]
+
+
+def is_replaced(rows, replies, thousands):
+    """As many run as the job asks for, on each node as many, and as many stopped."""
+    most = thousands * GROUP
+    run = sum(row["DesiredStatus"] == "run" for row in rows)
+    stopped = sum(row["DesiredStatus"] == "stop" for row in rows)
+    full = all(node["Used"]["CPU"] == thousands * MHZ for node in replies)
+    return run == most and stopped == most and len(rows) == 2 * most and full
+
+
+ROWS = request("GET", "/v1/job/big/allocations?namespace=own")
+USED = request("GET", "/v1/node/pool/default/nodes")
+
+
+def driven(thousands, limited):
+    """The seconds of the replacement over one connection, and whether all was done."""
+    server = Server()
+    server.ask(nodes(thousands) + tenant(thousands, limited) + [job(thousands, 1)])
+    seconds = server.timed([job(thousands, 2)])
+    is_right = is_replaced(server.ask([ROWS]), server.ask([USED]), thousands)
+    server.end()
+    return seconds, is_right
+
+
+def body(reply):
+    return json.loads(reply.split(b"\r\n\r\n", 1)[1])
+
+
+def used(connection):
+    return sum(node["Used"]["CPU"] for node in body(connection.ask(USED)))
+
+
+def await_run(connection, number):
+    """Waits until the newest version of the job has so many allocations."""
+    ended = request("GET", "/v1/job/big/evaluations?namespace=own")
+    for _ in range(600):
+        rows = body(connection.ask(ended))
+        if len(rows) == number and all(row["Status"] == "complete" for row in rows):
+            return
+        time.sleep(0.05)
+    sys.exit("the job was not placed within half a minute")
+
+
+class Reader(threading.Thread):
+    """Reads the quotas again and again, and keeps how many reads there were and the longest time that one took."""
+
+    def __init__(self, port):
+        super().__init__()
+        self.connection = Connection(port)
+        self.longest, self.reads, self.is_over = 0.0, 0, False
+
+    def run(self):
+        read = request("GET", "/v1/quotas")
+        while not self.is_over:
+            start = time.perf_counter()
+            self.connection.ask(read)
+            self.longest = max(self.longest, time.perf_counter() - start)
+            self.reads += 1
+
+
+def served(thousands, limited):
+    """The longest read beside the replacement, in seconds, and whether all was done."""
+    server = Served(["--log-limit", "100000000", "--workers", "1"])
+    connection = Connection(server.port)
+    connection.all(nodes(thousands) + tenant(thousands, limited) + [job(thousands, 1)])
+    await_run(connection, 1)
+    reader = Reader(server.port)
+    reader.start()
+    connection.ask(job(thousands, 2))
+    time.sleep(0.1 + 0.1 * thousands)
+    reader.is_over = True
+    reader.join()
+    await_run(connection, 2)
+    is_right = is_replaced(body(connection.ask(ROWS)), body(connection.ask(USED)), thousands)
+    server.end()
+    return reader.longest, is_right and reader.reads > 100
+
+
+def told(what, thousands, measure, limited):
+    """Prints the median of the rounds beside what is asked for, and answers whether each did its work."""
+    rounds = [measure(thousands, limited) for _ in range(ROUNDS)]
+    taken = statistics.median(seconds for seconds, _ in rounds) * 1e3
+    asked = ASKED[what]
+    least, most = (end(seconds for seconds, _ in rounds) * 1e3 for end in (min, max))
+    print(f"{thousands * GROUP} replaced: {what} took {taken:.1f} ms ({least:.1f} to {most:.1f}), "
+          f"asked at 16000: {asked:.0f} ms", flush=True)
+    return all(is_right for _, is_right in rounds)
+
+
+def main(words):
+    sizes = [int(word) for word in words if word.isdecimal()] or [1, 4, 16]
+    limited = "quota" in words
+    if "--show" in words:
+        for thousands in sizes:
+            requests = nodes(thousands) + tenant(thousands, limited) + [job(thousands, 1), job(thousands, 2)]
+            sys.stdout.buffer.write(b"".join(requests))
+        return 0
+    if not os.path.exists("nsd"):
+        print("there is no ./nsd here: build the program first", file=sys.stderr)
+        return 2
+    done = [told(what, thousands, measure, limited) for thousands in sizes
+            for what, measure in (("the whole", driven), ("the longest read", served))]
+    if not all(done):
+        print("that is not what the input asks for", file=sys.stderr)
+    return 0 if all(done) else 1
+
+
+if __name__ == "__main__":
+    sys.exit(main(sys.argv[1:]))
