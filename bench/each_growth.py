@@ -8,7 +8,7 @@ N is counted upwards from 1 until a run meets no refusal, and in each run the Nt
 else it answers is printed, and the exit status is 1. It needs a C compiler, `cc`.
 
 - states: the scripts of the worked rows. Before each call the core is copied, and where the call is refused the copy and the core have
-  to show the same: by reads of every list, job, node pool and quota, by what is served next, by how far each worker is, and by the
+  to show the same (allocations of copying and comparing are not refused): by reads of every list, job, node pool and quota, by what is served next, by how far each worker is, and by the
   snapshots that they keep. The same call is then made again, a plan too. The run has to write what it writes with ample memory, or to
   end since the script's own program found no memory. Beside it, the calls of a core that take no memory are made once and 500 times,
   which has to take equally many allocations.

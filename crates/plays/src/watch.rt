@@ -16,6 +16,19 @@ use std::io::Write;
 /// Behind the last number of a worker.
 const WORKERS_END: u64 = 64;
 
+/// By an allocation of so many bytes `bench/refusing.py`, which refuses allocations, is told that those that follow are the
+/// comparison's own, and not to be refused; and by one of so many that it is over.
+const BEGINS: usize = 40_009;
+
+const ENDS: usize = 40_013;
+
+/// Makes an allocation of that size.
+fn signal(alloc: Global, size: usize) -> Result<(), AllocError> {
+    let list: Vec<u8> = Vec::with_capacity(alloc, size)?;
+    drop(list);
+    Ok(())
+}
+
 /// The targets of reads by which both are compared, beside all that workers and lists show. Without one nothing is copied.
 #[derive(Drop)]
 pub struct Watch<'a> {
@@ -113,7 +126,10 @@ impl<'a> Watch<'a> {
         if self.targets.is_empty() {
             return Ok(None);
         }
-        Ok(Some(copied(self.alloc, core)?))
+        signal(self.alloc, BEGINS)?;
+        let copy = copied(self.alloc, core)?;
+        signal(self.alloc, ENDS)?;
+        Ok(Some(copy))
     }
 
     /// All that the targets, the workers and the lists show.
@@ -127,6 +143,7 @@ impl<'a> Watch<'a> {
     }
 
     fn expect_same(&self, before: &mut Core, core: &mut Core) -> anyhow::Result<()> {
+        signal(self.alloc, BEGINS)?;
         let wanted = self.shown(before)?;
         let shown = self.shown(core)?;
         ensure!(
@@ -137,7 +154,7 @@ impl<'a> Watch<'a> {
             same_snapshots(before, core),
             "a refused call has changed a snapshot"
         );
-        Ok(())
+        Ok(signal(self.alloc, ENDS)?)
     }
 
     /// Behind a call: fails where it was refused, and the core shows something else than the copy that was made before it.
