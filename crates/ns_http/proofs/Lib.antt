@@ -1,4 +1,5 @@
 pub mod TextLemmas
+pub mod HeadTexts
 pub mod ValuesLemmas
 pub mod CountsLemmas
 pub mod StreamLemmas

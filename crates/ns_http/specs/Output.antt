@@ -1,8 +1,8 @@
 -- What the output writes.
-use Rattle.std.specs.Prelude.{◌≡◌, ℕ, Bool, List, ◌++◌, Option, Result}
+use Rattle.std.specs.Prelude.{◌≡◌, ℕ, Bool, List, ◌++◌, Option, Result, codes, decimal}
 use Rattle.std.specs.Io.KnownBytes.{Appends, WriteAppends}
 use Rattle.ns_types.specs.declared.reply.Rendered.{Rendered}
-use Rattle.ns_types.specs.Wire.Responses.{wire}
+use Rattle.ns_types.specs.Wire.Responses.{wire, phrase, content_type}
 use Rattle.ns_http.specs.declared.counting.Counted.{Counted}
 use Rattle.ns_http.specs.declared.response.Outgoing.{Outgoing}
 
@@ -32,3 +32,7 @@ WritesAll contents old new bytes = Appends (contents old.inner) (contents new.in
 
 abbrev pub WritesPart : {W : Type 0} → (W → Option (List ℕ)) → Counted W → Counted W → List ℕ → Type 0
 WritesPart contents old new bytes = WritesSome (contents old.inner) (contents new.inner) bytes
+
+-- the head of a response up to the media type of its body
+abbrev pub response_front : ℕ → List ℕ
+response_front status = codes "HTTP/1.1 " ++ decimal status ++ codes " " ++ phrase status ++ codes "\r\nContent-Type: " ++ content_type status

@@ -2,7 +2,7 @@
 ghost use Rattle.std.specs.Prelude.{◌≡◌, ◌<◌, ◌≤◌, ◌+◌, [], ◌++◌, length, IfOk, OnOk, OnErr, vec_len, vec_capacity, decimal, false};
 ghost use Rattle.ns_types.specs.Wire.Responses.{index_line, close_line, response_head};
 ghost use Rattle.ns_http.specs.Counts.{HasGrown, IsOpen, IsWriteFault};
-ghost use Rattle.ns_http.specs.Output.{wire_of, WritesAll, WritesPart};
+ghost use Rattle.ns_http.specs.Output.{response_front, wire_of, WritesAll, WritesPart};
 
 use crate::counting::{Counted, is_interruption};
 use crate::response::{Outgoing, content_type, phrase};
@@ -105,18 +105,31 @@ impl<A: Allocator> Output<A> {
         }
     }
 
+    /// The head up to the media type. That of what succeeded is written at once.
+    fn put_front(&mut self, status: u16)
+        requires { vec_len self.old.bytes + 160 ≤ OUTPUT_LEN }
+        ensures value { self.new.bytes.items ≡ self.old.bytes.items ++ response_front status }
+        ensures len { vec_len self.new.bytes ≤ vec_len self.old.bytes + 160 }
+    {
+        if status == 200 {
+            self.put(b"HTTP/1.1 200 OK\r\nContent-Type: application/json");
+            return;
+        }
+        self.put(b"HTTP/1.1 ");
+        self.put_number(u64::from(status));
+        self.put(b" ");
+        self.put(phrase(status));
+        self.put(b"\r\nContent-Type: ");
+        self.put(content_type(status));
+    }
+
     fn put_head(&mut self, reply: &Outgoing<'_>, close: bool)
         requires { vec_len self.old.bytes + 512 ≤ OUTPUT_LEN }
         ensures value { self.new.bytes.items ≡ self.old.bytes.items
             ++ response_head reply.now.status reply.now.index (length reply.now.body.now) close }
         ensures len { vec_len self.new.bytes ≤ vec_len self.old.bytes + 512 }
     {
-        self.put(b"HTTP/1.1 ");
-        self.put_number(u64::from(reply.status));
-        self.put(b" ");
-        self.put(phrase(reply.status));
-        self.put(b"\r\nContent-Type: ");
-        self.put(content_type(reply.status));
+        self.put_front(reply.status);
         self.put_index(reply.index);
         self.put(b"\r\nContent-Length: ");
         self.put_number(reply.body.len() as u64);
