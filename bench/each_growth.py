@@ -7,21 +7,22 @@ N is counted upwards from 1 until a run meets no refusal, and in each run the Nt
 `rt run` built (crates/plays/out/plays, crates/nsd/out/nsd). What a run may answer is computed from runs with ample memory. Whatever
 else it answers is printed, and the exit status is 1. It needs a C compiler, `cc`.
 
-- states: the scripts of the worked rows. Before each call the core is copied, and where the call is refused the copy and the core have
-  to show the same (allocations of copying and comparing are not refused): by reads of every list, job, node pool and quota, by what is served next, by how far each worker is, and by the
-  snapshots that they keep. The same call is then made again, a plan too. The run has to write what it writes with ample memory, or to
-  end since the script's own program found no memory. Beside it, the calls of a core that take no memory are made once and 500 times,
-  which has to take equally many allocations.
+- states: the scripts of the worked rows. Before each call the core is copied, and where the call is refused the copy and the core
+  have to show the same (allocations of copying and comparing are not refused): by reads of every list, job, node pool and quota, by
+  what is served next, by how far each worker is, and by the snapshots that they keep. The same call is then made again, a plan too.
+  The run has to write what it writes with ample memory, or to end since the script's own program found no memory. Beside it, the
+  calls of a core that take no memory are made once and 500 times, which has to take equally many allocations.
 - connections: the requests of those rows over one connection of `nsd pipe`. At most one of them is answered the fixed 503, and the
   replies to all others are those to the same requests without that one. Or the program ends with status 5 before the first reply.
 - logs: the same with `--print log`. The log is that of all requests, or of all but one, or the status is 5 and nothing is written.
 - replays: a log, replayed by `nsd alone`. It prints what it prints with ample memory, or the status is 5 and what is printed is the
   beginning of that.
-- server: `nsd serve` with one connection, one worker and the applier, each a thread, of which each has its own Nth allocation refused. A
-  client registers a node and two jobs, and waits until each job runs. A request that is answered 503 is sent again, and has to be
-  answered then. Both jobs have to run in time, so the worker and the applier have gone on; the allocations are shown as with ample memory; the last line of
-  standard error is `settled K`, of as many entries as the log has that is printed, of which each registration is one; and `nsd alone`
-  says `same` of it. Or the server ends with status 5, at its beginning or where it settles and prints.
+- server: `nsd serve` with one connection, one worker and the applier, each a thread, of which each has its own Nth allocation
+  refused. A client registers a node and two jobs, and waits until each job runs. A request that is answered 503 is sent again, and
+  has to be answered then. Both jobs have to run in time, so the worker and the applier have gone on; the allocations are shown as
+  with ample memory; the last line of standard error is `settled K`, of as many entries as the log has that is printed, of which each
+  registration is one; and `nsd alone` says `same` of it. Or the server ends with status 5, at its beginning or where it settles and
+  prints.
 """
 
 import json
