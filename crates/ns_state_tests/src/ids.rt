@@ -1,5 +1,31 @@
-// The numbers of allocations that texts of ids stand for.
-use ns_types::id::{IdKind, id_read};
+// Ids: the text of a number's id, and the numbers of allocations that texts of ids stand for.
+use ns_types::id::{IdKind, id_read, id_text};
+
+const IDS: [(IdKind, u64, &str); 3] = [
+    (
+        IdKind::Evaluation,
+        1,
+        "00000000-0000-0001-0000-000000000001",
+    ),
+    (
+        IdKind::Allocation,
+        2571,
+        "00000000-0000-0002-0000-000000000a0b",
+    ),
+    (
+        IdKind::Allocation,
+        u64::MAX,
+        "00000000-0000-0002-ffff-ffffffffffff",
+    ),
+];
+
+#[test]
+fn numbers_are_written_as_ids(rt: HostRuntime) {
+    for (kind, number, text) in &IDS {
+        let id = id_text(rt.alloc(), *kind, *number).expect(&rt, "memory");
+        assert!(rt; id.as_str() == *text, "{text}");
+    }
+}
 
 const NUMBERS: [(&str, Option<u64>); 6] = [
     ("00000000-0000-0002-0000-0000000000ff", Some(255)),

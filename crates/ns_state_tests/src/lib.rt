@@ -10,6 +10,8 @@ mod by_key;
 #[cfg(test)]
 mod choosing;
 #[cfg(test)]
+mod counting;
+#[cfg(test)]
 mod full_pool;
 #[cfg(test)]
 mod ids;

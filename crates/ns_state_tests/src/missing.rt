@@ -28,7 +28,13 @@ fn put<V: Drop>(rt: &impl Abort, table: &mut NameTable<V>, name: &Text, row: V) 
     table.set(name, row);
 }
 
-fn only_row<V: Drop>(rt: &impl Abort, alloc: Global, name: &str, row: V) -> NameTable<V> {
+/// A table of one row.
+pub(crate) fn only_row<V: Drop>(
+    rt: &impl Abort,
+    alloc: Global,
+    name: &str,
+    row: V,
+) -> NameTable<V> {
     let mut table = NameTable::new(alloc);
     put(rt, &mut table, &text(rt, alloc, name), row);
     table

@@ -53,7 +53,8 @@ fn evaluation(rt: &impl Abort, alloc: Global) -> Evaluation {
     }
 }
 
-fn allocation(rt: &impl Abort, alloc: Global) -> Allocation {
+/// One of that job, on a node `n` of the pool `p`, which runs.
+pub(crate) fn allocation(rt: &impl Abort, alloc: Global) -> Allocation {
     Allocation {
         job: text(rt, alloc, "web"),
         group: text(rt, alloc, "g"),
