@@ -4,7 +4,7 @@
 // answered settles with the log.
 ghost use Rattle.std.specs.Prelude.{◌≡◌};
 
-use crate::guest::{Guest, guest, look, register_with, seat, seat_of, set_up};
+use crate::guest::{Guest, guest, look, register_with, seat, seat_of, set_up, write};
 use crate::meeting::{Meeting, Plot, Watch, await_that};
 use crate::server::{opened, settle};
 use ns_receipts::Receipt;
@@ -23,6 +23,18 @@ use std::thread::Threads;
 const JOBS: &str = "/v1/jobs?namespace=tb";
 
 const FIRST_EVALUATION: &str = "/v1/evaluation/00000000-0000-0001-0000-000000000001?namespace=tb";
+
+const FIRST_ALLOCATION: &str = "/v1/allocation/00000000-0000-0002-0000-000000000001?namespace=tb";
+
+const ASKED_TOKEN: &str = "{\"Name\":\"ci\",\"Policies\":[\"web\",\"api\"]}";
+
+/// The token that is made of it, by the bits that are drawn here.
+const TOKEN: &str =
+    "{\"AccessorID\":\"01010101-0101-4101-8101-010101010101\",\"Name\":\"ci\",\"Policies\":[\"web\",\"api\"],\"SecretID\":\"01010101-0101-4101-8101-010101010101\",\"Type\":\"client\"}";
+
+/// The node's client says that the first allocation runs.
+const REPORT: &str =
+    "{\"Namespace\":\"tb\",\"ID\":\"00000000-0000-0002-0000-000000000001\",\"ClientStatus\":\"running\"}";
 
 /// A path, what it shows, and how often.
 type Shown<'a> = (&'a str, &'a str, usize);
@@ -129,6 +141,21 @@ fn expect_ended<L: Ledger, R: Wait + Abort>(
     }
 }
 
+/// Makes a token, and reports that the first allocation runs. The test fails where either is answered or shown otherwise.
+fn expect_written<L: Ledger, R: Wait + Abort>(rt: &R, alloc: Global, guest: &mut Guest<'_, L, R>) {
+    let made = write(rt, alloc, guest, "/v1/acl/token", ASKED_TOKEN);
+    assert!(rt; made.as_str().ends_with(TOKEN), "{made}");
+    drop(write(
+        rt,
+        alloc,
+        guest,
+        "/v1/node/pool/west/node/n1/report",
+        REPORT,
+    ));
+    let shown = (FIRST_ALLOCATION, "\"ClientStatus\":\"running\"", 1);
+    expect_shown(rt, alloc, guest, shown);
+}
+
 /// Registers two jobs once the workers are there, the second one behind the first worker's end where it is to end, and closes the
 /// server once nothing is left to do. The test fails where something else became of the jobs.
 fn lead<L: Ledger, R: Wait + Clock + Abort>(
@@ -148,6 +175,7 @@ fn lead<L: Ledger, R: Wait + Clock + Abort>(
     drop(register_with(rt, alloc, &mut guest, JOBS, "b", size(plot)));
     await_that(rt, &|| is_idle(rt, shared, plot));
     expect_ended(rt, alloc, &mut guest, plot);
+    expect_written(rt, alloc, &mut guest);
     shared.close(rt);
     seat_of(guest)
 }
