@@ -154,17 +154,17 @@ members_then j rest =
 
 -- the members, with the texts that were written
 pub members_are : (j : JobShown) (id namespace pool status stop : List ℕ) → id ≡ j.id → namespace ≡ j.namespace → pool ≡ j.row.document.pool →
-    status ≡ job_status_text j.status → stop ≡ stop_text j.row.stop →
+    status ≡ texted (codes ",\"Status\":") (job_status_text j.status) → stop ≡ stop_text j.row.stop →
     ((((((numbered (codes "],\"CreateIndex\":") j.row.create_index ++ texted (codes ",\"ID\":") id) ++ numbered (codes ",\"JobModifyIndex\":") j.row.modify_index) ++
     texted (codes ",\"Namespace\":") namespace) ++ texted (codes ",\"NodePool\":") pool) ++ numbered (codes ",\"Priority\":") j.row.document.priority) ++
-    texted (codes ",\"Status\":") status) ++ stop ≡ member_text j
+    status) ++ stop ≡ member_text j
 unfolding member_text
 members_are j id namespace pool status stop e1 e2 e3 e4 e5 = rw (e1, e2, e3, e4, e5) refl
 
 pub job_is : (j : JobShown) (constraints : List Constraint) (groups : List Group) (kind : List ℕ) → constraints ≡ j.row.document.constraints →
-    groups ≡ j.row.document.groups → kind ≡ kind_text j.row.document.kind →
+    groups ≡ j.row.document.groups → kind ≡ texted (codes "],\"Type\":") (kind_text j.row.document.kind) →
     (((((codes "{\"Constraints\":[" ++ joined (λ c. compact_text (constraint_json c)) constraints) ++ member_text j) ++
-    joined (λ g. compact_text (group_json g)) groups) ++ texted (codes "],\"Type\":") kind) ++ numbered (codes ",\"Version\":") j.row.version) ++ codes "}" ≡
+    joined (λ g. compact_text (group_json g)) groups) ++ kind) ++ numbered (codes ",\"Version\":") j.row.version) ++ codes "}" ≡
     compact_text (job_json j)
 unfolding job_json escape_byte
 job_is j constraints groups kind e1 e2 e3 =

@@ -1,13 +1,11 @@
 -- Parts of JSON texts, and what writing them adds.
-use Rattle.std.specs.Prelude.{◌≡◌, ◌+◌, ◌<◌, ◌≤◌, List, [], ◌∷◌, ◌++◌, Result, MatchResult, OnOk, codes, decimal}
+use Rattle.std.specs.Prelude.{◌≡◌, ◌+◌, ◌<◌, ◌≤◌, List, ◌++◌, Result, MatchResult, OnOk, decimal}
 use Rattle.std.specs.Fmt.{signed_decimal}
 use Rattle.json.specs.Token.{Token}
 use Rattle.json.specs.Tree.{room, json_tokens}
 use Rattle.json.specs.Written.{Written}
 use Rattle.serde_json.specs.Data.{Data}
 use Rattle.serde_json.specs.Written.{outline}
-use Rattle.ns_types.specs.declared.reply.JobShown.{JobShown}
-use Rattle.ns_types.specs.Wire.Words.{job_status_text}
 use Rattle.ns_json.specs.declared.part.Part.{Part}
 
 abbrev pub token_of : Part → Token
@@ -24,20 +22,6 @@ token_of Part.Null = Token.null
 
 abbrev pub tokens_of : Data → List Token
 tokens_of d = json_tokens (outline d)
-
--- the members of a job between its constraints and its groups
-unfoldable pub member_tokens : JobShown → List Token
-member_tokens j =
-    Token.end_array ∷
-    Token.key (codes "CreateIndex") ∷ Token.number (decimal j.row.create_index) ∷
-    Token.key (codes "ID") ∷ Token.string j.id ∷
-    Token.key (codes "JobModifyIndex") ∷ Token.number (decimal j.row.modify_index) ∷
-    Token.key (codes "Namespace") ∷ Token.string j.namespace ∷
-    Token.key (codes "NodePool") ∷ Token.string j.row.document.pool ∷
-    Token.key (codes "Priority") ∷ Token.number (decimal j.row.document.priority) ∷
-    Token.key (codes "Status") ∷ Token.string (job_status_text j.status) ∷
-    Token.key (codes "Stop") ∷ Token.boolean j.row.stop ∷
-    Token.key (codes "TaskGroups") ∷ Token.begin_array ∷ []
 
 -- The tokens come after those before. It fails only where there was no room for them.
 pub record Adds {E : Type 0} (r : Result (Unit {0}) E) (old new : Written) (ts : List Token) : Type 0 where

@@ -1,17 +1,16 @@
-//! A job as it is replied.
+//! The parts of a job, as logs and replies have them.
 
 ghost use Rattle.std.specs.Prelude.{◌≡◌, IfOk, OnOk, string_bytes, ◌∷◌, []};
 ghost use Rattle.std.specs.List.{flat_map};
 ghost use Rattle.json.specs.Token.{string};
-ghost use Rattle.serde_json.specs.Written.{compact_text};
 ghost use Rattle.ns_types.specs.Wire.Words.{target_text, operand_text, kind_text, job_status_text};
-ghost use Rattle.ns_json.specs.Part.{Adds, Follows, tokens_of, member_tokens};
-ghost use Rattle.ns_json.specs.Rendering.{constraint_json, task_json, group_json, job_json};
+ghost use Rattle.ns_json.specs.Part.{Adds, Follows, tokens_of};
+ghost use Rattle.ns_json.specs.Rendering.{constraint_json, task_json, group_json};
 
 use crate::part::{Part, write_parts};
 use json::Writer;
 use ns_types::job::{Constraint, Group, JobKind, Operand, Target, Task};
-use ns_types::reply::{JobShown, JobStatus};
+use ns_types::reply::JobStatus;
 use std::alloc::{AllocError, Global};
 
 /// The word for a job's status.

@@ -5,14 +5,15 @@ ghost use Rattle.std.specs.List.{flat_map, list_all};
 ghost use Rattle.json.specs.Print.{quoted};
 ghost use Rattle.json.specs.Run.{is_plain};
 ghost use Rattle.serde_json.specs.Written.{compact_text};
+ghost use Rattle.ns_types.specs.Wire.Words.{job_status_text, kind_text};
 ghost use Rattle.ns_json.specs.JobText.{Continues, joined, member_text, numbered, stop_text, texted};
 ghost use Rattle.ns_json.specs.Rendering.{constraint_json, group_json, job_json, task_json};
 
-use crate::job_reply::{kind_text, operand_text, status_text, target_text};
+use crate::job_reply::{operand_text, target_text};
 use itoa::Buffer;
 use json::Writer;
-use ns_types::job::{Constraint, Group, Task};
-use ns_types::reply::JobShown;
+use ns_types::job::{Constraint, Group, JobKind, Task};
+use ns_types::reply::{JobShown, JobStatus};
 use std::alloc::{AllocError, Global};
 
 fn push(out: &mut String, text: &str) -> Result<(), AllocError>
@@ -200,6 +201,29 @@ fn push_groups(out: &mut String, alloc: Global, groups: &[Group]) -> Result<(), 
     push_more_groups(out, alloc, rest)
 }
 
+/// The member that says a job's status.
+#[tactic(auto, unfolding(json::specs::Print::escape_byte))]
+fn status_member<'a>(status: JobStatus) -> &'a str
+    ensures { result.now ≡ texted (codes ",\"Status\":") (job_status_text status) }
+{
+    match status {
+        JobStatus::Dead => ",\"Status\":\"dead\"",
+        JobStatus::Running => ",\"Status\":\"running\"",
+        JobStatus::Pending => ",\"Status\":\"pending\"",
+    }
+}
+
+/// The end of the groups, and the member that says a job's type.
+#[tactic(auto, unfolding(json::specs::Print::escape_byte))]
+fn type_member<'a>(kind: JobKind) -> &'a str
+    ensures { result.now ≡ texted (codes "],\"Type\":") (kind_text kind) }
+{
+    match kind {
+        JobKind::Service => "],\"Type\":\"service\"",
+        JobKind::Batch => "],\"Type\":\"batch\"",
+    }
+}
+
 /// Whether the job was stopped, and what stands up to its groups.
 fn stop_text<'a>(stop: bool) -> &'a str
     ensures { result.now ≡ stop_text stop }
@@ -217,14 +241,14 @@ fn push_members(out: &mut String, alloc: Global, job: &JobShown) -> Result<(), A
     ensures { OnOk result (Continues (string_bytes out.old) (string_bytes out.new)
         (member_text job.now)) }
 {
-    let status = status_text(job.status);
+    let status = status_member(job.status);
     push_numbered(out, "],\"CreateIndex\":", job.row.create_index)?;
     push_texted(out, alloc, ",\"ID\":", job.id.as_str())?;
     push_numbered(out, ",\"JobModifyIndex\":", job.row.modify_index)?;
     push_texted(out, alloc, ",\"Namespace\":", job.namespace.as_str())?;
     push_texted(out, alloc, ",\"NodePool\":", job.row.document.pool.as_str())?;
     push_numbered(out, ",\"Priority\":", job.row.document.priority)?;
-    push_texted(out, alloc, ",\"Status\":", status)?;
+    push(out, status)?;
     let stop = stop_text(job.row.stop);
     push(out, stop)
 }
@@ -238,8 +262,8 @@ fn push_job(out: &mut String, alloc: Global, job: &JobShown) -> Result<(), Alloc
     push_constraints(out, alloc, job.row.document.constraints.as_slice())?;
     push_members(out, alloc, job)?;
     push_groups(out, alloc, job.row.document.groups.as_slice())?;
-    let kind = kind_text(job.row.document.kind);
-    push_texted(out, alloc, "],\"Type\":", kind)?;
+    let kind = type_member(job.row.document.kind);
+    push(out, kind)?;
     push_numbered(out, ",\"Version\":", job.row.version)?;
     push(out, "}")
 }
