@@ -1,6 +1,6 @@
 """Prints how many instructions `./nsd pipe` takes for one pipelined read of a job, as callgrind counts them.
 
-    python3 bench/instructions.py                  of ./nsd
+    python3 bench/instructions.py                  of crates/nsd/out/nsd
     python3 bench/instructions.py PROGRAM          of another program
     python3 bench/instructions.py PROGRAM --most N ends with status 1 where a read takes more than N
 
@@ -49,7 +49,7 @@ def counted(program, reads, folder):
 
 def main():
     parser = argparse.ArgumentParser()
-    parser.add_argument("program", nargs="?", default="./nsd")
+    parser.add_argument("program", nargs="?", default="crates/nsd/out/nsd")
     parser.add_argument("--most", type=int)
     words = parser.parse_args()
     if not os.path.exists(words.program):
