@@ -20,7 +20,7 @@ use Rattle.ns_types.specs.State.Names.{Name}
 use Rattle.ns_types.specs.Wire.Words.{status_text}
 use Rattle.ns_json.specs.Part.{Adds, tokens_of}
 use Rattle.ns_json.specs.Replies.{applied_json}
-use Rattle.ns_json.proofs.JobReplies.{list_then, regroup}
+use Rattle.ns_json.proofs.JobParts.{list_then, regroup}
 use Rattle.ns_json.proofs.Parts.{added, adds_more, adds_no_more, room-append}
 use Rattle.ns_json.proofs.Replies.{length-escaped_id, length-number}
 use Rattle.ns_answers.specs.Bodies.{WritesIn, id_tokens, text_bytes, text_tokens}

@@ -21,7 +21,7 @@ use Rattle.ns_json.specs.Part.{tokens_of}
 use Rattle.ns_json.specs.Rendering.{object_of, constraint_json, group_json}
 use Rattle.ns_json.specs.Logs.{Call, call_members, registration_json, entry_json, line_of}
 use Rattle.ns_json.specs.Replies.{Entry}
-use Rattle.ns_json.proofs.JobReplies.{constraint_tokens, group_tokens, list_then, regroup}
+use Rattle.ns_json.proofs.JobParts.{constraint_tokens, group_tokens, list_then, regroup}
 use Rattle.ns_log.specs.declared.member.Member.{Member}
 use Rattle.ns_log.specs.Members.{member_of, member_tokens, end_tokens, call_tokens}
 
