@@ -1,6 +1,8 @@
 """Compares what two commits state: contracts, definitions, laws and stored lines.
 
-    python3 bench/statements.py REV [REV]   what the second commit, or the work tree, says otherwise than the first
+    python3 bench/statements.py REV [REV]            what the second commit, or the work tree, says otherwise than the first
+    python3 bench/statements.py --moved REV [REV]    the same where crates were merged: a statement is named by its name alone, and
+                                                     a path in it counts by its last name
 
 A statement is a function's signature with its clauses, a type's declaration, a definition of `specs`, or a section of a stored input
 or output. Each is named by its crate and its name, not by its file, so that what only moves is no change. It prints a line for each one that is
@@ -110,9 +112,21 @@ def statements(rev):
     return found
 
 
+def moved(found):
+    """The statements without their crates, and without what stands before the last name of a path."""
+    told = collections.Counter()
+    for it, count in found.items():
+        told[re.sub(r"\b(?:\w+::)+(?=\w)", "", it.split(": ", 1)[1])] += count
+    return told
+
+
 def main():
-    first, second = sys.argv[1], (sys.argv[2:] or [None])[0]
+    asked = sys.argv[1:]
+    is_moved = asked[:1] == ["--moved"]
+    first, second = (asked[is_moved:] + [None])[:2]
     before, after = statements(first), statements(second)
+    if is_moved:
+        before, after = moved(before), moved(after)
     gone, new = before - after, after - before
     for mark, which in (("-", gone), ("+", new)):
         for it in sorted(which):

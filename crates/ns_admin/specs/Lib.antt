@@ -3,3 +3,4 @@ pub mod Calls
 pub mod Laws
 pub mod Recorded
 pub mod Viewed
+pub mod Straying

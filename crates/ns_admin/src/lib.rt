@@ -1,7 +1,9 @@
 //! Prepares and answers administrators' requests for namespaces, quotas and pools, over the tables of the whole world.
+//! `confinement` decides whether a namespace has its pools and its quotas to itself.
 #![tactic(auto)]
 
 mod beginning;
+pub mod confinement;
 mod held;
 mod laws;
 mod lists;

@@ -12,10 +12,10 @@ use crate::held::{forbids_put, has_work};
 use crate::looking::{has_pool, is_default, is_full};
 use crate::record::RecordChange;
 use keyed::{NameTable, NumberTable};
-use ns_events::Events;
 use ns_types::records::Namespace;
 use ns_types::refusal::{Member, Refusal};
 use ns_types::text::Text;
+use ns_world::events::Events;
 use ns_world::{AllocationTable, EvaluationTable, Tables, TenantRows};
 use std::alloc::{AllocError, Global};
 

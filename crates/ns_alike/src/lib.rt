@@ -1,5 +1,6 @@
 //! Compares rows as the model does, member by member: keys, what nodes offer, what quotas allow, documents of jobs, and what
-//! replies show of jobs, evaluations and allocations.
+//! replies show of jobs, evaluations and allocations. `snapshots` and `steps` compare snapshots, steps and rendered answers in
+//! every part, without taking memory.
 #![tactic(auto)]
 
 mod documents;
@@ -7,6 +8,8 @@ mod keys;
 mod limits;
 mod offers;
 mod rows;
+pub mod snapshots;
+pub mod steps;
 
 pub use documents::same_document;
 pub use keys::{has_key, has_name, same_key, same_number};

@@ -14,7 +14,7 @@ use Rattle.ns_types.specs.Wire.Refused.{refused}
 use Rattle.ns_types.specs.State.Rows.{State}
 use Rattle.ns_types.specs.Steps.{Answer}
 use Rattle.ns_types.proofs.Lists.{not_both}
-use Rattle.ns_chains.specs.Chains.{IsMade, MakesOrLacks}
+use Rattle.ns_steps.specs.Chains.{IsMade, MakesOrLacks}
 use Rattle.ns_json.specs.Replies.{rendered}
 use Rattle.ns_replies.specs.Rendered.{HasRoom, IsRendered}
 use Rattle.ns_types.proofs.Tests.{is_no}

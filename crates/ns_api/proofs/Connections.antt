@@ -8,7 +8,7 @@ use Rattle.ns_types.specs.State.Rows.{State}
 use Rattle.ns_types.specs.Steps.{Answer}
 use Rattle.ns_types.specs.Wire.Responses
 use Rattle.ns_types.specs.Wire.Responses.{Exchange}
-use Rattle.ns_chains.specs.Chains.{Chain}
+use Rattle.ns_steps.specs.Chains.{Chain}
 use Rattle.ns_http.specs.Conversation.{Conversation, CutShort, Streams}
 use Rattle.ns_api.specs.declared.answering.Api.{Api}
 use Rattle.ns_api.specs.Answering.{Answers, AnswersRequest, Holding}

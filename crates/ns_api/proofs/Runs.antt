@@ -9,8 +9,8 @@ use Rattle.ns_types.specs.State.Rows.{State}
 use Rattle.ns_types.specs.Steps.{Answer}
 use Rattle.ns_types.specs.Wire.Responses
 use Rattle.ns_types.specs.Wire.Responses.{Exchange}
-use Rattle.ns_chains.specs.Chains.{Chain}
-use Rattle.ns_chains.proofs.Chains.{is_run, join, one}
+use Rattle.ns_steps.specs.Chains.{Chain}
+use Rattle.ns_steps.proofs.Chains.{is_run, join, one}
 use Rattle.ns_asked.specs.Asking.{asked}
 use Rattle.ns_asked.specs.Drawing.{DrawsFor}
 use Rattle.ns_api.specs.Answering.{AnswersAsked, AnswersOrWants, AnswersRefused, AnswersRequest, Answers, Holding, MakesNone, MakesOwn, Made, RunsAs}

@@ -4,7 +4,7 @@ use Rattle.ns_types.specs.declared.refusal.Refusal.{Refusal}
 use Rattle.ns_types.specs.declared.step.Step.{Step}
 use Rattle.ns_types.specs.State.Rows.{State}
 use Rattle.ns_types.specs.Steps.{Answer, Makes, after, said}
-use Rattle.ns_chains.specs.Chains.{MakesOrLacks}
+use Rattle.ns_steps.specs.Chains.{MakesOrLacks}
 use Rattle.ns_types.specs.declared.reply.Rendered.{Rendered}
 use Rattle.ns_types.specs.declared.reply.Response.{Response}
 use Rattle.ns_types.specs.Wire.Refused.{refused}

@@ -9,7 +9,7 @@ use Rattle.ns_types.specs.Wire.Refused.{refused}
 use Rattle.ns_types.specs.State.Rows.{State}
 use Rattle.ns_types.specs.Steps.{Answer, Run}
 use Rattle.ns_types.specs.Wire.Responses.{Exchange, refusal_of}
-use Rattle.ns_chains.specs.Chains.{Chain, IsMade}
+use Rattle.ns_steps.specs.Chains.{Chain, IsMade}
 use Rattle.ns_json.specs.Replies.{rendered}
 use Rattle.ns_asked.specs.Asking.{asked}
 use Rattle.ns_asked.specs.Drawing.{DrawsFor}

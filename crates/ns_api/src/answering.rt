@@ -10,9 +10,9 @@ ghost use Rattle.ns_asked.specs.Wanted.{draft_step, IsServedDraft};
 
 use crate::following::Follows;
 use ns_asked::{Draft, Draws, asked, drawn};
-use ns_chains::Server;
 use ns_http::{Answer, Request};
 use ns_request::Routes;
+use ns_steps::chain::Server;
 use ns_types::refusal::Refusal;
 use ns_types::reply::Response;
 use ns_types::step::Step;

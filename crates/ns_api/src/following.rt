@@ -3,11 +3,11 @@
 ghost use Rattle.std.specs.Prelude.{◌≡◌, List};
 ghost use Rattle.ns_types.specs.declared.step.Step.{Step};
 ghost use Rattle.ns_types.specs.Steps.{Answer};
-ghost use Rattle.ns_chains.specs.Chains.{Chain};
+ghost use Rattle.ns_steps.specs.Chains.{Chain};
 ghost use Rattle.ns_api.specs.Following.{driver_of};
 
-use ns_chains::Server;
 use ns_drive::{Kept, Works, drive};
+use ns_steps::chain::Server;
 use std::alloc::Global;
 
 /// What follows each request, over what took its step.

@@ -3,7 +3,7 @@
 ghost use Rattle.std.specs.Prelude.{◌≡◌, IfOk, false, true};
 ghost use Rattle.ns_types.specs.Wire.Responses.{rendered_of};
 ghost use Rattle.ns_steps.specs.Served.{IsServed};
-ghost use Rattle.ns_answers.specs.Laws.{may_change};
+ghost use Rattle.ns_replies.specs.Laws.{may_change};
 ghost use Rattle.ns_json.specs.Replies.{rendered};
 ghost use Rattle.ns_replies.specs.Rendered.{HasRoom, IsRendered};
 ghost use Rattle.ns_api.specs.Answering.{AnswersOrWants};
@@ -11,8 +11,8 @@ ghost use Rattle.ns_api.specs.Cores.{NotesNothing, itself};
 ghost use Rattle.ns_api.specs.Lacking.{LacksNothing};
 ghost use Rattle.ns_api.specs.Rooms.{ShowsOrWants, room_of};
 
-use ns_answers::may_change;
 use ns_core::Core;
+use ns_replies::answers::may_change;
 use ns_replies::{Room, render};
 use ns_types::refusal::Refusal;
 use ns_types::reply::{Reply, Response};

@@ -13,11 +13,11 @@ use Rattle.ns_types.specs.Steps.{is_past_bound}
 use Rattle.ns_types.specs.Working.Commit.{Applied, applied, commit, done, evicted_rows, live_stops, nodes_in, refused_whole, still_stands, stop_all}
 use Rattle.ns_types.specs.Working.Worker.{Worker}
 use Rattle.ns_types.proofs.Lists.{not_both}
-use Rattle.ns_applied.proofs.Judging.{room_is_left}
+use Rattle.ns_applier.proofs.Judged.{room_is_left}
 use Rattle.ns_apply.specs.Whole.{CanWrite}
 use Rattle.ns_apply.specs.Writing.{placed_on}
-use Rattle.ns_headroom.specs.Applying.{apply_passes}
-use Rattle.ns_headroom.specs.Judging.{doing, live_numbers}
+use Rattle.ns_applier.specs.HeadroomApplying.{apply_passes}
+use Rattle.ns_applier.specs.Judging.{doing, live_numbers}
 use Rattle.ns_plan.specs.Looks.{Decision, IsChecked, decision_of}
 use Rattle.ns_renewal.specs.Losing.{CanMakeUp}
 use Rattle.ns_applier.specs.Applying.{comes_as, comes_to}

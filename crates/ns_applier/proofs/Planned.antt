@@ -18,10 +18,10 @@ use Rattle.ns_types.specs.Working.Queue.{is_served}
 use Rattle.ns_types.specs.Working.Work.{is_submitted, planned_of}
 use Rattle.ns_types.specs.Working.Worker.{Worker}
 use Rattle.ns_types.proofs.Named.{first_of_both}
-use Rattle.ns_applied.proofs.Judging.{apply_is_judged}
+use Rattle.ns_applier.proofs.Judged.{apply_is_judged}
 use Rattle.ns_change.specs.Prepared.{bounded}
-use Rattle.ns_headroom.specs.Applying.{apply_passes}
-use Rattle.ns_headroom.specs.Judging.{doing}
+use Rattle.ns_applier.specs.HeadroomApplying.{apply_passes}
+use Rattle.ns_applier.specs.Judging.{doing}
 use Rattle.ns_plan.specs.Looks.{IsOnFewNodes}
 use Rattle.ns_plan.proofs.Nodes.{sound_is_on_few_nodes}
 use Rattle.ns_applier.specs.Applying.{comes_to}

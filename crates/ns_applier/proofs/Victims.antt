@@ -11,8 +11,8 @@ use Rattle.ns_types.specs.declared.snapshot.Snapshot.{Snapshot}
 use Rattle.ns_types.specs.State.Names.{has_number}
 use Rattle.ns_types.specs.State.Rows.{World}
 use Rattle.ns_types.specs.Working.Commit.{counts, node_name, victims_in, victims_of}
-use Rattle.ns_headroom.specs.Applying.{apply_passes, own_passes, place_passes, stop_passes, victim_passes}
-use Rattle.ns_headroom.specs.Judging.{doing, live_numbers, lost_part_passes, own_part_passes, placed_on}
+use Rattle.ns_applier.specs.HeadroomApplying.{apply_passes, own_passes, place_passes, stop_passes, victim_passes}
+use Rattle.ns_applier.specs.Judging.{doing, live_numbers, lost_part_passes, own_part_passes, placed_on}
 use Rattle.ns_plan.specs.After.{after_stops}
 use Rattle.ns_plan.specs.Looks.{IsOnFewNodes}
 use Rattle.ns_renewal.specs.Counted.{counted_of}

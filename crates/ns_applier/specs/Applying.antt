@@ -8,8 +8,8 @@ use Rattle.ns_types.specs.Settling.Outcome.{Outcome, Refused}
 use Rattle.ns_types.specs.State.Rows.{Tenant, World}
 use Rattle.ns_types.specs.Working.Commit.{Applied, applied, commit}
 use Rattle.ns_types.specs.Working.Worker.{Worker}
-use Rattle.ns_headroom.specs.Applying.{apply_passes}
-use Rattle.ns_headroom.specs.Judging.{doing}
+use Rattle.ns_applier.specs.HeadroomApplying.{apply_passes}
+use Rattle.ns_applier.specs.Judging.{doing}
 
 -- that is done of it; or it is refused, where a counter would pass its bound
 abbrev pub comes_as : ℕ → World → Worker → Evaluation → Snapshot → Plan → Applied → Outcome World

@@ -1,2 +1,11 @@
 pub mod Applying
 pub mod Losing
+pub mod HeadroomApplying
+pub mod Judging
+pub mod Passing
+pub mod Raising
+pub mod Releasing
+pub mod Shown
+pub mod Parts
+pub mod Laws
+pub mod Counters

@@ -14,16 +14,16 @@ ghost use Rattle.ns_world.specs.World.{tenant_of, world_of};
 
 use crate::judging::passes;
 use crate::turn::{evaluation, is_in_turn};
+use crate::view::check;
 use ns_apply::{Committed, Turn, apply_refused, apply_standing};
 use ns_broker::worker_at;
 use ns_change::Prepared;
 use ns_live::Live;
-use ns_marks::Marked;
+use ns_place::marking::Marked;
 use ns_types::plan::Plan;
 use ns_types::refusal::Refusal;
 use ns_types::snapshot::Snapshot;
 use ns_types::text::Text;
-use ns_view::check;
 use ns_world::{Tables, TenantRows};
 
 /// What the plan of a worker in turn comes to. It is checked, and whether a counter would pass its bound is judged,

@@ -2,8 +2,8 @@
 
 ghost use Rattle.std.specs.Prelude.{◌≡◌, false};
 ghost use Rattle.ns_types.specs.Steps.{is_past_bound};
-ghost use Rattle.ns_headroom.specs.Applying.{apply_passes};
-ghost use Rattle.ns_headroom.specs.Judging.{doing};
+ghost use Rattle.ns_applier.specs.HeadroomApplying.{apply_passes};
+ghost use Rattle.ns_applier.specs.Judging.{doing};
 ghost use Rattle.ns_live.specs.Index.{IsRight};
 ghost use Rattle.ns_plan.specs.Looks.{IsOnFewNodes};
 ghost use Rattle.ns_renewal.specs.Counted.{counted_of};
@@ -12,14 +12,14 @@ ghost use Rattle.ns_applier.specs.Losing.{is_victim};
 ghost use Rattle.ns_plan.specs.After.{after_stops};
 ghost use Rattle.ns_world.specs.World.{world_of};
 
+use crate::headroom::{Headroom, lost_part_passes, own_part_passes};
 use crate::losing::Evicting;
-use ns_headroom::{Headroom, lost_part_passes, own_part_passes};
+use crate::view::Present;
 use ns_live::Live;
-use ns_marks::Marked;
+use ns_place::marking::Marked;
 use ns_renewal::{Counted, numbers_pass};
 use ns_types::plan::Plan;
 use ns_types::snapshot::Snapshot;
-use ns_view::Present;
 use ns_world::Tables;
 
 /// Whether a namespace has too few numbers for an evaluation of each of its jobs that lose an allocation.

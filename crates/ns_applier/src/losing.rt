@@ -1,11 +1,11 @@
 //! Which evictions of a plan are those of victims. It takes no memory to ask.
 
-use ns_marks::Marked;
+use crate::view::Present;
+use ns_place::marking::Marked;
 use ns_plan::counts;
 use ns_renewal::Counts;
 use ns_types::plan::{Eviction, Placement};
 use ns_types::snapshot::Snapshot;
-use ns_view::Present;
 
 /// The nodes that do their part of a plan, with what its evictions are looked up in.
 #[derive(Clone, Copy)]

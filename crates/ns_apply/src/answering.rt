@@ -20,7 +20,7 @@ use crate::looking::node_name;
 use crate::stopping::is_live;
 use keyed::NameTable;
 use ns_change::{Change, put_row, take_plan};
-use ns_marks::Marked;
+use ns_place::marking::Marked;
 use ns_types::evaluation::Evaluation;
 use ns_types::job::JobKind;
 use ns_types::key::EvalKey;

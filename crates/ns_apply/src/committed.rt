@@ -1,6 +1,6 @@
 //! The part of a plan that is done.
 
-use ns_marks::Marked;
+use ns_place::marking::Marked;
 use ns_types::plan::Plan;
 use ns_types::snapshot::Snapshot;
 use ns_world::Tables;

@@ -3,7 +3,7 @@
 ghost use Rattle.std.specs.Prelude.{◌≡◌, IfOk, IsTrue, option_copied};
 ghost use Rattle.ns_types.specs.declared.name.NameKind.TheVariants as NameKind;
 ghost use Rattle.ns_types.specs.State.Name.{is_name};
-ghost use Rattle.ns_members.specs.Members.{is_path_name};
+ghost use Rattle.ns_documents.specs.Members.{is_path_name};
 ghost use Rattle.ns_http.specs.Head.{asked};
 ghost use Rattle.ns_asked.specs.Asking.{
   namespace_put,

@@ -7,3 +7,4 @@ pub mod Nacked
 pub mod Preferred
 pub mod Snaps
 pub mod Submitted
+pub mod Seen

@@ -4,3 +4,4 @@ pub mod Nacking
 pub mod Serving
 pub mod Snapping
 pub mod Submitting
+pub mod Seen

@@ -8,6 +8,7 @@ mod looking;
 mod nacking;
 mod serving;
 mod snapping;
+mod snapshot;
 mod submitting;
 mod taking;
 

@@ -7,12 +7,12 @@ ghost use Rattle.ns_types.specs.Working.Snapshot.{snapshot_of};
 ghost use Rattle.ns_types.specs.Working.Work.{may_snap};
 ghost use Rattle.ns_broker.specs.Snapping.{Keeps, Snaps, UseFitsIn};
 ghost use Rattle.ns_live.specs.Index.{IsRight};
-ghost use Rattle.ns_snapshot.specs.Seen.{UseOfFits};
+ghost use Rattle.ns_broker.specs.Seen.{UseOfFits};
 ghost use Rattle.ns_world.specs.World.{tenant_of, world_of};
 
+use crate::snapshot::snapshot;
 use ns_change::{Change, Prepared, put_row};
 use ns_live::Live;
-use ns_snapshot::snapshot;
 use ns_types::evaluation::Evaluation;
 use ns_types::refusal::Refusal;
 use ns_types::reply::Content;

@@ -8,8 +8,8 @@ ghost use Rattle.ns_change.specs.Changed.{Does};
 ghost use Rattle.ns_world.specs.World.{world_of};
 
 use crate::looking::worker_at;
+use ns_alike::snapshots::same_snapshot;
 use ns_change::{Change, Prepared, add_plan, prepare, put_row};
-use ns_equal::same_snapshot;
 use ns_types::key::EvalKey;
 use ns_types::planned::Planned;
 use ns_types::refusal::Refusal;

@@ -1,4 +1,4 @@
--- From what a step on the world prepares to what the model makes of it. With the end of a step (the lemma `makes` of `ns_conclude`),
+-- From what a step on the world prepares to what the model makes of it. With the end of a step (the lemma `makes` of `ns_settle`),
 -- which wants the second, this is all that a call of the core needs.
 use Rattle.std.specs.Prelude.{◌≡◌, Bool, true, false, cond, None, Ok, Err}
 use Rattle.std.proofs.Common.{refl, ap, sym, ◌∙◌}

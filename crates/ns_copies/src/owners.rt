@@ -10,11 +10,11 @@ use crate::choosing::Chosen;
 use crate::copies::Copies;
 use crate::tables::{copied_names, copied_numbers};
 use keyed::{NameTable, NumberTable, Series};
-use ns_events::Events;
 use ns_types::job::Job;
 use ns_types::node::Class;
 use ns_types::records::Namespace;
 use ns_types::worker::Worker;
+use ns_world::events::Events;
 use ns_world::{AllocationTable, EvaluationTable, PoolRows, QuotaRows, TenantRows};
 use std::alloc::{AllocError, Global};
 

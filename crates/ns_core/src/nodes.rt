@@ -118,7 +118,9 @@ impl Parts {
             NodeCommand::DeleteNode(name) => remove_node(tables, pool, name),
             NodeCommand::SetStatus(name, status) => self.set_status(pool, name, *status),
             NodeCommand::SetEligible(name, eligible) => set_eligible(tables, pool, name, *eligible),
-            NodeCommand::Report(name, report) => ns_report::report(tables, pool, name, report),
+            NodeCommand::Report(name, report) => ns_jobs::report::report(
+                tables, pool, name, report,
+            ),
             _ => unreachable!(),
         }
     }

@@ -10,8 +10,8 @@ ghost use Rattle.ns_core.specs.Viewed.{state_of, world_of};
 
 use ns_acl::Acl;
 use ns_change::Prepared;
-use ns_conclude::conclude;
 use ns_live::Live;
+use ns_settle::conclude;
 use ns_turns::Turns;
 use ns_types::refusal::Refusal;
 use ns_types::reply::{Content, Reply};

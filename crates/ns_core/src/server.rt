@@ -251,14 +251,14 @@ impl Core {
     pub fn namespace_at(&self, name: &Text) -> Option<&Namespace>
         ensures { option_copied result ≡ namespace_at self.now.world name.now }
     {
-        ns_sharing::namespace_at(&self.parts.tables, name)
+        ns_admin::confinement::namespace_at(&self.parts.tables, name)
     }
 
     /// Whether the namespace is there and may use the pool, which need not exist.
     pub fn permits(&self, namespace: &Text, pool: &Text) -> bool
         ensures { result ≡ has_pool self.now.world namespace.now pool.now }
     {
-        ns_sharing::permits(&self.parts.tables, namespace, pool)
+        ns_admin::confinement::permits(&self.parts.tables, namespace, pool)
     }
 
     /// Whether another namespace may use a pool of the namespace, or has its quota. One that is not confined to a list of
@@ -275,14 +275,14 @@ impl Core {
     pub fn apart(&self, namespace: &Text, pools: &[Text], quotas: &[Text]) -> bool
         ensures { result ≡ is_apart self.now.world namespace.now pools.now quotas.now }
     {
-        ns_sharing::apart(&self.parts.tables, namespace, pools, quotas)
+        ns_admin::confinement::apart(&self.parts.tables, namespace, pools, quotas)
     }
 
     /// Whether the step puts a namespace, a quota or a pool of a new name, whose table has no room. It takes no memory.
     pub fn lacks_room(&self, step: &Step) -> bool
         ensures { result ≡ lacks_room step.now self.now.world }
     {
-        ns_sharing::lacks_room(&self.parts.tables, step)
+        ns_admin::confinement::lacks_room(&self.parts.tables, step)
     }
 
     /// Says that the state is valid, as that of every core is. It does nothing.

@@ -40,7 +40,7 @@ use Rattle.ns_documents.specs.declared.pools.PoolConfiguration.{PoolConfiguratio
 use Rattle.ns_documents.specs.declared.quota.NamedQuota.{NamedQuota}
 use Rattle.ns_documents.specs.declared.pool.NamedPool.{NamedPool}
 use Rattle.ns_documents.specs.declared.token.TokenDocument.{TokenDocument}
-use Rattle.ns_members.specs.Members.{is_path_name, repeated, named, description_in, listed_name, names_in}
+use Rattle.ns_documents.specs.Members.{is_path_name, repeated, named, description_in, listed_name, names_in}
 use Rattle.ns_documents.specs.Records.{is_all, pool_or_default, default_pool_in, pools_in, configuration_in, every_pool, namespace_in, max_limit, limit_of}
 use Rattle.ns_documents.specs.Records.{limit_in, region_limit_in, region_in, entry_in, first_entry, entries_in, quota_in, pool_in}
 use Rattle.ns_documents.specs.Access.{with_accessor, rules_text_in, or_bad_rules, policy_in, token_kind_in, token_in}

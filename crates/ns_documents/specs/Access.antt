@@ -15,7 +15,7 @@ use Rattle.ns_json.specs.Reading.{◌>>=◌, Read, top, present, demanded, or_el
 use Rattle.ns_policy.specs.declared.fault.RuleFault.{RuleFault}
 use Rattle.ns_policy.specs.Json.{rules_of}
 use Rattle.ns_documents.specs.declared.token.TokenDocument.{TokenDocument}
-use Rattle.ns_members.specs.Members.{description_in, names_in}
+use Rattle.ns_documents.specs.Members.{description_in, names_in}
 
 -- ---- policies
 

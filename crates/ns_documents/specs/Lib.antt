@@ -1,3 +1,4 @@
 pub mod Records
 pub mod Access
 pub mod Nodes
+pub mod Members

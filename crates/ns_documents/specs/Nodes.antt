@@ -19,7 +19,7 @@ use Rattle.ns_types.specs.Wire.Words.{node_status_text, eligibility_text, client
 use Rattle.ns_json.specs.Reading.{◌>>=◌, Read, top, present, demanded, or_else, or_refuse, unless_null, unless}
 use Rattle.ns_json.specs.Reading.{a_number, a_text, a_name, an_id}
 use Rattle.ns_json.specs.Registration.{max_quantity}
-use Rattle.ns_members.specs.Members.{word_in}
+use Rattle.ns_documents.specs.Members.{word_in}
 
 -- ---- nodes
 

@@ -18,7 +18,7 @@ use Rattle.ns_documents.specs.declared.namespace.NamedNamespace.{NamedNamespace}
 use Rattle.ns_documents.specs.declared.pools.PoolConfiguration.{PoolConfiguration}
 use Rattle.ns_documents.specs.declared.quota.NamedQuota.{NamedQuota}
 use Rattle.ns_documents.specs.declared.pool.NamedPool.{NamedPool}
-use Rattle.ns_members.specs.Members.{named, description_in, names_in}
+use Rattle.ns_documents.specs.Members.{named, description_in, names_in}
 
 -- ---- the pools of a namespace
 

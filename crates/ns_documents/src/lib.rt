@@ -1,6 +1,7 @@
 //! Reads the documents of namespaces, quotas, pools, policies and tokens, and those of nodes.
 #![tactic(auto)]
 
+mod members;
 mod namespace;
 mod node;
 mod policy;

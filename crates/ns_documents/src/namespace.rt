@@ -5,12 +5,12 @@ ghost use Rattle.serde_json.specs.View.{view};
 ghost use Rattle.ns_types.specs.State.Limits.{is_good_namespace};
 ghost use Rattle.ns_json.specs.Reading.{Gives, same, present, or_else, body_in, IsOfDocument};
 ghost use Rattle.ns_json.specs.Registration.{name_if_any};
-ghost use Rattle.ns_members.specs.Members.{IsNamedWell};
+ghost use Rattle.ns_documents.specs.Members.{IsNamedWell};
 ghost use Rattle.ns_documents.specs.Records.{namespace_in};
 
+use crate::members::{description, named};
 use crate::pools::configuration_or_every_pool;
 use ns_json::member::{document, name_if_any, present, read_json};
-use ns_members::{description, named};
 use ns_types::name::NameKind;
 use ns_types::records::Namespace;
 use ns_types::refusal::{Member, Refusal};

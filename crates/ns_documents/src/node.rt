@@ -7,10 +7,10 @@ ghost use Rattle.ns_json.specs.Reading.{Gives, same, present, or_else, body_in, 
 ghost use Rattle.ns_documents.specs.Nodes.{AreByKey, with_attribute, each_attribute, attributes_in};
 ghost use Rattle.ns_documents.specs.Nodes.{amount_in, node_in, node_status_in, eligibility_in};
 
+use crate::members::{text_or_empty, word};
 use ns_json::member::{
     MAX_QUANTITY, MAX_TEXT, demanded, document, number, number_or, present, read_json, text,
 };
-use ns_members::{text_or_empty, word};
 use ns_types::node::{Attribute, NodeStatus, Offer};
 use ns_types::refusal::{Member, Refusal};
 use ns_types::resources::Resources;

@@ -7,8 +7,8 @@ ghost use Rattle.ns_json.specs.Reading.{Gives, same, body_in, IsOfDocument};
 ghost use Rattle.ns_policy.specs.Json.{rules_of};
 ghost use Rattle.ns_documents.specs.Access.{rules_text_in, or_bad_rules, policy_in};
 
+use crate::members::description;
 use ns_json::member::{demanded, document, read_json};
-use ns_members::description;
 use ns_policy::{RuleFault, read_rules};
 use ns_types::acl::{Policy, Rule};
 use ns_types::refusal::{Member, Refusal};

@@ -4,11 +4,11 @@ ghost use Rattle.std.specs.Prelude.{IfOk, IfErr, IsTrue, option_copied};
 ghost use Rattle.serde_json.specs.View.{view};
 ghost use Rattle.ns_types.specs.State.Limits.{is_text};
 ghost use Rattle.ns_json.specs.Reading.{Gives, same, body_in, IsOfDocument};
-ghost use Rattle.ns_members.specs.Members.{IsPoolNamedWell};
+ghost use Rattle.ns_documents.specs.Members.{IsPoolNamedWell};
 ghost use Rattle.ns_documents.specs.Records.{pool_in};
 
+use crate::members::{description, named};
 use ns_json::member::{document, read_json};
-use ns_members::{description, named};
 use ns_types::name::NameKind;
 use ns_types::records::Pool;
 use ns_types::refusal::{Member, Refusal};

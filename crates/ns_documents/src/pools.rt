@@ -6,8 +6,8 @@ ghost use Rattle.ns_types.specs.State.Names.{default_name};
 ghost use Rattle.ns_json.specs.Reading.{Gives, same, or_else, some, present};
 ghost use Rattle.ns_documents.specs.Records.{default_pool_in, pools_in, configuration_in, every_pool};
 
+use crate::members::{has_name, names};
 use ns_json::member::{name_if_any, object, present};
-use ns_members::{has_name, names};
 use ns_types::name::NameKind;
 use ns_types::refusal::{Member, Refusal};
 use ns_types::rows::Rows;

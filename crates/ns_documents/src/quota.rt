@@ -6,11 +6,11 @@ ghost use Rattle.ns_types.specs.declared.resources.Limit.TheVariants.{Unlimited}
 ghost use Rattle.ns_types.specs.State.Limits.{is_good_quota};
 ghost use Rattle.ns_types.specs.State.Resources.{unlimited};
 ghost use Rattle.ns_json.specs.Reading.{Gives, same, present, or_else, body_in, IsOfDocument};
-ghost use Rattle.ns_members.specs.Members.{IsNamedWell};
+ghost use Rattle.ns_documents.specs.Members.{IsNamedWell};
 ghost use Rattle.ns_documents.specs.Records.{limit_of, limit_in, region_limit_in, region_in, entry_in, entries_in, quota_in};
 
+use crate::members::{description, named};
 use ns_json::member::{document, list, object, present, read_json, text};
-use ns_members::{description, named};
 use ns_types::name::NameKind;
 use ns_types::records::Quota;
 use ns_types::refusal::{Member, Refusal};

@@ -5,9 +5,9 @@ ghost use Rattle.serde_json.specs.View.{view};
 ghost use Rattle.ns_json.specs.Reading.{Gives, same, body_in, IsOfDocument};
 ghost use Rattle.ns_documents.specs.Nodes.{reported_in, report_in};
 
+use crate::members::word;
 use ns_json::member;
 use ns_json::member::{demanded, document, read_json};
-use ns_members::word;
 use ns_types::allocation::ClientStatus;
 use ns_types::id::IdKind;
 use ns_types::name::NameKind;

@@ -5,11 +5,11 @@ ghost use Rattle.serde_json.specs.View.{view};
 ghost use Rattle.ns_types.specs.declared.acl.TokenKind.TheVariants.{Client};
 ghost use Rattle.ns_types.specs.State.Limits.{is_good_token};
 ghost use Rattle.ns_json.specs.Reading.{Gives, same, present, or_else, body_in, IsOfDocument};
-ghost use Rattle.ns_members.specs.Members.{names_in};
+ghost use Rattle.ns_documents.specs.Members.{names_in};
 ghost use Rattle.ns_documents.specs.Access.{with_accessor, token_kind_in, token_in};
 
+use crate::members::{names, text_or_empty};
 use ns_json::member::{document, present, read_json, text};
-use ns_members::{names, text_or_empty};
 use ns_types::acl::TokenKind;
 use ns_types::name::NameKind;
 use ns_types::refusal::{Member, Refusal};

@@ -7,8 +7,8 @@ use Rattle.ns_types.specs.declared.snapshot.Snapshot.{Snapshot}
 use Rattle.ns_types.specs.declared.step.Step.{Step}
 use Rattle.ns_types.specs.State.Rows.{State}
 use Rattle.ns_types.specs.Steps.{Answer}
-use Rattle.ns_chains.specs.Chains.{Chain}
-use Rattle.ns_chains.proofs.Chains.{then}
+use Rattle.ns_steps.specs.Chains.{Chain}
+use Rattle.ns_steps.proofs.Chains.{then}
 use Rattle.ns_drive.specs.declared.stopping.Stop.{Stop}
 use Rattle.ns_drive.specs.Driving.{Drives, IsRefused, MakesMany, MakesOne, Rounds, Stops, most_steps}
 use Rattle.ns_drive.specs.Working.{Ends}

@@ -12,7 +12,7 @@ use Rattle.ns_types.specs.Steps.{Answer}
 use Rattle.ns_types.specs.Working.Looks.{RefusesFinish, RefusesPlan, is_ending, row_of, served_ready}
 use Rattle.ns_types.specs.Working.Work.{is_snapped, may_finish_in}
 use Rattle.ns_types.specs.Working.Worker.{Worker}
-use Rattle.ns_chains.specs.Chains.{IsLacking, IsMade}
+use Rattle.ns_steps.specs.Chains.{IsLacking, IsMade}
 use Rattle.ns_schedule.specs.Fits.{fits}
 use Rattle.ns_types.proofs.Lists.{not_both}
 use Rattle.ns_types.proofs.Tests.{not_Some}

@@ -7,7 +7,7 @@ use Rattle.ns_types.specs.State.Names.{Name}
 use Rattle.ns_types.specs.State.Rows.{State, World}
 use Rattle.ns_types.specs.Steps.{Answer}
 use Rattle.ns_types.specs.Working.Looks.{RefusesFinish, RefusesPlan}
-use Rattle.ns_chains.specs.Chains.{IsLacking, IsMade, MakesOrLacks}
+use Rattle.ns_steps.specs.Chains.{IsLacking, IsMade, MakesOrLacks}
 use Rattle.ns_broker.specs.Snapping.{kept_at}
 
 -- by the state, what a step notes besides, and why a step may not be made

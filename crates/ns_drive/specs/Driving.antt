@@ -10,7 +10,7 @@ use Rattle.ns_types.specs.Steps.{Answer}
 use Rattle.ns_types.specs.Working.Looks.{is_ending, row_of, served_ready}
 use Rattle.ns_types.specs.Working.Work.{is_submitted, may_finish, may_snap, may_submit}
 use Rattle.ns_types.specs.Working.Worker.{Worker}
-use Rattle.ns_chains.specs.Chains.{Chain, IsMade}
+use Rattle.ns_steps.specs.Chains.{Chain, IsMade}
 use Rattle.ns_broker.specs.Snapping.{kept_at}
 use Rattle.ns_schedule.specs.Fits.{fits}
 use Rattle.ns_drive.specs.declared.stopping.Stop.{Stop}

@@ -9,7 +9,7 @@ ghost use Rattle.ns_drive.specs.Attempting.{Attempts, AttemptsFinish, AttemptsSu
 ghost use Rattle.ns_drive.specs.Calls.{snapped};
 
 use ns_broker::Busy;
-use ns_chains::Server;
+use ns_steps::chain::Server;
 use ns_types::key::EvalKey;
 use ns_types::planned::Planned;
 use ns_types::refusal::Refusal;

@@ -6,3 +6,5 @@ pub mod Making
 pub mod Newer
 pub mod Numbered
 pub mod Passing
+pub mod Placed
+pub mod Remembers

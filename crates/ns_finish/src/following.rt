@@ -3,7 +3,7 @@
 ghost use Rattle.std.specs.Prelude.{◌≡◌, None, IfOk, if◌then◌else◌};
 ghost use Rattle.ns_finish.specs.Following.{follower_for, limiting};
 
-use ns_shortage::{escapes, infeasible_classes};
+use crate::shortage::{escapes, infeasible_classes};
 use ns_types::evaluation::{Evaluation, Status, Trigger};
 use ns_types::snapshot::Snapshot;
 use ns_types::text::Text;

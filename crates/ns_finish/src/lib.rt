@@ -1,5 +1,5 @@
 //! Finishes an evaluation: makes the follower that remembers what kept allocations from being placed, and decides whether it
-//! missed a release since the snapshot.
+//! missed a release since the snapshot. `shortage` finds what the follower remembers.
 #![tactic(auto)]
 
 mod ending;
@@ -7,6 +7,7 @@ mod finishing;
 mod following;
 pub mod laws;
 mod missing;
+mod shortage;
 
 pub use finishing::finish;
 pub use following::follower;

@@ -9,7 +9,7 @@ use Rattle.ns_types.specs.State.Names.{Name}
 use Rattle.ns_types.specs.State.Rows.{State}
 use Rattle.ns_types.specs.Steps.{Answer}
 use Rattle.ns_json.specs.Replies.{rendered}
-use Rattle.ns_chains.specs.Chains.{Chain}
+use Rattle.ns_steps.specs.Chains.{Chain}
 use Rattle.ns_drive.specs.Attempting.{Attempts, AttemptsFinish, AttemptsSubmit}
 use Rattle.ns_held.specs.Lacking.{HeldLacks}
 use Rattle.ns_held.specs.Logs.{AreNoted, History, IsNoted, Logs}

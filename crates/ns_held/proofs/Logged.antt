@@ -12,7 +12,7 @@ use Rattle.ns_types.proofs.Lists.{not_both}
 use Rattle.ns_laws.specs.Refusals.{is_of_steps}
 use Rattle.ns_laws.proofs.RefusalLemmas.{steps_refuse_so}
 use Rattle.ns_json.specs.Replies.{Entry, IsKept, rendered}
-use Rattle.ns_chains.proofs.Runs.{run_then}
+use Rattle.ns_steps.proofs.Runs.{run_then}
 use Rattle.ns_held.specs.Logs.{History, HasPlace, IsLogged, Logs}
 use Rattle.ns_held.specs.Noting.{noted}
 

@@ -7,8 +7,8 @@ use Rattle.ns_types.specs.State.Rows.{State}
 use Rattle.ns_types.specs.Steps.{Answer, Makes}
 use Rattle.ns_steps.specs.Served.{IsServed, is_reading}
 use Rattle.ns_steps.proofs.Telling.{reading_rests}
-use Rattle.ns_answers.specs.Laws.{may_change}
-use Rattle.ns_answers.proofs.Reading.{reads_or_changes}
+use Rattle.ns_replies.specs.Laws.{may_change}
+use Rattle.ns_replies.proofs.Reading.{reads_or_changes}
 
 rests : (step : Step) (s : State) (answer : Answer) (s' : State) → IsServed step → is_reading step ≡ true → Makes step s answer s' → s' ≡ s
 rests step s (Ok reply) s' served reading m = reading_rests step s s' (Ok reply) served reading m

@@ -10,9 +10,9 @@ use Rattle.ns_types.specs.Steps.{Answer, Makes, after, said}
 use Rattle.ns_types.proofs.Lists.{not_both}
 use Rattle.ns_steps.specs.Served.{IsServed}
 use Rattle.ns_drive.specs.Calls.{FinishesBy, HandsIn}
-use Rattle.ns_answers.specs.Laws.{may_change, row_of}
-use Rattle.ns_answers.specs.Rooms.{HasRoom, Room, room_of}
-use Rattle.ns_answers.proofs.Made.{made_has_room}
+use Rattle.ns_replies.specs.Laws.{may_change, row_of}
+use Rattle.ns_replies.specs.Rooms.{HasRoom, Room, room_of}
+use Rattle.ns_replies.proofs.Made.{made_has_room}
 
 -- no worker makes a step that is asked for
 pub row_none : (step : Step) (w : World) → IsServed step → row_of step w ≡ None

@@ -4,7 +4,7 @@ use Rattle.ns_types.specs.declared.refusal.Refusal.{Refusal}
 use Rattle.ns_types.specs.declared.step.Step.{Step}
 use Rattle.ns_types.specs.State.Rows.{State}
 use Rattle.ns_types.specs.Steps.{Answer, after}
-use Rattle.ns_chains.specs.Chains.{IsMade}
+use Rattle.ns_steps.specs.Chains.{IsMade}
 use Rattle.ns_json.specs.Replies.{Entry, IsKept, rendered}
 
 -- Where the log began, and how many entries were given out before; what the server did since, with each answer as bytes,

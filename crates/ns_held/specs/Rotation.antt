@@ -1,6 +1,6 @@
 -- A log is given out, and the next one begins.
 use Rattle.std.specs.Prelude.{◌≡◌, ◌+◌, ◌-◌, [], length, min}
-use Rattle.ns_segments.specs.Segments.{Given}
+use Rattle.ns_log.specs.Segments.{Given}
 use Rattle.ns_held.specs.Logs.{History, places_end}
 
 -- the log was given out whole; the next one is empty and begins where the server is, behind all entries that were given out

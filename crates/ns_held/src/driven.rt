@@ -2,8 +2,8 @@
 
 use crate::held::Held;
 use ns_broker::Busy;
-use ns_chains::Server;
 use ns_drive::Works;
+use ns_steps::chain::Server;
 use ns_types::key::EvalKey;
 use ns_types::planned::Planned;
 use ns_types::refusal::Refusal;

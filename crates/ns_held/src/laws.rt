@@ -3,11 +3,11 @@
 ghost use Rattle.std.specs.Prelude.{List};
 ghost use Rattle.ns_types.specs.declared.step.Step.{Step};
 ghost use Rattle.ns_types.specs.Steps.{Answer};
-ghost use Rattle.ns_chains.specs.Chains.{Chain};
+ghost use Rattle.ns_steps.specs.Chains.{Chain};
 ghost use Rattle.ns_held.specs.Logs.{AreNoted, History};
 
 use crate::held::Held;
-use ns_chains::Server;
+use ns_steps::chain::Server;
 
 /// A chain of steps that a held server made stands in its log, in its order, and nothing else was added.
 pub fn chain_is_noted()

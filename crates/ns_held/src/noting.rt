@@ -3,11 +3,11 @@
 ghost use Rattle.std.specs.Prelude.{◌≡◌, ◌<◌, ◌≤◌, IfOk, IfErr, OnOk, length, option_copied, vec_len, vec_capacity};
 ghost use Rattle.ns_types.specs.declared.refusal.Refusal.TheVariants as Refusal;
 ghost use Rattle.ns_laws.specs.Refusals.{is_of_steps};
-ghost use Rattle.ns_answers.specs.Rooms.{HasRoom, room_of};
+ghost use Rattle.ns_replies.specs.Rooms.{HasRoom, room_of};
 ghost use Rattle.ns_held.specs.Noting.{Begins, noted};
 
-use ns_answers::Room;
 use ns_log::Entry;
+use ns_replies::answers::Room;
 use ns_types::refusal::Refusal;
 use ns_types::reply::Reply;
 use ns_types::step::Step;

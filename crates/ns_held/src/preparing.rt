@@ -1,18 +1,18 @@
 //! Steps that are about to be made, once the log takes one more entry and there is room for the answer.
 
 ghost use Rattle.std.specs.Prelude.{◌≡◌, ◌<◌, ◌≤◌, IfOk, None, OnOk, length, option_copied, vec_len, vec_capacity};
-ghost use Rattle.ns_answers.specs.Rooms.{room_of};
-ghost use Rattle.ns_work.specs.Works.{step_of};
+ghost use Rattle.ns_replies.specs.Rooms.{room_of};
+ghost use Rattle.ns_steps.specs.Works.{step_of};
 ghost use Rattle.ns_held.specs.Noting.{Begins};
 
 use crate::noting::{begin, with_room};
-use ns_answers::Room;
 use ns_log::Entry;
+use ns_replies::answers::Room;
+use ns_steps::work::{Work, step_of};
 use ns_types::refusal::Refusal;
 use ns_types::step::Step;
 use ns_types::text::Text;
 use ns_types::worker::Worker;
-use ns_work::{Work, step_of};
 use std::alloc::Global;
 
 /// The step of a worker, if the log takes one more entry, with room for its answer by the worker's row.

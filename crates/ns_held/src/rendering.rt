@@ -3,13 +3,13 @@
 ghost use Rattle.std.specs.Prelude.{◌≡◌, ◌≤◌, IfOk, IfSome, OnOk, length, true};
 ghost use Rattle.ns_types.specs.Wire.Responses.{rendered_of};
 ghost use Rattle.ns_json.specs.Replies.{rendered};
-ghost use Rattle.ns_answers.specs.Rooms.{HasRoom, answer_bytes};
+ghost use Rattle.ns_replies.specs.Rooms.{HasRoom, answer_bytes};
 ghost use Rattle.ns_held.specs.Noting.{is_answer};
 ghost use Rattle.ns_held.specs.Rendered.{IsGiven, rendered_step};
 
 use crate::noting::is_of_steps;
-use ns_answers::{Room, refused, render};
-use ns_steps_copied::copied_rendered;
+use ns_copies::steps::copied_rendered;
+use ns_replies::answers::{Room, refused, render};
 use ns_types::refusal::Refusal;
 use ns_types::reply::{Rendered, Reply, Response};
 use std::alloc::{AllocError, Global};

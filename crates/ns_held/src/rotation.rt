@@ -5,7 +5,7 @@ ghost use Rattle.ns_types.specs.declared.refusal.Refusal.TheVariants as Refusal;
 ghost use Rattle.ns_held.specs.Rotation.{IsRotated};
 
 use crate::held::Held;
-use ns_segments::Segment;
+use ns_log::segments::Segment;
 use ns_types::refusal::Refusal;
 use std::alloc::Global;
 use std::mem;

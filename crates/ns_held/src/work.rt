@@ -4,7 +4,7 @@ ghost use Rattle.std.specs.Prelude.{◌≡◌, ◌<◌, IfOk, Some, vec_len, vec
 ghost use Rattle.ns_types.specs.declared.step.Step.TheVariants as Step;
 ghost use Rattle.ns_broker.specs.Snapping.{kept_at};
 ghost use Rattle.ns_drive.specs.Calls.{snapped};
-ghost use Rattle.ns_answers.specs.Rooms.{HasRoom};
+ghost use Rattle.ns_replies.specs.Rooms.{HasRoom};
 ghost use Rattle.ns_held.specs.Logs.{Logs};
 ghost use Rattle.ns_held.specs.Noting.{noted};
 ghost use Rattle.ns_held.specs.Planned.{LogsFinish, LogsSubmit};
@@ -12,8 +12,9 @@ ghost use Rattle.ns_held.specs.Planned.{LogsFinish, LogsSubmit};
 use crate::held::Held;
 use crate::noting::note;
 use crate::preparing::prepare_work;
-use ns_answers::Room;
 use ns_log::Entry;
+use ns_replies::answers::Room;
+use ns_steps::work::Work;
 use ns_types::planned::Planned;
 use ns_types::refusal::Refusal;
 use ns_types::reply::{Content, Reply};
@@ -21,7 +22,6 @@ use ns_types::shared::Shared;
 use ns_types::snapshot::Snapshot;
 use ns_types::step::Step;
 use ns_types::text::Text;
-use ns_work::Work;
 use std::alloc::Global;
 
 /// What a worker that looks is answered.

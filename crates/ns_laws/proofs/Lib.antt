@@ -10,3 +10,7 @@ pub mod RefusalLemmas
 pub mod SumLemmas
 pub mod RegisterLemmas
 pub mod OrderedLemmas
+pub mod Beside
+pub mod Held
+pub mod Apartness
+pub mod Valid

@@ -7,3 +7,6 @@ pub mod Sharing
 pub mod Refusals
 pub mod Sums
 pub mod Nodes
+pub mod Kinds
+pub mod Staying
+pub mod Parted

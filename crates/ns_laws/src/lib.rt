@@ -1,7 +1,8 @@
 //! Says, as small laws of the model, that its definitions mean what they should. Each is the contract of a function that does
-//! nothing.
+//! nothing. `isolation` says what holds of a namespace that has its pools and its quotas to itself.
 #![tactic(auto)]
 
+pub mod isolation;
 pub mod nodes;
 pub mod placement;
 pub mod queue;

@@ -1,2 +1,7 @@
 pub mod Members
 pub mod Lines
+pub mod Segments
+pub mod Faults
+pub mod Laws
+pub mod Marks
+pub mod Settling

@@ -1,4 +1,5 @@
-//! Writes the text of a log: a line with the bootstrap secret, then one line for each step and its answer.
+//! Writes the text of a log: a line with the bootstrap secret, then one line for each step and its answer. `segments` joins logs
+//! that follow each other, and `receipts` settles what callers were answered against a log.
 #![tactic(auto)]
 
 mod call;
@@ -7,7 +8,9 @@ mod entry;
 mod line;
 mod log;
 mod member;
+pub mod receipts;
 mod registration;
+pub mod segments;
 mod step;
 
 pub use entry::{Entry, entry_line};

@@ -20,7 +20,7 @@ use Rattle.ns_policy.specs.declared.fault.RuleFault.{RuleFault}
 use Rattle.ns_policy.specs.Json.{rules_of}
 use Rattle.ns_documents.specs.Access.{policy_in, or_bad_rules, rules_text_in}
 use Rattle.ns_documents.specs.declared.pool.NamedPool.{NamedPool}
-use Rattle.ns_members.specs.Members.{description_in, IsNamedWell, IsPoolNamedWell}
+use Rattle.ns_documents.specs.Members.{description_in, IsNamedWell, IsPoolNamedWell}
 use Rattle.ns_log_read.specs.Reading.{Read, Gives, same, accepted}
 
 given : {A : Type 0} (r q : json.Read A) → json.Gives json.same r q → Gives same (accepted r) (accepted q)

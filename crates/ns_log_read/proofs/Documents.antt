@@ -37,7 +37,7 @@ use Rattle.ns_json.specs.Rendering.{object_of, members_of, texts_of, allowed_jso
 use Rattle.ns_json.specs.Rendering.{limits_json, quota_json, pool_json, policy_json, token_json}
 use Rattle.ns_policy.specs.Json.{rules_of}
 use Rattle.ns_documents.specs.Access.{rules_text_in, policy_in, token_kind_of, token_kind_in, token_in}
-use Rattle.ns_members.specs.Members.{named, description_in, listed_name, names_in}
+use Rattle.ns_documents.specs.Members.{named, description_in, listed_name, names_in}
 use Rattle.ns_documents.specs.Nodes.{with_attribute, each_attribute, attributes_in, amount_in, node_in}
 use Rattle.ns_documents.specs.Records.{default_pool_in, pools_in, configuration_in, namespace_in, limit_in, region_limit_in, region_in, entry_in}
 use Rattle.ns_documents.specs.Records.{entries_in, quota_in, pool_in}

@@ -26,8 +26,8 @@ use Rattle.ns_api.specs.Answering.{Holding, Made, MakesFirst, MakesOwn}
 use Rattle.ns_api.specs.Cores.{ServedByHeld, state_of}
 use Rattle.ns_api.specs.Following.{FollowsBy}
 use Rattle.ns_api.specs.Lacking.{LacksRoom}
-use Rattle.ns_written.specs.Readable.{AreAsRead}
-use Rattle.ns_written.proofs.Requests.{asked_read, drawn_read}
+use Rattle.ns_pipe.specs.Readable.{AreAsRead}
+use Rattle.ns_pipe.proofs.Requests.{asked_read, drawn_read}
 
 -- ---- what follows a request
 

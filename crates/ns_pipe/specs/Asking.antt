@@ -3,7 +3,7 @@ use Rattle.std.specs.Prelude.{◌≡◌, ◌≢◌, ℕ, List, string_bytes}
 use Rattle.ns_api.specs.declared.following.Driven.{Driven}
 use Rattle.ns_pipe.specs.declared.asked.Asked.{Asked}
 use Rattle.ns_pipe.specs.declared.printed.Printed.{Printed}
-use Rattle.ns_replay_print.specs.declared.replay.Replay.{Replay}
+use Rattle.ns_pipe.specs.declared.replay.replay.Replay.{Replay}
 
 -- no connection is to be served
 abbrev pub IsNoConnection : Asked → Type 0

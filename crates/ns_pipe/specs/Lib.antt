@@ -2,3 +2,9 @@ pub mod Asking
 pub mod Ending
 pub mod Logging
 pub mod Printing
+pub mod Readable
+pub mod Laws
+pub mod Text
+pub mod Claimed
+pub mod Outcome
+pub mod ReplayPrinting

@@ -13,7 +13,7 @@ use Rattle.ns_api.specs.Cores.{ServedByHeld, history_of}
 use Rattle.ns_api.specs.Following.{driver_of}
 use Rattle.ns_api.specs.declared.following.Driven.{Driven}
 use Rattle.ns_api.specs.declared.following.Driver.{Driver}
-use Rattle.ns_written.specs.Readable.{AreAsRead, IsReadBack}
+use Rattle.ns_pipe.specs.Readable.{AreAsRead, IsReadBack}
 use Rattle.ns_pipe.specs.Ending.{IsEnd}
 use Rattle.ns_faults.specs.Lines.{FailsToWrite}
 use Rattle.ns_pipe.specs.declared.logging.TheConstants.{LOG_LIMIT}

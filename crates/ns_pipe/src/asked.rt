@@ -1,8 +1,8 @@
 //! What the program is asked to do.
 
 use crate::printed::Printed;
+use crate::replay::Replay;
 use ns_api::Driven;
-use ns_replay_print::Replay;
 use ns_types::name::Secret;
 
 /// What the words come to.

@@ -1,4 +1,5 @@
-//! Runs one connection over a reader and a writer, on a server of its own.
+//! Runs one connection over a reader and a writer, on a server of its own, or replays a log. `written` says, as laws, that the
+//! text of a log is read back as that log, and `replay` prints line by line what a replay comes to.
 #![tactic(auto)]
 
 mod asked;
@@ -6,7 +7,9 @@ mod connection;
 mod logging;
 mod nowhere;
 mod printed;
+pub mod replay;
 mod running;
+mod written;
 
 pub use asked::Asked;
 pub use connection::pipe;

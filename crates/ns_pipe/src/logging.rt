@@ -7,8 +7,9 @@ ghost use Rattle.ns_http.specs.Output.{WritesAll};
 ghost use Rattle.ns_pipe.specs.Ending.{IsEnd};
 ghost use Rattle.ns_faults.specs.Lines.{FailsToWrite, TriesToWrite, line_of, status_of};
 ghost use Rattle.ns_pipe.specs.Logging.{LogsInPart, LogsNothing, LogsServed, LogsToReadFault, opened_log};
-ghost use Rattle.ns_written.specs.Readable.{AreAsRead, IsReadBack};
+ghost use Rattle.ns_pipe.specs.Readable.{AreAsRead, IsReadBack};
 
+use crate::written::readable_text;
 use ns_api::{Api, Driven, Driver, close_held, open_held, serve};
 use ns_asked::Draws;
 use ns_faults::print_fault;
@@ -17,7 +18,6 @@ use ns_held::Held;
 use ns_held::laws::chain_is_noted;
 use ns_http::{ConnFault, Counted, write_all};
 use ns_types::name::Secret;
-use ns_written::readable_text;
 use std::alloc::Global;
 use std::io::{Read, Write};
 

@@ -3,3 +3,5 @@ pub mod Prefix
 pub mod Ranks
 pub mod Sums
 pub mod Walk
+mod Marks
+mod Rising

@@ -1,3 +1,4 @@
 pub mod Amounts
 pub mod Laws
 pub mod Order
+pub mod Marks

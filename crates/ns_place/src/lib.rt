@@ -1,4 +1,5 @@
 //! Finds the nodes that a job may use, chooses the best of those with room, and says what a placement and an eviction do to a node.
+//! `marking` says which numbers stand in a list.
 #![tactic(auto)]
 
 mod amounts;
@@ -7,6 +8,7 @@ mod choice;
 mod constraints;
 mod eviction;
 pub mod laws;
+pub mod marking;
 mod order;
 
 pub use candidate::Candidate;

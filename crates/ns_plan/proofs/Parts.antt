@@ -17,7 +17,7 @@ use Rattle.ns_types.proofs.Lists.{any_chosen, each, filter-append, filter_none}
 use Rattle.ns_types.proofs.Named.{numbers, one_number}
 use Rattle.ns_types.proofs.Tables.{tied}
 use Rattle.std.specs.Cmp.{eq_by_cmp_equiv}
-use Rattle.ns_marks.specs.Marks.{AreFlags}
+use Rattle.ns_place.specs.Marks.{AreFlags}
 use Rattle.ns_plan.proofs.Holding.{take_next}
 use Rattle.ns_plan.specs.After.{after_stops, counted_stops}
 use Rattle.ns_plan.specs.Looks.{decision_of, job_at}

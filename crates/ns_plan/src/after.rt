@@ -10,7 +10,7 @@ ghost use Rattle.ns_plan.specs.Looks.{AreCounted, if_live, live_at};
 ghost use Rattle.ns_plan.specs.Reader.{quota_left};
 
 use crate::view::View;
-use ns_marks::Marked;
+use ns_place::marking::Marked;
 use ns_types::allocation::Allocation;
 use ns_types::plan::Eviction;
 use ns_types::resources::{Resources, less, none, same_resources};

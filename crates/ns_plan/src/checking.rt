@@ -8,7 +8,7 @@ use crate::deciding::{SoFar, decide_all, undecided};
 use crate::stops::stands;
 use crate::view::View;
 use arrayvec::ArrayVec;
-use ns_marks::Flags;
+use ns_place::marking::Flags;
 use ns_types::plan::Plan;
 use ns_types::snapshot::Snapshot;
 use std::marker::Model;

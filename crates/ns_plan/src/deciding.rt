@@ -17,7 +17,7 @@ use crate::loads::{load_at, loads_of};
 use crate::taking::{node_name, takes};
 use crate::view::View;
 use arrayvec::ArrayVec;
-use ns_marks::{Flags, Marked};
+use ns_place::marking::{Flags, Marked};
 use ns_types::plan::Plan;
 use ns_types::resources::{Amount, Resources, add, amount_of, none};
 use ns_types::snapshot::Snapshot;

@@ -11,7 +11,7 @@ ghost use Rattle.ns_plan.specs.Looks.{AreVictims, IsOnFewNodes};
 use crate::after::{counted, has_number};
 use crate::taking::node_name;
 use crate::view::View;
-use ns_marks::Marked;
+use ns_place::marking::Marked;
 use ns_types::plan::{Eviction, Placement, Plan};
 use ns_types::snapshot::Snapshot;
 use ns_types::text::same_text;

@@ -13,7 +13,7 @@ ghost use Rattle.ns_plan.specs.Reader.{same_eviction, with_gone};
 
 use crate::after::{counted, shares};
 use crate::view::View;
-use ns_marks::Marked;
+use ns_place::marking::Marked;
 use ns_types::allocation::Allocation;
 use ns_types::plan::{Eviction, Placement};
 use ns_types::resources::{Resources, less};

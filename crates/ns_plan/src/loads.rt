@@ -12,7 +12,7 @@ ghost use Rattle.ns_plan.specs.Looks.{AreCounted, IsOnFewNodes};
 use crate::after::load;
 use crate::taking::node_name;
 use crate::view::View;
-use ns_marks::Marked;
+use ns_place::marking::Marked;
 use ns_types::allocation::Allocation;
 use ns_types::plan::Plan;
 use ns_types::resources::{Resources, less, none};

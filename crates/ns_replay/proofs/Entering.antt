@@ -10,7 +10,7 @@ use Rattle.ns_json.specs.Replies.{Entry}
 use Rattle.ns_replay.specs.declared.fault.ReplayFault.{ReplayFault}
 use Rattle.ns_replay.specs.declared.fault.ReplayFault.TheVariants.{Premise, Differs, NotARun, Memory}
 use Rattle.ns_replay.specs.Abreast.{Advances, IsBreach, IsDifference, IsFaultAt, KeepsPremises, Strikes}
-use Rattle.ns_rerun.specs.Replying.{Fits, FitsIn, Replies}
+use Rattle.ns_replay.specs.Replying.{Fits, FitsIn, Replies}
 use Rattle.ns_replay.specs.Replay.{Breaks, IsNoStepAt}
 use Rattle.ns_replay.proofs.Premising.{fitting, unbroken, unfitting}
 

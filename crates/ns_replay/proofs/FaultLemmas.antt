@@ -17,9 +17,9 @@ use Rattle.ns_types.specs.Access.Sharing.{is_apart}
 use Rattle.ns_types.specs.Isolation.{IsIsolated, alone, is_crowded_out, is_own, part_of, struck, struck_answers}
 use Rattle.ns_replay.specs.Abreast.{IsFaultAt}
 use Rattle.ns_replay.specs.Laws.{DiffersFromBoth, KeptNeverDiffers, OneFault, OneReplay, ReplayedHasNoFault}
-use Rattle.ns_rerun.specs.Replying.{Fits, FitsIn}
+use Rattle.ns_replay.specs.Replying.{Fits, FitsIn}
 use Rattle.ns_replay.specs.Replay.{Breaks, IsFault, IsReached, IsReplayed, replies_of, steps_of}
-use Rattle.ns_rerun.proofs.Determined.{fits_at, run_once}
+use Rattle.ns_replay.proofs.Determined.{fits_at, run_once}
 use Rattle.ns_replay.proofs.Abreast.{first_apart, own_alike}
 use Rattle.ns_replay.proofs.Replayed.{beside, run_of}
 

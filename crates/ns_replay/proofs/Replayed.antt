@@ -18,7 +18,7 @@ use Rattle.ns_replay.specs.declared.fault.ReplayFault.TheVariants.{Premise, Diff
 use Rattle.ns_types.specs.Access.Sharing.{is_apart}
 use Rattle.ns_types.specs.Isolation.{IsIsolated, alone, is_crowded_out, is_own, part_of, struck, struck_answers}
 use Rattle.ns_replay.specs.Abreast.{Advances, IsFaultAt, StandsBeside, Strikes, with_reply}
-use Rattle.ns_rerun.specs.Replying.{Fits}
+use Rattle.ns_replay.specs.Replying.{Fits}
 use Rattle.ns_replay.specs.Replay.{IsFault, IsReached, IsReplayed, RepliesAlone, own_entries, replies_of, steps_of}
 use Rattle.ns_replay.proofs.Abreast.{beside_first, beside_run, first_apart, own_alike}
 

@@ -8,7 +8,7 @@ use Rattle.ns_types.specs.declared.reply.Rendered.{Rendered}
 use Rattle.ns_json.specs.Replies.{Entry, IsKept}
 use Rattle.ns_replay.specs.declared.fault.ReplayFault.{ReplayFault}
 use Rattle.ns_replay.specs.declared.fault.ReplayFault.TheVariants.{Differs, Memory}
-use Rattle.ns_rerun.specs.Replying.{FitsIn}
+use Rattle.ns_replay.specs.Replying.{FitsIn}
 use Rattle.ns_replay.specs.Replay.{Breaks, IsFault, IsReached, Replays}
 
 -- What fits in the whole server and breaks no premise is answered alike by the server that holds the namespace alone: where an

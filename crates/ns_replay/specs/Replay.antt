@@ -10,8 +10,8 @@ use Rattle.ns_types.specs.Steps.{Answer, Run, after, said}
 use Rattle.ns_types.specs.Access.Sharing.{is_apart}
 use Rattle.ns_types.specs.Isolation.{IsIsolated, alone, is_crowded_out, is_own, part_of, struck, struck_answers}
 use Rattle.ns_json.specs.Replies.{Entry, rendered}
-use Rattle.ns_rerun.specs.Replying.{FitsIn}
-use Rattle.ns_rerun.specs.declared.rerunning.RerunFault.{RerunFault}
+use Rattle.ns_replay.specs.Replying.{FitsIn}
+use Rattle.ns_replay.specs.declared.rerun.rerunning.RerunFault.{RerunFault}
 use Rattle.ns_replay.specs.declared.fault.ReplayFault.{ReplayFault}
 use Rattle.ns_replay.specs.declared.fault.ReplayFault.TheVariants.{Premise, Differs, NotARun, Memory}
 

@@ -8,9 +8,9 @@ use crate::claim::Claim;
 use crate::fault::ReplayFault;
 use crate::own::is_own;
 use crate::premises::step_whole;
+use crate::rerun::{is_logged, reply_to};
 use ns_core::Core;
 use ns_log::Entry;
-use ns_rerun::{is_logged, reply_to};
 use ns_types::reply::Rendered;
 use std::alloc::Global;
 

@@ -3,7 +3,7 @@
 ghost use Rattle.std.specs.Prelude.{◌≡◌};
 ghost use Rattle.ns_replay.specs.declared.fault.ReplayFault.TheVariants.{Memory};
 
-use ns_rerun::RerunFault;
+use crate::rerun::RerunFault;
 use std::alloc::AllocError;
 use thiserror::Error;
 

@@ -2,16 +2,16 @@
 
 ghost use Rattle.std.specs.Prelude.{◌≡◌, ◌&&◌, IfErr, IfOk, true};
 ghost use Rattle.ns_audit.specs.Orderly.{IsSteady};
-ghost use Rattle.ns_isolation.specs.Staying.{puts_namespace};
+ghost use Rattle.ns_laws.specs.Staying.{puts_namespace};
 ghost use Rattle.ns_types.specs.Isolation.{is_own, lacks_room};
-ghost use Rattle.ns_rerun.specs.Replying.{Replies};
+ghost use Rattle.ns_replay.specs.Replying.{Replies};
 ghost use Rattle.ns_replay.specs.Abreast.{IsBreachBy, KeepsPremisesBy, breaks_premise, is_apart_by, its_part};
 
 use crate::claim::Claim;
 use crate::fault::ReplayFault;
 use crate::own::is_own;
+use crate::rerun::shown;
 use ns_core::Core;
-use ns_rerun::shown;
 use ns_types::refusal::Refusal;
 use ns_types::reply::{Rendered, Reply};
 use ns_types::step::{AdminCommand, Step};
@@ -71,7 +71,7 @@ pub(crate) fn step_whole(
     ensures breach { IfErr result (IsBreachBy claim.now step.now whole.old place) }
 {
     let crowded = is_crowded(whole, claim, step);
-    let answer = ns_runs::step(alloc, whole, step);
+    let answer = crate::model_run::step(alloc, whole, step);
     let broken = is_broken(whole, claim, step, crowded, &answer);
     let told = shown(alloc, &answer);
     drop(answer);

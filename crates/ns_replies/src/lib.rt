@@ -1,7 +1,9 @@
-//! Writes replies as JSON texts, and takes the room of a write's reply before its step.
+//! Writes replies as JSON texts, and takes the room of a write's reply before its step. `answers` renders the answers of all
+//! steps.
 #![tactic(auto)]
 
 mod access;
+pub mod answers;
 mod events;
 mod job;
 pub mod node;

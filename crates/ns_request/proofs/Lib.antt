@@ -6,3 +6,4 @@ pub mod Numbers
 pub mod Seeking
 pub mod Spelling
 pub mod Routing
+pub mod FirstValues

@@ -8,3 +8,5 @@ pub mod Secrets
 pub mod Gives
 pub mod Finding
 pub mod Judging
+pub mod Parameters
+pub mod Values

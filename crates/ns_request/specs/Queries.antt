@@ -11,7 +11,7 @@ use Rattle.ns_types.specs.declared.refusal.Refusal.{Refusal}
 use Rattle.ns_types.specs.declared.refusal.Refusal.TheVariants.{BadField}
 use Rattle.ns_types.specs.State.Name.{is_name}
 use Rattle.ns_types.specs.State.Names.{Name}
-use Rattle.ns_parameters.specs.Parameters.{parameter}
+use Rattle.ns_request.specs.Parameters.{parameter}
 use Rattle.ns_request.specs.declared.endpoint.Endpoint.{Endpoint}
 use Rattle.ns_request.specs.declared.endpoint.Endpoint.TheVariants.{EventStream}
 use Rattle.ns_request.specs.declared.method.Method.{Method}

@@ -5,6 +5,7 @@
 mod endpoint;
 mod finding;
 mod method;
+mod parameters;
 mod part;
 mod query;
 mod routes;

@@ -11,7 +11,7 @@ ghost use Rattle.ns_request.specs.Queries.{index_in, is_awaited, is_not_empty, i
 
 use crate::endpoint::Endpoint;
 use crate::method::Method;
-use ns_parameters::Values;
+use crate::parameters::Values;
 use ns_types::name::{Name, NameKind};
 use ns_types::refusal::{Member, Refusal};
 use ns_types::text::Text;
@@ -31,7 +31,7 @@ impl<'a> Model for Query<'a> {
     ghost Value = { List ℕ };
 
     ghost use Rattle.std.specs.Prelude.{◌≡◌};
-    ghost use Rattle.ns_parameters.specs.Values.{values_of};
+    ghost use Rattle.ns_request.specs.Values.{values_of};
 
     ghost view = { λ query. query.text.now };
 

@@ -4,7 +4,7 @@ ghost use Rattle.std.specs.Prelude.{◌≡◌};
 
 use crate::guest::{guest, look, register, seat_of};
 use crate::server::{opened, settle};
-use ns_receipts::SettleFault;
+use ns_log::receipts::SettleFault;
 use ns_shared::{PARTS, Retains, Seat, Shared};
 use std::alloc::Global;
 use std::marker::Brand;

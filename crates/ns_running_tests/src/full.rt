@@ -4,7 +4,7 @@ ghost use Rattle.std.specs.Prelude.{◌≡◌};
 use crate::guest::{Guest, guest, look, register, seat, seat_of, write};
 use crate::server::core;
 use ns_held::Held;
-use ns_segments::Segment;
+use ns_log::segments::Segment;
 use ns_shared::{PARTS, Retains, Seat, Shared};
 use ns_workers::{Keep, Open, applier, worker};
 use std::alloc::Global;

@@ -1,7 +1,7 @@
 // Connections of one client with a shared server, by the secret of the first token.
 use ns_asked::Draws;
-use ns_clients::{Chair, Client, serve};
 use ns_http::Counted;
+use ns_serve::clients::{Chair, Client, serve};
 use ns_shared::{Retains, Seat, Shared};
 use std::alloc::Global;
 use std::process::Abort;

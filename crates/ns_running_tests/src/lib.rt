@@ -3,6 +3,8 @@
 #![tactic(auto)]
 
 #[cfg(test)]
+mod door;
+#[cfg(test)]
 mod ending;
 #[cfg(test)]
 mod filling;

@@ -7,7 +7,7 @@ ghost use Rattle.std.specs.Prelude.{◌≡◌};
 use crate::guest::{Guest, guest, look, register_with, seat, seat_of, set_up, write};
 use crate::meeting::{Meeting, Plot, Watch, await_that};
 use crate::server::{opened, settle};
-use ns_receipts::Receipt;
+use ns_log::receipts::Receipt;
 use ns_shared::{PARTS, Retains, Seat, Shared};
 use ns_workers::{Nowhere, Point, applier, worker};
 use std::alloc::Global;

@@ -3,7 +3,7 @@ ghost use Rattle.std.specs.Prelude.{◌≡◌};
 
 use ns_core::Core;
 use ns_held::Held;
-use ns_receipts::SettleFault;
+use ns_log::receipts::SettleFault;
 use ns_shared::{Retains, Seat, Settled, Shared};
 use ns_types::name::Secret;
 use std::alloc::Global;

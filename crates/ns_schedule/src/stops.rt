@@ -1,6 +1,6 @@
 //! What stops, by number.
 
-use ns_marks::Marked;
+use ns_place::marking::Marked;
 use ns_types::snapshot::OwnAllocation;
 use std::marker::Model;
 

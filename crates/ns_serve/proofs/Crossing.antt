@@ -6,7 +6,7 @@ use denote.Param.SendFields.{declared_sync}
 use Rattle.std.proofs.Crossing.{crosses}
 use Rattle.std.specs.declared.sync.ledger.Ledger.{Ghosts}
 use Rattle.ns_shared.proofs.Crossing.{Shared-sync}
-use Rattle.ns_door.specs.contracts.door.Door as Door
+use Rattle.ns_serve.specs.contracts.door.Door as Door
 use Rattle.ns_serve.specs.contracts.house.House as House
 
 pub Door-sync : IsSync Door.the_row

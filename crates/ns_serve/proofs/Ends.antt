@@ -6,7 +6,7 @@ use Rattle.std.proofs.Common.{ap, arith, inl, inr, refl, subst, sym}
 use Rattle.std.proofs.lemmas.List.{append-nil}
 use Rattle.ns_types.specs.State.Names.{Name}
 use Rattle.ns_json.specs.Logs.{segment_text}
-use Rattle.ns_segments.specs.Segments.{Given, texts_of}
+use Rattle.ns_log.specs.Segments.{Given, texts_of}
 use Rattle.ns_shared.specs.Settling.{Settlement, present}
 use Rattle.ns_http.specs.Counts.{HasGrown}
 use Rattle.ns_http.specs.Output.{WritesAll, WritesPart}

@@ -2,3 +2,5 @@ mod Crossing
 mod Ends
 mod Requests
 mod Written
+pub mod Gaining
+pub mod ConnectionLemmas

@@ -7,9 +7,9 @@ use Rattle.ns_types.specs.declared.reply.Rendered.{Rendered}
 use Rattle.ns_types.specs.Wire.Http.{Asked, asked_by, Refused, Whole}
 use Rattle.ns_types.specs.Wire.Responses.{Exchange}
 use Rattle.ns_http.specs.declared.engine.ConnFault.{ConnFault}
-use Rattle.ns_receipts.specs.declared.receipt.Receipt.{Receipt}
+use Rattle.ns_log.specs.declared.receipts.receipt.Receipt.{Receipt}
 use Rattle.ns_asked.specs.Asking.{asked}
-use Rattle.ns_clients.specs.Answering.{Gains, GainsAll, Made}
+use Rattle.ns_serve.specs.Answering.{Gains, GainsAll, Made}
 use Rattle.ns_workers.specs.Growing.{Grows}
 use Rattle.ns_serve.specs.Duties.{IsRequested}
 

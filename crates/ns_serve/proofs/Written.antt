@@ -5,7 +5,7 @@ use Rattle.std.proofs.Common.{refl, sym, ap, subst, ◌∙◌, arith, inl, inr}
 use Rattle.std.proofs.lemmas.List.Concat.{flat_map-append, flat_map-cons}
 use Rattle.std.proofs.lemmas.List.{append-nil, append_assoc, drop_more, take-append-drop, take_more}
 use Rattle.ns_types.specs.State.Names.{Name}
-use Rattle.ns_segments.specs.Segments.{Given, text_of, texts_of}
+use Rattle.ns_log.specs.Segments.{Given, text_of, texts_of}
 use Rattle.ns_http.specs.Counts.{HasGrown, IsWriteFault}
 use Rattle.ns_http.specs.Output.{WritesAll, WritesPart}
 use Rattle.ns_http.specs.declared.counting.Counted.{Counted}

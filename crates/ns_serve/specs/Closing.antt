@@ -1,7 +1,7 @@
 -- A server whose threads have ended.
 use Rattle.std.specs.Prelude.{ℕ, List, Option, IfOk}
 use Rattle.ns_types.specs.State.Names.{Name}
-use Rattle.ns_segments.specs.Segments.{Given, texts_of}
+use Rattle.ns_log.specs.Segments.{Given, texts_of}
 use Rattle.ns_http.specs.Counts.{HasGrown}
 use Rattle.ns_http.specs.declared.counting.Counted.{Counted}
 use Rattle.ns_serve.specs.Keeping.{WritesText}

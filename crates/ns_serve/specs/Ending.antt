@@ -2,7 +2,7 @@
 use Rattle.std.specs.Prelude.{◌≡◌, ◌⊎◌, ℕ, List, [], ◌∷◌, ◌++◌, Option, length}
 use Rattle.std.specs.declared.net.socket_addr.SocketAddr.{SocketAddr}
 use Rattle.ns_types.specs.State.Names.{Name}
-use Rattle.ns_segments.specs.Segments.{Given, texts_of, whole_text}
+use Rattle.ns_log.specs.Segments.{Given, texts_of, whole_text}
 use Rattle.ns_shared.specs.Settling.{Settlement, present}
 use Rattle.ns_http.specs.Output.{WritesAll, WritesPart}
 use Rattle.ns_http.specs.declared.counting.Counted.{Counted}

@@ -1,6 +1,6 @@
 -- Why a server ended badly, by what failed in it.
 use Rattle.ns_http.specs.declared.engine.ConnFault.{ConnFault}
-use Rattle.ns_receipts.specs.declared.fault.SettleFault.{SettleFault}
+use Rattle.ns_log.specs.declared.receipts.fault.SettleFault.{SettleFault}
 use Rattle.ns_serve.specs.declared.fault.HostFault.{HostFault}
 use Rattle.ns_serve.specs.declared.fault.ServeFault.{ServeFault}
 

@@ -1,6 +1,6 @@
 -- What becomes of the segments of a server's log: they are written, and kept where they are settled.
 use Rattle.std.specs.Prelude.{◌≡◌, ℕ, true, List, ◌∷◌, [], ◌++◌, Option, Some, None}
-use Rattle.ns_segments.specs.Segments.{Given, text_of}
+use Rattle.ns_log.specs.Segments.{Given, text_of}
 use Rattle.ns_http.specs.Counts.{HasGrown}
 use Rattle.ns_http.specs.Output.{WritesAll, WritesPart}
 use Rattle.ns_http.specs.declared.counting.Counted.{Counted}

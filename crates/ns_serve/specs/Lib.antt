@@ -5,3 +5,5 @@ pub mod Faults
 pub mod Keeping
 pub mod Opening
 pub mod Printing
+pub mod Answering
+pub mod Serving

@@ -2,7 +2,7 @@
 use Rattle.std.specs.Prelude.{◌≡◌, ℕ, List, ◌++◌, codes, decimal}
 use Rattle.ns_types.specs.State.Names.{Name}
 use Rattle.ns_types.specs.Steps.{opening}
-use Rattle.ns_segments.specs.Segments.{Follows, Given, joined}
+use Rattle.ns_log.specs.Segments.{Follows, Given, joined}
 use Rattle.ns_shared.specs.Settling.{IsRun, Settlement, present}
 
 -- the log is a run of the server that the secret opens, and begins with these segments

@@ -18,7 +18,7 @@ use ns_faults::status::{MISMATCH, SERVED, WRITE_FAULT};
 use ns_faults::{print_fault, print_mismatch, print_text};
 use ns_http::{ConnFault, Counted, write_all};
 use ns_log::segment_text;
-use ns_segments::Segment;
+use ns_log::segments::Segment;
 use ns_shared::{Ended, Retains, Seat, Settled};
 use ns_types::name::Secret;
 use std::alloc::{AllocError, Global};

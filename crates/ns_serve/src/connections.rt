@@ -3,10 +3,10 @@
 ghost use Rattle.ns_workers.specs.Growing.{Grows};
 ghost use Rattle.ns_serve.specs.Duties.{IsRequested};
 
+use crate::clients::{Chair, Client, serve};
 use crate::house::House;
 use crate::leaving::leave;
 use ns_asked::Draws;
-use ns_clients::{Chair, Client, serve};
 use ns_http::Counted;
 use ns_shared::Retention;
 use std::alloc::Global;

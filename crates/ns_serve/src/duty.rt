@@ -4,11 +4,11 @@ ghost use Rattle.std.specs.Prelude.{IfOk};
 ghost use Rattle.ns_workers.specs.Growing.{Grows};
 ghost use Rattle.ns_serve.specs.Duties.{IsDue, IsRequested};
 
+use crate::clients::{Chair, Client};
 use crate::connections::{Guest, serve_connections};
 use crate::fault::HostFault;
 use crate::house::House;
 use ns_asked::Draws;
-use ns_clients::{Chair, Client};
 use ns_shared::{Retention, Seat};
 use ns_workers::{Open, worker};
 use std::alloc::Global;

@@ -4,7 +4,7 @@ ghost use Rattle.std.specs.Prelude.{◌≡◌};
 ghost use Rattle.ns_http.specs.declared.engine.ConnFault.TheVariants as ConnFault;
 
 use ns_http::ConnFault;
-use ns_receipts::SettleFault;
+use ns_log::receipts::SettleFault;
 use std::alloc::AllocError;
 
 /// Why threads did not serve to the end.

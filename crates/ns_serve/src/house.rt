@@ -1,9 +1,9 @@
 //! What the threads of a server share.
 
+use crate::Door;
 use crate::guests::Guests;
 use crate::start::Start;
 use crate::tickets::Tickets;
-use ns_door::Door;
 use ns_shared::Shared;
 use std::sync::ledger::Ledger;
 

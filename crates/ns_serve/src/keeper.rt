@@ -2,12 +2,12 @@
 
 ghost use Rattle.std.specs.Prelude.{◌≡◌, ◌++◌, [], ◌∷◌, IfNone, IfSome, None, true};
 ghost use Rattle.ns_http.specs.Counts.{HasGrown};
-ghost use Rattle.ns_segments.specs.Segments.{text_of};
+ghost use Rattle.ns_log.specs.Segments.{text_of};
 ghost use Rattle.ns_serve.specs.Keeping.{IsTaken, WritesBy};
 
 use crate::segments::write_segment;
 use ns_http::{ConnFault, Counted};
-use ns_segments::Segment;
+use ns_log::segments::Segment;
 use ns_types::name::Secret;
 use ns_workers::Keep;
 use std::alloc::Global;

@@ -4,11 +4,11 @@ ghost use Rattle.std.specs.Prelude.{◌≡◌, ◌≢◌, ◌++◌, Err, IfOk, O
 ghost use Rattle.ns_http.specs.declared.engine.ConnFault.TheVariants as ConnFault;
 ghost use Rattle.ns_serve.specs.Opening.{IsSecret, begun_by, limit_lines, opening_lines, secret_lines};
 
+use crate::Door;
 use crate::secret::chosen_secret;
 use crate::service::Service;
 use ns_asked::Draws;
 use ns_core::Core;
-use ns_door::Door;
 use ns_held::Held;
 use ns_http::ConnFault;
 use ns_types::name::Secret;

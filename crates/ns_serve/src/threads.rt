@@ -5,6 +5,7 @@ ghost use Rattle.std.specs.Prelude.{◌≡◌, ◌≢◌, ◌+◌, IfOk, IsNone,
 ghost use Rattle.ns_workers.specs.Keeping.{TakesSome};
 ghost use Rattle.ns_serve.specs.declared.fault.HostFault.TheVariants as HostFault;
 
+use crate::Door;
 use crate::duty::perform;
 use crate::fault::HostFault;
 use crate::guests::Guests;
@@ -14,7 +15,6 @@ use crate::service::Service;
 use crate::start::Start;
 use crate::tickets::Tickets;
 use ns_asked::Draws;
-use ns_door::Door;
 use ns_shared::{Retention, Seat, Shared};
 use ns_workers::{Keep, applier};
 use std::alloc::{AllocError, Global};

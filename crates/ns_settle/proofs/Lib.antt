@@ -3,3 +3,13 @@ pub mod Reaching
 pub mod Settling
 pub mod Stamped
 pub mod Waiting
+pub mod Classes
+pub mod Cleared
+pub mod Following
+pub mod Forgetting
+pub mod Numbered
+pub mod Owned
+pub mod Raised
+pub mod Reserved
+pub mod Whole
+pub mod Concluding

@@ -1,3 +1,7 @@
 pub mod Reached
 pub mod Settles
 pub mod Stamped
+pub mod Committed
+pub mod Indexed
+pub mod Owners
+pub mod Concludes

@@ -1,10 +1,16 @@
-//! Completes each step: what it releases, whom that wakes, and the indexes and events of the rows that changed.
+//! Ends a step, from its change to the tables: `conclude` refuses the step where a counter would pass its bound, and else
+//! settles the change and commits it, all of it or nothing. The index of live allocations follows the tables.
+//! Want of memory comes last, where the step would have been made. The lemma `makes` of `proofs/Concluding` says that the
+//! reply is the model's reply to the step, and the state afterwards the model's state.
 //!
-//! `settle` answers all that the step changes: what leads from the world before to the model's `settle` of the world that
-//! the change leaves. It reads the change, and looks up what was there before. Its work grows with what the step changes, and
-//! with the evaluations that wait in the pools and for the quotas that it releases.
+//! `settle` completes the change by what the step releases, whom that wakes, and the indexes and events of the rows that changed:
+//! what leads from the world before to the model's `settle` of the world that the change leaves. It reads the change, and looks up
+//! what was there before. Its work grows with what the step changes, and with the evaluations that wait in the pools and for the
+//! quotas that it releases. `commit` puts the result into the tables.
 #![tactic(auto)]
 
+mod commit;
+mod concluded;
 mod finishing;
 mod quotas;
 mod reached;
@@ -12,4 +18,5 @@ mod rooms;
 mod stamping;
 mod waking;
 
+pub use concluded::conclude;
 pub use finishing::settle;

@@ -8,14 +8,14 @@ use Rattle.ns_types.specs.declared.step.Step.{Step}
 use Rattle.ns_types.specs.Steps.{Answer}
 use Rattle.ns_types.proofs.Lists.{not_both}
 use Rattle.ns_json.specs.Replies.{rendered}
-use Rattle.ns_answers.specs.Laws.{may_change, row_of}
-use Rattle.ns_answers.specs.Rooms.{HasRoom, Room, room_of}
-use Rattle.ns_answers.proofs.Made.{made_has_room}
-use Rattle.ns_receipts.specs.declared.receipt.Receipt.{Receipt}
+use Rattle.ns_replies.specs.Laws.{may_change, row_of}
+use Rattle.ns_replies.specs.Rooms.{HasRoom, Room, room_of}
+use Rattle.ns_replies.proofs.Made.{made_has_room}
+use Rattle.ns_log.specs.declared.receipts.receipt.Receipt.{Receipt}
 use Rattle.ns_held.specs.Logs.{History, next_place}
 use Rattle.ns_held.specs.Noting.{Begins, is_answer}
 use Rattle.ns_held.specs.Rotation.{IsRotated}
-use Rattle.ns_segments.specs.Segments.{Given}
+use Rattle.ns_log.specs.Segments.{Given}
 use Rattle.ns_held.specs.Rendered.{LogsRendered, rendered_step}
 use Rattle.ns_held.proofs.Adding.{Adds}
 use Rattle.ns_shared.specs.Receiving.{Asks, LogsAsked, answered, count, receipt, receipt_of, received, response_of}

@@ -26,10 +26,10 @@ use Rattle.ns_json.specs.Part.{tokens_of}
 use Rattle.ns_json.specs.Replies.{Entry, applied_json, body_of, finished_json, one_id, rendered}
 use Rattle.ns_json.proofs.Parts.{room-append}
 use Rattle.ns_json.proofs.Replies.{length-escaped_id}
-use Rattle.ns_answers.specs.Bodies.{id_tokens, nacked_json, text_bytes, text_tokens}
-use Rattle.ns_answers.specs.Rooms.{HasRoom, Room}
-use Rattle.ns_answers.proofs.Writing.{applied_tokens, escaped_follower, escaped_status, finished_room, first_tokens, last_tokens, length-print_from-le}
-use Rattle.ns_answers.proofs.Writing.{middle_tokens, nacked_room, one_id_room, room-first, room-ids, room-last, room-middle, room-texts}
+use Rattle.ns_replies.specs.Bodies.{id_tokens, nacked_json, text_bytes, text_tokens}
+use Rattle.ns_replies.specs.Rooms.{HasRoom, Room}
+use Rattle.ns_replies.proofs.Writing.{applied_tokens, escaped_follower, escaped_status, finished_room, first_tokens, last_tokens, length-print_from-le}
+use Rattle.ns_replies.proofs.Writing.{middle_tokens, nacked_room, one_id_room, room-first, room-ids, room-last, room-middle, room-texts}
 use Rattle.ns_held.specs.Logs.{History}
 use Rattle.ns_held.specs.Rendered.{rendered_step}
 use Rattle.ns_held.proofs.Adding.{Adds}

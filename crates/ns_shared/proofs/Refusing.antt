@@ -11,7 +11,7 @@ use Rattle.ns_types.specs.Working.Looks.{RefusesFinish, RefusesPlan}
 use Rattle.ns_types.proofs.Lists.{not_both}
 use Rattle.ns_laws.specs.Refusals.{is_of_steps}
 use Rattle.ns_laws.proofs.RefusalLemmas.{steps_refuse_so}
-use Rattle.ns_receipts.specs.declared.receipt.Receipt.{Receipt}
+use Rattle.ns_log.specs.declared.receipts.receipt.Receipt.{Receipt}
 use Rattle.ns_held.specs.Logs.{History, IsLogged, Logs}
 use Rattle.ns_held.specs.Noting.{is_answer}
 use Rattle.ns_held.specs.Planned.{LogsFinish, LogsSubmit}

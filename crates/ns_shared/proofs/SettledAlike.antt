@@ -4,13 +4,13 @@ use Rattle.std.specs.Result.{IsErrOf}
 use Rattle.std.proofs.Common.{ap, sym, subst, ◌∙◌, inl, inr}
 use Rattle.ns_types.specs.State.Rows.{State}
 use Rattle.ns_json.specs.Replies.{Entry, IsKept}
-use Rattle.ns_receipts.specs.declared.fault.SettleFault.{SettleFault}
-use Rattle.ns_receipts.specs.declared.receipt.Receipt.{Receipt}
-use Rattle.ns_receipts.specs.Settling.{Settles}
-use Rattle.ns_rerun.specs.declared.rerunning.RerunFault.{RerunFault}
-use Rattle.ns_rerun.specs.Rerunning.{IsNoRunAt}
-use Rattle.ns_segments.specs.Segments.{Follows, Given, IsGap, joined}
-use Rattle.ns_segments.proofs.Joined.{no_gap, rest_after}
+use Rattle.ns_log.specs.declared.receipts.fault.SettleFault.{SettleFault}
+use Rattle.ns_log.specs.declared.receipts.receipt.Receipt.{Receipt}
+use Rattle.ns_log.specs.Settling.{Settles}
+use Rattle.ns_replay.specs.declared.rerun.rerunning.RerunFault.{RerunFault}
+use Rattle.ns_replay.specs.Rerunning.{IsNoRunAt}
+use Rattle.ns_log.specs.Segments.{Follows, Given, IsGap, joined}
+use Rattle.ns_log.proofs.Joined.{no_gap, rest_after}
 use Rattle.ns_shared.specs.Settling.{IsMismatch, IsOf, Settlement, SettlesNot}
 use Rattle.ns_types.proofs.Lists.{not_both}
 

@@ -3,7 +3,7 @@ use Rattle.std.specs.Prelude.{◌≤◌, Bool, true, false, IsSomeAnd, length}
 use Rattle.ns_types.specs.declared.reply.Content.{Content}
 use Rattle.ns_types.specs.declared.reply.Rendered.{Rendered}
 use Rattle.ns_json.specs.Replies.{Entry, body_of}
-use Rattle.ns_answers.specs.Bodies.{body_bytes}
+use Rattle.ns_replies.specs.Bodies.{body_bytes}
 
 -- the answer as bytes that an entry holds
 abbrev pub entry_answer : Entry → Rendered

@@ -7,7 +7,7 @@ use Rattle.ns_types.specs.declared.step.Step.{Step}
 use Rattle.ns_types.specs.Steps.{Answer}
 use Rattle.ns_types.specs.Wire.Responses.{rendered_of}
 use Rattle.ns_json.specs.Replies.{rendered}
-use Rattle.ns_receipts.specs.declared.receipt.Receipt.{Receipt}
+use Rattle.ns_log.specs.declared.receipts.receipt.Receipt.{Receipt}
 use Rattle.ns_held.specs.Logs.{History, HasPlace, IsFull, IsLogged}
 
 abbrev pub receipt : ℕ → Step → Rendered → Receipt

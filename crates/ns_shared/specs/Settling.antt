@@ -2,10 +2,10 @@
 use Rattle.std.specs.Prelude.{◌≡◌, ◌⊎◌, ℕ, List, drop, length}
 use Rattle.ns_types.specs.State.Rows.{State}
 use Rattle.ns_json.specs.Replies.{Entry, IsKept}
-use Rattle.ns_receipts.specs.declared.receipt.Receipt.{Receipt}
-use Rattle.ns_receipts.specs.Settling.{IsFault, Settles}
-use Rattle.ns_rerun.specs.Rerunning.{IsNoRunAt}
-use Rattle.ns_segments.specs.Segments.{Follows, Given, IsGap, joined}
+use Rattle.ns_log.specs.declared.receipts.receipt.Receipt.{Receipt}
+use Rattle.ns_log.specs.Settling.{IsFault, Settles}
+use Rattle.ns_replay.specs.Rerunning.{IsNoRunAt}
+use Rattle.ns_log.specs.Segments.{Follows, Given, IsGap, joined}
 
 -- What settled: where the log begins, all of its entries, how many of them were given out in segments, and where they lead.
 pub record Settlement : Type 0 where

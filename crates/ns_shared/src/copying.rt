@@ -2,12 +2,12 @@
 
 ghost use Rattle.std.specs.Prelude.{◌≡◌, IfOk, option_map, slice_get};
 ghost use Rattle.ns_json.specs.Replies.{rendered};
-ghost use Rattle.ns_answers.specs.Rooms.{HasRoom};
+ghost use Rattle.ns_replies.specs.Rooms.{HasRoom};
 ghost use Rattle.ns_held.specs.Rendered.{rendered_step};
 ghost use Rattle.ns_shared.specs.Copying.{entry_answer, is_work};
 
-use ns_answers::Room;
 use ns_log::Entry;
+use ns_replies::answers::Room;
 use ns_types::refusal::Refusal;
 use ns_types::reply::{Content, Rendered, Reply};
 

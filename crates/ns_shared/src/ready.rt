@@ -3,8 +3,8 @@
 ghost use Rattle.std.specs.Prelude.{◌≡◌, ◌+◌, ◌<◌, IfErr, IfOk, OnOk, length, option_copied, option_map};
 ghost use Rattle.std.specs.Prelude.{slice_get, vec_capacity, vec_len};
 ghost use Rattle.ns_types.specs.declared.refusal.Refusal.TheVariants as Refusal;
-ghost use Rattle.ns_answers.specs.Rooms.{HasRoom, room_of};
-ghost use Rattle.ns_work.specs.Works.{step_of};
+ghost use Rattle.ns_replies.specs.Rooms.{HasRoom, room_of};
+ghost use Rattle.ns_steps.specs.Works.{step_of};
 ghost use Rattle.ns_held.specs.Logs.{next_place};
 ghost use Rattle.ns_held.specs.Noting.{Begins};
 ghost use Rattle.ns_held.specs.Rendered.{rendered_step};
@@ -13,16 +13,16 @@ ghost use Rattle.ns_shared.specs.Receiving.{count, received};
 
 use crate::copying::repeat_entry;
 use crate::seat::{begin, receive};
-use ns_answers::Room;
 use ns_held::Held;
 use ns_log::Entry;
-use ns_receipts::Receipt;
+use ns_log::receipts::Receipt;
+use ns_replies::answers::Room;
+use ns_steps::work::{Work, step_of};
 use ns_types::refusal::Refusal;
 use ns_types::reply::Reply;
 use ns_types::step::Step;
 use ns_types::text::Text;
 use ns_types::worker::Worker;
-use ns_work::{Work, step_of};
 use std::alloc::Global;
 use std::sync::ledger::{Book, Ledger, Share};
 

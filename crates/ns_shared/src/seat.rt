@@ -4,15 +4,15 @@ ghost use Rattle.std.specs.Prelude.{◌≡◌, ◌+◌, ◌++◌, ◌<◌, [], I
 ghost use Rattle.std.specs.Prelude.{vec_capacity, vec_len};
 ghost use Rattle.ns_json.specs.Logs.{line_of};
 ghost use Rattle.ns_log.specs.Lines.{entry_text};
-ghost use Rattle.ns_receipts.specs.Settling.{entry_of};
+ghost use Rattle.ns_log.specs.Settling.{entry_of};
 ghost use Rattle.ns_held.specs.Noting.{Begins};
 ghost use Rattle.ns_shared.specs.Receiving.{count, receipt_of, received, response_of};
 
 use crate::retention::{Retains, Retention};
+use ns_copies::steps::copied_step;
 use ns_held::Held;
 use ns_log::entry_line;
-use ns_receipts::{Past, Receipt};
-use ns_steps_copied::copied_step;
+use ns_log::receipts::{Past, Receipt};
 use ns_types::refusal::Refusal;
 use ns_types::reply::{Rendered, Response};
 use ns_types::step::Step;
@@ -33,7 +33,7 @@ pub struct Seat<L: Ledger, M: Retention> {
 
 impl<L: Ledger, M: Retention> Model for Seat<L, M> {
     ghost use Rattle.std.specs.Prelude.{◌≡◌, ◌+◌, ◌++◌, List, [], length, true};
-    ghost use Rattle.ns_receipts.specs.declared.receipt.Receipt.{Receipt};
+    ghost use Rattle.ns_log.specs.declared.receipts.receipt.Receipt.{Receipt};
 
     ghost Value = { List Receipt };
 

@@ -4,7 +4,7 @@ ghost use Rattle.std.specs.Prelude.{◌≡◌, ◌++◌, [], IfNone, IsSomeAnd, 
 ghost use Rattle.ns_shared.specs.Spending.{left, waiting};
 
 use ns_log::Entry;
-use ns_segments::Segment;
+use ns_log::segments::Segment;
 use std::mem;
 
 /// Entries of two segments at most, which nobody needs any more.

@@ -4,7 +4,7 @@ ghost use Rattle.std.specs.Prelude.{◌≡◌, ◌+◌, ◌<◌, IfOk, Some, opt
 ghost use Rattle.ns_types.specs.declared.step.Step.TheVariants as Step;
 ghost use Rattle.ns_broker.specs.Snapping.{kept_at};
 ghost use Rattle.ns_drive.specs.Calls.{snapped};
-ghost use Rattle.ns_answers.specs.Rooms.{HasRoom};
+ghost use Rattle.ns_replies.specs.Rooms.{HasRoom};
 ghost use Rattle.ns_held.specs.Logs.{Logs, next_place};
 ghost use Rattle.ns_held.specs.Planned.{LogsFinish, LogsSubmit};
 ghost use Rattle.ns_held.specs.Rendered.{rendered_step};
@@ -17,14 +17,14 @@ use crate::retention::Retention;
 use crate::seat::Seat;
 use ns_held::snapped;
 use ns_log::Entry;
-use ns_receipts::Receipt;
+use ns_log::receipts::Receipt;
+use ns_steps::work::Work;
 use ns_types::planned::Planned;
 use ns_types::refusal::Refusal;
 use ns_types::reply::Reply;
 use ns_types::shared::Shared;
 use ns_types::snapshot::Snapshot;
 use ns_types::text::Text;
-use ns_work::Work;
 use std::alloc::Global;
 use std::sync::ledger::{Book, Ledger, Share};
 

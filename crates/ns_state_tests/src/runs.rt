@@ -6,7 +6,7 @@ use crate::owned::{push, seen};
 use crate::server::with_core;
 use crate::{jobs, nodes};
 use ns_core::Core;
-use ns_runs::{Ran, run, step};
+use ns_replay::model_run::{Ran, run, step};
 use ns_types::good::{GoodAdmin, GoodAsk, GoodNodeCommand};
 use ns_types::records::Namespace;
 use ns_types::refusal::Refusal;

@@ -4,7 +4,7 @@ use crate::made::text;
 use crate::owned::push;
 use crate::steps::{job_is_registered, pool_is_put};
 use ns_held::Held;
-use ns_receipts::{Receipt, SettleFault, settle};
+use ns_log::receipts::{Receipt, SettleFault, settle};
 use ns_types::reply::Rendered;
 use ns_types::step::Step;
 use std::alloc::Global;

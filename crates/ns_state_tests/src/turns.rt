@@ -11,7 +11,7 @@ use crate::owned::{seen, with};
 use crate::runs::{node_command, team, told};
 use crate::server::with_core;
 use ns_core::Core;
-use ns_runs::step;
+use ns_replay::model_run::step;
 use ns_types::good::GoodAdmin;
 use ns_types::records::Pool;
 use ns_types::step::{AdminCommand, Step};

@@ -1,2 +1,4 @@
 pub mod Telling
 pub mod Reading
+pub mod Chains
+pub mod Runs

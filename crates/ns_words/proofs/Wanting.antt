@@ -9,7 +9,7 @@ use Rattle.clap.specs.Words.{Text, first_of, subcommand_of}
 use Rattle.ns_api.specs.declared.following.Driven.{Driven}
 use Rattle.ns_pipe.specs.declared.asked.Asked.{Asked}
 use Rattle.ns_pipe.specs.declared.printed.Printed.{Printed}
-use Rattle.ns_replay_print.specs.declared.replay.Replay.{Replay}
+use Rattle.ns_pipe.specs.declared.replay.replay.Replay.{Replay}
 use Rattle.ns_serve.specs.declared.service.Service.{Service}
 use Rattle.ns_words.specs.declared.wanted.Wanted.{Wanted}
 use Rattle.ns_words.specs.Given.{Named, given_for}

@@ -10,8 +10,8 @@ use Rattle.ns_pipe.specs.Ending.{uncounted}
 use Rattle.ns_pipe.specs.Printing.{EndsPrinted}
 use Rattle.ns_pipe.specs.declared.printed.Printed.{Printed}
 use Rattle.ns_pipe.specs.declared.running.Ended.{Ended}
-use Rattle.ns_replay_print.specs.Printing.{EndsAlone}
-use Rattle.ns_replay_print.specs.declared.replay.Replay.{Replay}
+use Rattle.ns_pipe.specs.ReplayPrinting.{EndsAlone}
+use Rattle.ns_pipe.specs.declared.replay.replay.Replay.{Replay}
 use Rattle.ns_serve.specs.declared.service.Service.{Service}
 use Rattle.ns_words.specs.Words.{Asks, AsksAlone, AsksServe}
 

@@ -5,7 +5,7 @@ ghost use Rattle.clap.specs.Walk.{texts};
 ghost use Rattle.ns_api.specs.declared.following.Driven.{Driven};
 ghost use Rattle.ns_pipe.specs.declared.printed.Printed.{Printed};
 ghost use Rattle.ns_faults.specs.Lines.{TriesToWrite, line_of, status_of};
-ghost use Rattle.ns_replay_print.specs.declared.replay.Replay.{Replay};
+ghost use Rattle.ns_pipe.specs.declared.replay.replay.Replay.{Replay};
 ghost use Rattle.ns_serve.specs.declared.service.Service.{Service};
 ghost use Rattle.ns_words.specs.declared.outcome.Outcome.{Outcome};
 ghost use Rattle.ns_words.specs.Outcome.{IfEnded, IsEnded, MatchOutcome};

@@ -12,7 +12,7 @@ ghost use Rattle.ns_api.specs.declared.following.Driven.{Driven};
 ghost use Rattle.ns_pipe.specs.Asking.{IsHelp, IsMistake};
 ghost use Rattle.ns_pipe.specs.declared.asked.Asked.{Asked};
 ghost use Rattle.ns_pipe.specs.declared.printed.Printed.{Printed};
-ghost use Rattle.ns_replay_print.specs.declared.replay.Replay.{Replay};
+ghost use Rattle.ns_pipe.specs.declared.replay.replay.Replay.{Replay};
 ghost use Rattle.ns_serve.specs.declared.service.Service.{Service};
 ghost use Rattle.ns_words.specs.declared.wanted.Wanted.{Wanted};
 ghost use Rattle.ns_words.specs.Words.{AreBad, AreTaken, AskHelp, Asks, AsksAlone, AsksServe, IsRefusal, IsWanted, IsWish, program_words};

@@ -7,7 +7,7 @@ use Rattle.ns_types.specs.declared.refusal.Refusal.{Refusal}
 use Rattle.ns_types.specs.declared.reply.Rendered.{Rendered}
 use Rattle.ns_types.specs.declared.step.Step.{Step}
 use Rattle.ns_types.specs.Steps.{Answer}
-use Rattle.ns_receipts.specs.declared.receipt.Receipt.{Receipt}
+use Rattle.ns_log.specs.declared.receipts.receipt.Receipt.{Receipt}
 use Rattle.ns_shared.specs.Receiving.{Receives, receipt}
 use Rattle.ns_workers.specs.Growing.{Grows}
 

@@ -1,7 +1,7 @@
 -- Segments that are taken one after the other.
 use Rattle.std.specs.Prelude.{◌≡◌, List, [], ◌∷◌, ◌++◌}
 use Rattle.std.proofs.Common.{refl, sym, subst}
-use Rattle.ns_segments.specs.Segments.{Given}
+use Rattle.ns_log.specs.Segments.{Given}
 use Rattle.ns_workers.specs.Keeping.{TakesAll, TakesSome}
 
 module _ {K : Type 0} (takes : K → Given → K → Type 0) where

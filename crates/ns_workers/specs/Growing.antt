@@ -1,7 +1,7 @@
 -- What becomes of the receipts of a thread that works.
 use Rattle.std.specs.Prelude.{◌≡◌, ℕ, List, ◌++◌, All}
 use Rattle.ns_types.specs.declared.step.Step.{Step}
-use Rattle.ns_receipts.specs.declared.receipt.Receipt.{Receipt}
+use Rattle.ns_log.specs.declared.receipts.receipt.Receipt.{Receipt}
 use Rattle.ns_shared.specs.declared.changes.Planner.{Planner}
 
 -- a step of the worker of that number

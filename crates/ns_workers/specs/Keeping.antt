@@ -1,6 +1,6 @@
 -- What becomes of whoever takes the segments of a log.
 use Rattle.std.specs.Prelude.{◌≡◌, List, [], ◌∷◌}
-use Rattle.ns_segments.specs.Segments.{Given}
+use Rattle.ns_log.specs.Segments.{Given}
 
 -- it takes these, one after the other, and nothing else becomes of it
 abbrev pub TakesAll : {K : Type 0} → (K → Given → K → Type 0) → List Given → K → K → Type 0

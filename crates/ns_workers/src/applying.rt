@@ -7,7 +7,7 @@ ghost use Rattle.ns_workers.specs.Keeping.{TakesSome};
 
 use crate::keep::Keep;
 use crate::pausing::pause;
-use ns_segments::Segment;
+use ns_log::segments::Segment;
 use ns_shared::{ApplierView, Moment, Planner, Retention, Role, Seat, Shared, Waits};
 use ns_types::refusal::Refusal;
 use ns_types::reply::Reply;

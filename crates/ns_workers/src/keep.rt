@@ -1,9 +1,9 @@
 //! Who takes the segments that the applier gives out.
 
 ghost use Rattle.std.specs.Prelude.{◌≡◌, IfSome};
-ghost use Rattle.ns_segments.specs.Segments.{Given};
+ghost use Rattle.ns_log.specs.Segments.{Given};
 
-use ns_segments::Segment;
+use ns_log::segments::Segment;
 use std::alloc::Global;
 
 /// Takes segments of a log, one after the other. No lock is held meanwhile.

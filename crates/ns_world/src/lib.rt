@@ -1,11 +1,13 @@
 //! Keeps the tables of the whole world: what namespaces, pools and quotas own, and the lists of evaluations that are ready,
 //! planned and blocked. `world_of` is the world that they hold, without vacant slots and room. Steps are built over
-//! these tables; they are written in one place alone, where a settled change is committed.
+//! these tables; they are written in one place alone, where a settled change is committed. `events` keeps the last hundred events
+//! of a namespace.
 #![tactic(auto)]
 
 mod allocations;
 mod bounded;
 mod evaluations;
+pub mod events;
 mod filing;
 mod tables;
 

@@ -8,8 +8,8 @@ ghost use Rattle.ns_world.specs.World.{world_of};
 
 use crate::allocations::AllocationTable;
 use crate::evaluations::EvaluationTable;
+use crate::events::Events;
 use keyed::{KeyQueue, NameTable, NumberTable, OwnerTable, Series};
-use ns_events::Events;
 use ns_types::allocation::Allocation;
 use ns_types::evaluation::Evaluation;
 use ns_types::job::Job;

@@ -2,9 +2,9 @@
 
 use crate::same_bytes::SameBytes;
 use ns_api::{Api, NoFollower, Takes, respond};
-use ns_chains::Server;
 use ns_core::Core;
 use ns_http::{Answer, Request};
+use ns_steps::chain::Server;
 use ns_types::reply::Response;
 use ns_types::step::Step;
 use std::alloc::{AllocError, Global};

@@ -4,7 +4,7 @@ use crate::ended::Ended;
 use crate::words::{BAD_HEAD, first_word};
 use anyhow::Context;
 use ns_http::Counted;
-use ns_replay_print::{Replay, print_replay};
+use ns_pipe::replay::{Replay, print_replay};
 use ns_types::rows::Rows;
 use ns_types::text::Text;
 use std::alloc::Global;

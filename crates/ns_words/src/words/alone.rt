@@ -3,7 +3,7 @@
 ghost use Rattle.std.specs.Prelude.{◌≡◌, IfOk, IfErr, Some, codes};
 ghost use Rattle.clap.specs.Words.{kind_of, subcommand_rows_of};
 ghost use Rattle.ns_given.specs.Values.{names_by};
-ghost use Rattle.ns_replay_print.specs.declared.replay.Replay.{Replay};
+ghost use Rattle.ns_pipe.specs.declared.replay.replay.Replay.{Replay};
 ghost use Rattle.ns_words.specs.Given.{all_given_for, given_for};
 ghost use Rattle.ns_words.specs.Words.{IsAlone, IsRefusal};
 
@@ -11,7 +11,7 @@ use crate::words::value::{all_given, given, refused};
 use clap::error::ErrorKind;
 use clap::{ArgMatches, Command, Error};
 use ns_given::{count, names};
-use ns_replay_print::Replay;
+use ns_pipe::replay::Replay;
 use ns_types::name::{Name, NameKind};
 use ns_types::rows::Rows;
 use ns_types::text::Text;

@@ -1,5 +1,5 @@
 use Rattle.std.proofs.Common.{not, ap, ◌∙◌}
-use Rattle.ns_answers.proofs.Reading.{reads_or_changes}
+use Rattle.ns_replies.proofs.Reading.{reads_or_changes}
 use Rattle.ns_api.specs.Answering.{IsWanting}
 use Rattle.ns_api.specs.Cores.{NotesNothing, itself}
 use Rattle.ns_api.specs.Lacking.{LacksNothing}

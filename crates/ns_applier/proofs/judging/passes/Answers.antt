@@ -1,6 +1,6 @@
 use Rattle.std.proofs.Common.{ap, sym, ◌∙◌, ◌||◌}
 use Rattle.ns_applier.proofs.Victims.{passes_are}
-use Rattle.ns_headroom.specs.Judging.{lost_part_passes, own_part_passes}
+use Rattle.ns_applier.specs.Judging.{lost_part_passes, own_part_passes}
 use Rattle.ns_world.specs.World.{world_of}
 use Rattle.ns_applier.proofs.judging.passes.Goals as goal
 

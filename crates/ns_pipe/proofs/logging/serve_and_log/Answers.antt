@@ -4,7 +4,7 @@ use Rattle.ns_types.specs.Steps.{Answer}
 use Rattle.ns_types.specs.Wire.Http.{End}
 use Rattle.ns_types.specs.declared.step.Step.{Step}
 use Rattle.ns_json.specs.Logs.{log_text}
-use Rattle.ns_chains.specs.Chains.{Chain}
+use Rattle.ns_steps.specs.Chains.{Chain}
 use Rattle.ns_held.specs.Logs.{AreNoted, History, IsNoted}
 use Rattle.ns_http.specs.Conversation.{streams_between}
 use Rattle.ns_http.specs.Output.{WritesAll}
@@ -15,7 +15,7 @@ use Rattle.ns_api.specs.Cores.{ServedByHeld, state_of}
 use Rattle.ns_api.specs.Serving.{holding}
 use Rattle.ns_api.specs.declared.following.Driver.{Driver}
 use Rattle.ns_faults.specs.Lines.{FailsToWrite}
-use Rattle.ns_written.specs.Readable.{AreAsRead, IsReadBack}
+use Rattle.ns_pipe.specs.Readable.{AreAsRead, IsReadBack}
 use Rattle.ns_pipe.specs.Logging.{IsLogged}
 use Rattle.ns_pipe.proofs.Steps.{log_read}
 use Rattle.ns_pipe.proofs.logging.serve_and_log.Goals as goal

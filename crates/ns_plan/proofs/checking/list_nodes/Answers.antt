@@ -1,7 +1,7 @@
 use Rattle.std.proofs.Common.{◌+◌, ◌∙◌, ap, arith, false, get_or, length, subst, sym, take, true}
 use Rattle.std.specs.Prelude.{◌<◌}
 use Rattle.ns_types.specs.Working.Commit.{nodes_in}
-use Rattle.ns_marks.specs.Marks.{AreFlags}
+use Rattle.ns_place.specs.Marks.{AreFlags}
 use Rattle.ns_plan.proofs.Few.{has_room}
 use Rattle.ns_plan.proofs.Parts.{flagged, nodes_step}
 use Rattle.ns_plan.proofs.checking.list_nodes.Goals as goal

@@ -1,6 +1,6 @@
 use Rattle.std.proofs.Common.{option_copied, take}
 use Rattle.ns_types.specs.Working.Commit.{nodes_in}
-use Rattle.ns_marks.specs.Marks.{AreFlags}
+use Rattle.ns_place.specs.Marks.{AreFlags}
 use Rattle.ns_plan.specs.After.{after_stops}
 use Rattle.ns_plan.specs.Reader.{IsSoFar, read_all}
 use Rattle.ns_plan.proofs.deciding.decide_each.Given as goal

@@ -1,5 +1,5 @@
 use Rattle.std.proofs.Common.{ap, subst, sym, ◌∙◌}
-use Rattle.ns_segments.specs.Segments.{Follows, joined}
+use Rattle.ns_log.specs.Segments.{Follows, joined}
 use Rattle.ns_serve.proofs.closing.settle.Goals as goal
 
 pub returns-clause-run : goal.returns-clause-run

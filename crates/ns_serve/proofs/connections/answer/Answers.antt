@@ -1,6 +1,6 @@
 use Rattle.std.proofs.Common.{List, subst, sym}
 use Rattle.std.proofs.lemmas.Result.{IfOk-weaker}
-use Rattle.ns_receipts.specs.declared.receipt.Receipt.{Receipt}
+use Rattle.ns_log.specs.declared.receipts.receipt.Receipt.{Receipt}
 use Rattle.ns_workers.specs.Growing.{Grows}
 use Rattle.ns_serve.specs.Duties.{IsRequested}
 use Rattle.ns_serve.proofs.Requests.{in_each_case, made_grows}

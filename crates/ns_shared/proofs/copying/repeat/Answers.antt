@@ -1,7 +1,7 @@
 use Rattle.std.proofs.Common.{ap, subst, sym, IfOk, ◌∙◌}
 use Rattle.ns_json.specs.Replies.{rendered}
 use Rattle.ns_types.specs.Steps.{Answer}
-use Rattle.ns_answers.specs.Rooms.{HasRoom}
+use Rattle.ns_replies.specs.Rooms.{HasRoom}
 use Rattle.ns_shared.proofs.Entries.{copy_fits, refused_shown}
 use Rattle.ns_shared.proofs.copying.repeat.Goals as goal
 

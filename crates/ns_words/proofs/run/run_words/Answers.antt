@@ -3,8 +3,8 @@ use Rattle.ns_api.specs.declared.following.Driven.{Driven}
 use Rattle.ns_http.specs.declared.counting.Counted.{Counted}
 use Rattle.ns_pipe.specs.Asking.{IsHelp, IsMistake, IsNoConnection, IsNoReplay}
 use Rattle.ns_pipe.specs.Printing.{EndsPrinted}
-use Rattle.ns_replay_print.specs.Printing.{EndsAlone}
-use Rattle.ns_replay_print.specs.declared.replay.Replay.{Replay}
+use Rattle.ns_pipe.specs.ReplayPrinting.{EndsAlone}
+use Rattle.ns_pipe.specs.declared.replay.replay.Replay.{Replay}
 use Rattle.ns_pipe.specs.declared.asked.Asked.{Asked}
 use Rattle.ns_pipe.specs.declared.nowhere.Nowhere.{Nowhere}
 use Rattle.ns_pipe.specs.declared.printed.Printed.{Printed}

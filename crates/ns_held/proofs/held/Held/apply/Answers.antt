@@ -1,6 +1,6 @@
 use Rattle.std.proofs.Common.{refl, ap, sym, ◌∙◌}
 use Rattle.ns_types.specs.declared.step.Step.TheVariants as Step
-use Rattle.ns_answers.specs.Rooms.{room_of}
+use Rattle.ns_replies.specs.Rooms.{room_of}
 use Rattle.ns_held.specs.Noting.{noted}
 use Rattle.ns_held.proofs.Logged.{call_keeps, call_logs, history}
 use Rattle.ns_held.proofs.Rooms.{enough_made}

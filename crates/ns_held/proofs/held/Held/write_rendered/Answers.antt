@@ -1,6 +1,6 @@
 use Rattle.std.proofs.Common.{ap, sym, subst, ◌∙◌}
 use Rattle.ns_types.specs.Steps.{Makes}
-use Rattle.ns_answers.specs.Rooms.{room_of}
+use Rattle.ns_replies.specs.Rooms.{room_of}
 use Rattle.ns_held.specs.Noting.{noted}
 use Rattle.ns_held.proofs.Given.{call_gives}
 use Rattle.ns_held.proofs.Logged.{call_keeps, history}

@@ -2,7 +2,7 @@ use Rattle.std.proofs.Common.{ap, arith, refl, ◌∙◌, ◌++◌}
 use Rattle.ns_types.specs.declared.step.Step.TheVariants as Step
 use Rattle.ns_types.specs.State.Rows.{State}
 use Rattle.ns_types.specs.Working.Looks.{worker_at}
-use Rattle.ns_answers.specs.Rooms.{room_of}
+use Rattle.ns_replies.specs.Rooms.{room_of}
 use Rattle.ns_held.specs.Logs.{next_place}
 use Rattle.ns_held.specs.Rendered.{rendered_step}
 use Rattle.ns_held.proofs.Adding.{logs_adds}

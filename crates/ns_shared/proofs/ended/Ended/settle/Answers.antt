@@ -1,8 +1,8 @@
 use Rattle.std.proofs.Common.{◌≤◌, ◌∙◌, ap, length, map, refl, subst, sym, vec_items}
 use Rattle.std.proofs.lemmas.List.{length-map}
 use Rattle.ns_held.specs.Logs.{History}
-use Rattle.ns_segments.specs.Segments.{Follows, IsGap, joined}
-use Rattle.ns_segments.proofs.Joined.{given_within}
+use Rattle.ns_log.specs.Segments.{Follows, IsGap, joined}
+use Rattle.ns_log.proofs.Joined.{given_within}
 use Rattle.ns_shared.proofs.SettledAlike.{follows, gap_is_unsettled, gaps, is_of, mismatch, no_mismatch, receipts, settled}
 use Rattle.ns_shared.proofs.ended.Ended.settle.Goals as goal
 

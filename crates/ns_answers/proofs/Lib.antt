@@ -1,6 +1,0 @@
-pub mod Writing
-pub mod Brief
-pub mod Summing
-pub mod Applying
-pub mod Made
-pub mod Reading

@@ -1,6 +1,0 @@
-use Rattle.std.proofs.Common.{refl, arith}
-use Rattle.ns_answers.proofs.Writing.{writes_in}
-use Rattle.ns_answers.proofs.body.write_nothing.Goals as goal
-
-pub returns : goal.returns
-returns c = writes_in 4 _ _ _ _ _ refl (omega arith) c.write_parts.ensures

@@ -1,5 +1,0 @@
-use Rattle.ns_applied.proofs.Ending.{allocations_end}
-use Rattle.ns_applied.proofs.laws.allocations_end.Goals as goal
-
-pub returns : goal.returns
-returns c = allocations_end

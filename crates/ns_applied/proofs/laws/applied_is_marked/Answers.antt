@@ -1,5 +1,0 @@
-use Rattle.ns_applied.proofs.Marking.{applied_is_marked}
-use Rattle.ns_applied.proofs.laws.applied_is_marked.Goals as goal
-
-pub returns : goal.returns
-returns c = applied_is_marked

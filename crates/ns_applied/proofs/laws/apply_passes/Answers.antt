@@ -1,5 +1,0 @@
-use Rattle.ns_applied.proofs.Counting.{apply_passes_is}
-use Rattle.ns_applied.proofs.laws.apply_passes.Goals as goal
-
-pub returns : goal.returns
-returns c = apply_passes_is

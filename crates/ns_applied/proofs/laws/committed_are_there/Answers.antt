@@ -1,5 +1,0 @@
-use Rattle.ns_applied.proofs.Whole.{committed_are_there}
-use Rattle.ns_applied.proofs.laws.committed_are_there.Goals as goal
-
-pub returns : goal.returns
-returns c = committed_are_there

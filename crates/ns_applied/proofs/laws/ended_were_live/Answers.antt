@@ -1,5 +1,0 @@
-use Rattle.ns_applied.proofs.Ending.{ended_were_live}
-use Rattle.ns_applied.proofs.laws.ended_were_live.Goals as goal
-
-pub returns : goal.returns
-returns c = ended_were_live

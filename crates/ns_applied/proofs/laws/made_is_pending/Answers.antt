@@ -1,5 +1,0 @@
-use Rattle.ns_applied.proofs.Renewing.{made_is_pending}
-use Rattle.ns_applied.proofs.laws.made_is_pending.Goals as goal
-
-pub returns : goal.returns
-returns c = made_is_pending

@@ -1,5 +1,0 @@
-use Rattle.ns_applied.proofs.Ending.{no_victim_is_stopped}
-use Rattle.ns_applied.proofs.laws.no_victim_is_stopped.Goals as goal
-
-pub returns : goal.returns
-returns c = no_victim_is_stopped

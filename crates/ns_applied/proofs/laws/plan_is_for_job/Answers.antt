@@ -1,5 +1,0 @@
-use Rattle.ns_applied.proofs.Ending.{plan_is_for_job}
-use Rattle.ns_applied.proofs.laws.plan_is_for_job.Goals as goal
-
-pub returns : goal.returns
-returns c = plan_is_for_job

@@ -1,0 +1,11 @@
+use Rattle.std.proofs.Common.{ap, sym, ◌∙◌, Some, None}
+use Rattle.std.specs.Option.{option_copied}
+use Rattle.ns_bounds.proofs.Passing.{pool_bound}
+use Rattle.ns_applier.proofs.headroom.ending.is_last_release.Goals as goal
+
+pub returns-in-Some : goal.returns-in-Some
+returns-in-Some c = λ class. c.is_at_bound.ensures ∙ sym (pool_bound c.args.tables.now c.args.pool.now class (Some c.in-Some.rows.now)
+    (sym c.get.ensures ∙ ap option_copied c.in-Some.is))
+
+pub returns-in-None : goal.returns-in-None
+returns-in-None c = λ class. sym (pool_bound c.args.tables.now c.args.pool.now class None (sym c.get.ensures ∙ ap option_copied c.in-None.is))

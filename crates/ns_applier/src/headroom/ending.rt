@@ -1,0 +1,206 @@
+//! What the end of an allocation releases, judged for many of them by the same tables. It takes no memory.
+
+ghost use Rattle.std.specs.Prelude.{◌≡◌, ◌+◌, [], false, nat_lt};
+ghost use Rattle.ns_types.specs.declared.node.Class.{Class};
+ghost use Rattle.ns_types.specs.State.Rows.{offered_class};
+ghost use Rattle.ns_types.specs.Steps.{greatest};
+ghost use Rattle.ns_bounds.specs.Bounds.{is_last_index, quota_passes, room_passes};
+ghost use Rattle.ns_bounds.specs.Given.{given_limits_pass, given_room_passes};
+ghost use Rattle.ns_applier.specs.Judging.{allocations_pass, eviction_passes, node_passes};
+ghost use Rattle.ns_applier.specs.Passing.{end_passes, left_quota_passes, left_room_passes};
+ghost use Rattle.ns_types.specs.Working.Parts.{lives_at};
+ghost use Rattle.ns_world.specs.World.{world_of};
+
+use ns_alike::is_free;
+use ns_bounds::{given_limits_pass, given_room_passes, is_at_bound, is_last_index, wakes_may_pass};
+use ns_types::allocation::Allocation;
+use ns_types::node::Offer;
+use ns_types::plan::{Eviction, Placement, Plan};
+use ns_types::text::Text;
+use ns_world::Tables;
+use std::marker::Model;
+
+/// Whether a counter passes its bound by so much more.
+fn is_past(count: u64, more: u64) -> bool
+    ensures { result ≡ nat_lt greatest (count + more) }
+{
+    more > u64::MAX - count
+}
+
+fn is_last_release(tables: &Tables, pool: &Text) -> bool
+    ensures { (class : Class) → result ≡ room_passes (world_of tables.now) (pool.now, class) }
+{
+    match tables.pools.get(pool) {
+        Some(rows) => is_at_bound(rows.release),
+        None => false,
+    }
+}
+
+fn is_last_quota_release(tables: &Tables, quota: &Text) -> bool
+    ensures { result ≡ quota_passes (world_of tables.now) quota.now }
+{
+    match tables.quotas.get(quota) {
+        Some(rows) => is_at_bound(rows.release),
+        None => false,
+    }
+}
+
+fn allocations_pass(tables: &Tables, namespace: &Text, count: u64) -> bool
+    ensures { result ≡ allocations_pass (world_of tables.now) namespace.now count }
+{
+    match tables.tenants.get(namespace) {
+        Some(tenant) => is_past(tenant.allocation_number, count),
+        None => false,
+    }
+}
+
+/// Whether an allocation ends where the plan is applied: it stops one, or evicts one.
+fn ends_any(plan: &Plan) -> bool {
+    !plan.stops.as_slice().is_empty() || evicts_any(plan.placing.placements.as_slice())
+}
+
+fn evicts_any(placements: &[Placement]) -> bool {
+    placements
+        .iter()
+        .any(|placement| !placement.evictions.as_slice().is_empty())
+}
+
+/// The tables, as the counters that releases may pass are looked at. Contracts see the world.
+///
+/// Where no blocked evaluation is of a namespace whose index is at its bound, none that wakes passes an index. That is
+/// looked at once, and only for a plan that ends an allocation. From then on a release costs a look-up. Only where an
+/// index may pass it costs a walk over the blocked evaluations.
+#[derive(Drop)]
+pub struct Headroom<'a> {
+    tables: &'a Tables,
+    wakes: bool,
+}
+
+impl<'a> Model for Headroom<'a> {
+    ghost use Rattle.std.specs.Prelude.{◌≡◌, false};
+    ghost use Rattle.std.specs.Coded.{codes};
+    ghost use Rattle.std.specs.FinMap.{code};
+    ghost use Rattle.ns_bounds.specs.Bounds.{any_last_index};
+    ghost use Rattle.ns_types.specs.State.Rows.{World};
+    ghost use Rattle.ns_world.specs.World.{world_of};
+
+    ghost Value = { World };
+
+    ghost coded = { Prim.hlevel (codes, code) };
+
+    ghost view = { λ h. world_of h.tables.now };
+
+    ghost invariant = { λ h. h.wakes ≡ false → any_last_index (world_of h.tables.now) ≡ false };
+}
+
+impl<'a> Headroom<'a> {
+    /// Of the world that the tables hold, for the plan that is to be applied to it. Only where that ends an allocation it
+    /// looks at all namespaces, or at all blocked evaluations if these are fewer.
+    pub fn new(tables: &'a Tables, plan: &Plan) -> Headroom<'a>
+        ensures { result ≡ world_of tables.now }
+    {
+        Headroom {
+            tables,
+            wakes: !ends_any(plan) || wakes_may_pass(tables),
+        }
+    }
+
+    /// A text without characters. It takes no memory.
+    pub(crate) fn nameless(&self) -> Text
+        ensures { result ≡ [] }
+    {
+        Text::from_string(String::new(self.tables.alloc))
+    }
+
+    /// Whether the allocation is live.
+    pub(crate) fn lives_at(&self, namespace: &Text, number: u64) -> bool
+        ensures { result ≡ lives_at self.now (namespace.now, number) }
+    {
+        match self.tables.allocation(namespace, number) {
+            Some(row) => row.is_live(),
+            None => false,
+        }
+    }
+
+    /// Whether the namespace's index is at its bound.
+    pub(crate) fn is_last_index(&self, namespace: &Text) -> bool
+        ensures { result ≡ is_last_index self.now namespace.now }
+    {
+        is_last_index(self.tables, namespace)
+    }
+
+    /// Whether the number of the last of so many more allocations passes its bound.
+    pub(crate) fn allocations_pass(&self, namespace: &Text, count: u64) -> bool
+        ensures { result ≡ allocations_pass self.now namespace.now count }
+    {
+        allocations_pass(self.tables, namespace, count)
+    }
+
+    /// Whether the node's number of places passes its bound by so many more.
+    pub(crate) fn node_passes(&self, pool: &Text, name: &Text, count: u64) -> bool
+        ensures { result ≡ node_passes self.now pool.now name.now count }
+    {
+        match self.tables.node(pool, name) {
+            Some(node) => is_past(node.places, count),
+            None => false,
+        }
+    }
+
+    fn room_passes(&self, pool: &Text, offer: &Offer) -> bool
+        ensures { result ≡ given_room_passes self.now (pool.now, offered_class offer.now) }
+    {
+        if self.wakes {
+            given_room_passes(self.tables, pool, offer)
+        } else {
+            is_last_release(self.tables, pool)
+        }
+    }
+
+    fn limits_pass(&self, quota: &Text) -> bool
+        ensures { result ≡ given_limits_pass self.now quota.now }
+    {
+        if self.wakes {
+            given_limits_pass(self.tables, quota)
+        } else {
+            is_last_quota_release(self.tables, quota)
+        }
+    }
+
+    /// Whether a counter passes its bound by the room that the allocation leaves on its node.
+    fn left_room_passes(&self, row: &Allocation) -> bool
+        ensures { result ≡ left_room_passes self.now self.now row.now }
+    {
+        match self.tables.node(&row.pool, &row.node) {
+            Some(node) => is_free(node) && self.room_passes(&row.pool, &node.offer),
+            None => false,
+        }
+    }
+
+    /// Whether a counter passes its bound by what an allocation of the namespace leaves of its quota.
+    fn left_quota_passes(&self, namespace: &Text) -> bool
+        ensures { result ≡ left_quota_passes self.now namespace.now }
+    {
+        match self.tables.quota_named(namespace) {
+            Some(quota) => self.limits_pass(quota),
+            None => false,
+        }
+    }
+
+    /// Whether a counter passes its bound by what the end of the allocation releases.
+    pub fn end_passes(&self, namespace: &Text, number: u64) -> bool
+        ensures { result ≡ end_passes self.now self.now (namespace.now, number) }
+    {
+        match self.tables.allocation(namespace, number) {
+            Some(row) => self.left_room_passes(row) || self.left_quota_passes(namespace),
+            None => false,
+        }
+    }
+    /// Whether a counter passes its bound by the eviction, where that counts: by what the end of its allocation
+    /// releases, or the index of its namespace.
+    pub fn eviction_passes(&self, eviction: &Eviction) -> bool
+        ensures { result ≡ eviction_passes self.now eviction.now }
+    {
+        self.is_last_index(&eviction.namespace)
+            || self.end_passes(&eviction.namespace, eviction.number)
+    }
+}

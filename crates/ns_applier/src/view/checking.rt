@@ -1,0 +1,26 @@
+//! A plan is checked against the present state.
+
+ghost use Rattle.ns_live.specs.Index.{IsRight};
+ghost use Rattle.ns_plan.specs.Looks.{AreCounted, IsChecked, IsOnFewNodes};
+ghost use Rattle.ns_world.specs.World.{world_of};
+
+use crate::view::present::Present;
+use ns_live::Live;
+use ns_plan::Outcome;
+use ns_types::plan::Plan;
+use ns_types::snapshot::Snapshot;
+use ns_world::Tables;
+
+/// Which nodes do their part of the snapshot's plan in the world that the tables hold. It takes no memory, and nothing
+/// is written. That loads and uses are counted holds of each valid world (`ns_plan::laws::sound_is_counted`), and that
+/// the plan is on few nodes of each snapshot that a valid state keeps (`ns_plan::laws::kept_is_on_few_nodes`).
+///
+/// `ns_plan::check` says what it costs: most of all a few look-ups for each stop, each placement and each eviction.
+pub fn check(tables: &Tables, live: &Live, snapshot: &Snapshot, plan: &Plan) -> Outcome
+    requires right { IsRight (world_of tables.now) live.now }
+    requires counted { AreCounted (world_of tables.now) }
+    requires fits { IsOnFewNodes snapshot.now plan.now }
+    ensures { IsChecked snapshot.now plan.now (world_of tables.now) result }
+{
+    ns_plan::check(snapshot, plan, &Present::new(tables, live))
+}

@@ -1,8 +1,0 @@
-//! Makes steps one after the other on a server whose value stands for a state of the model and may keep more than that, such
-//! as a log.
-#![tactic(auto)]
-
-pub mod laws;
-mod server;
-
-pub use server::Server;

@@ -1,3 +1,0 @@
-pub mod Committed
-pub mod Indexed
-pub mod Owners

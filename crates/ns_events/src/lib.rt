@@ -1,7 +1,0 @@
-//! Keeps the last hundred events of a namespace, in a ring.
-#![tactic(auto)]
-
-mod copying;
-mod kept;
-
-pub use kept::Events;

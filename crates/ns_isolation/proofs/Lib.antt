@@ -1,4 +1,0 @@
-pub mod Beside
-pub mod Held
-pub mod Apartness
-pub mod Valid

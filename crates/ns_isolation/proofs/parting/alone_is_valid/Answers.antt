@@ -1,5 +1,0 @@
-use Rattle.ns_isolation.proofs.Valid.{alone_is_valid}
-use Rattle.ns_isolation.proofs.parting.alone_is_valid.Goals as goal
-
-pub returns : goal.returns
-returns c = alone_is_valid

@@ -1,5 +1,0 @@
-use Rattle.ns_isolation.proofs.Apartness.{default_is_permitted}
-use Rattle.ns_isolation.proofs.parting.default_is_permitted.Goals as goal
-
-pub returns : goal.returns
-returns c = default_is_permitted

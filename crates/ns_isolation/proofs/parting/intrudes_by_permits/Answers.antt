@@ -1,5 +1,0 @@
-use Rattle.ns_isolation.proofs.Apartness.{intrudes_by_permits}
-use Rattle.ns_isolation.proofs.parting.intrudes_by_permits.Goals as goal
-
-pub returns : goal.returns
-returns c = intrudes_by_permits

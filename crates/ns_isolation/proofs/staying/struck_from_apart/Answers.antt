@@ -1,5 +1,0 @@
-use Rattle.ns_isolation.proofs.Apartness.{struck_from_apart}
-use Rattle.ns_isolation.proofs.staying.struck_from_apart.Goals as goal
-
-pub returns : goal.returns
-returns c = struck_from_apart

@@ -1,0 +1,5 @@
+use Rattle.ns_laws.proofs.Apartness.{stays_apart}
+use Rattle.ns_laws.proofs.isolation.staying.stays_apart.Goals as goal
+
+pub returns : goal.returns
+returns c = stays_apart

@@ -1,0 +1,5 @@
+use Rattle.ns_laws.proofs.Beside.{other_submit}
+use Rattle.ns_laws.proofs.isolation.steps.other_submit.Goals as goal
+
+pub returns : goal.returns
+returns c = other_submit

@@ -1,0 +1,12 @@
+-- Faults that tell of receipts.
+use Rattle.std.specs.Prelude.{List}
+use Rattle.ns_json.specs.Replies.{Entry}
+use Rattle.ns_log.specs.declared.receipts.fault.SettleFault.{SettleFault}
+use Rattle.ns_log.specs.declared.receipts.fault.SettleFault.TheVariants.{Mismatch, Memory}
+use Rattle.ns_log.specs.declared.receipts.receipt.Receipt.{Receipt}
+use Rattle.ns_log.specs.Settling.{IsFault}
+
+-- it is the first fault, and no want of memory
+abbrev pub IsMismatch : List Entry → List (List Receipt) → SettleFault → Type 0
+IsMismatch log seats (Mismatch seat place) = IsFault log seats seat place
+IsMismatch log seats Memory = ⊥

@@ -1,2 +1,0 @@
-mod Marks
-mod Rising

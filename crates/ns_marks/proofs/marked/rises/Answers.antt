@@ -1,5 +1,0 @@
-use Rattle.ns_marks.proofs.Rising.{rising_by}
-use Rattle.ns_marks.proofs.marked.rises.Goals as goal
-
-pub returns : goal.returns
-returns c = rising_by c.args.numbers.now c.is_sorted.result c.is_sorted.ensures.cases

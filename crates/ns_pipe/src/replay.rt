@@ -1,0 +1,13 @@
+//! Reads a log, replays it for a namespace alone, and prints line by line what it comes to.
+
+mod base;
+mod claimed;
+mod ending;
+mod lines;
+mod outcome;
+mod printing;
+mod replay;
+
+pub use ending::Ending;
+pub use printing::print_replay;
+pub use replay::Replay;

@@ -1,0 +1,47 @@
+//! How a replay ended.
+
+ghost use Rattle.std.specs.Prelude.{◌≡◌, ◌++◌, OnOk, string_bytes};
+ghost use Rattle.ns_pipe.specs.Text.{last_line, status_of};
+
+use std::alloc::AllocError;
+
+/// How the replay of a log ended. Lines count from 1, and places count entries from 0.
+#[derive(Clone, Copy, PartialEq, Eq)]
+pub enum Ending {
+    /// A server that holds the namespace alone answers its own steps as the log has them.
+    Same,
+    /// A line is not that of a log.
+    BadLine(u64),
+    /// The entry is no step of the server, or is answered otherwise.
+    NotARun(u64),
+    /// The namespace does not have its pools and its quotas to itself, or a put of its own is refused since its table is full.
+    PremiseFails(u64),
+    /// A server that holds the namespace alone answers its own step otherwise.
+    Differs(u64),
+}
+
+impl Ending {
+    /// The exit status.
+    pub fn status(self) -> u8
+        ensures { result ≡ status_of self }
+    {
+        match self {
+            Ending::Same => 0,
+            Ending::NotARun(_) | Ending::PremiseFails(_) | Ending::Differs(_) => 1,
+            Ending::BadLine(_) => 2,
+        }
+    }
+}
+
+/// Adds the line of the ending.
+pub fn push_ending(text: &mut String, ending: Ending) -> Result<(), AllocError>
+    ensures { OnOk result (string_bytes text.new ≡ string_bytes text.old ++ last_line ending) }
+{
+    match ending {
+        Ending::Same => text.push_str("same\n"),
+        Ending::BadLine(line) => writeln!(text, "bad log line {line}"),
+        Ending::NotARun(place) => writeln!(text, "not a run at {place}"),
+        Ending::PremiseFails(place) => writeln!(text, "premise fails at {place}"),
+        Ending::Differs(place) => writeln!(text, "differs at {place}"),
+    }
+}

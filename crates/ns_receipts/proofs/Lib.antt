@@ -1,3 +1,0 @@
-pub mod LawLemmas
-pub mod Marking
-pub mod Seating

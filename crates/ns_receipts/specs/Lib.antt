@@ -1,4 +1,0 @@
-pub mod Faults
-pub mod Laws
-pub mod Marks
-pub mod Settling

@@ -1,4 +1,0 @@
-pub mod Text
-pub mod Claimed
-pub mod Outcome
-pub mod Printing

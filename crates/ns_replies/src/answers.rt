@@ -1,0 +1,12 @@
+//! Renders the answers of all steps as bytes, and takes room for them before a step.
+
+mod body;
+mod changing;
+pub mod laws;
+mod rendering;
+mod room;
+mod sizes;
+
+pub use changing::may_change;
+pub use rendering::{refused, render};
+pub use room::Room;

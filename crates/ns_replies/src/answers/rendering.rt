@@ -1,0 +1,66 @@
+//! Answers as bytes.
+
+ghost use Rattle.std.specs.Prelude.{◌≡◌, IfOk, Ok, string_bytes};
+ghost use Rattle.ns_types.specs.Wire.Refused.{refused};
+ghost use Rattle.ns_types.specs.Wire.Responses.{rendered_of};
+ghost use Rattle.ns_json.specs.Replies.{rendered};
+
+use crate::answers::body::body_text;
+use ns_types::refusal::Refusal;
+use ns_types::reply::{Content, Rendered, Reply, Response};
+use ns_types::text::Text;
+use std::alloc::{AllocError, Global};
+
+/// What a refusal is answered.
+pub fn refused(alloc: Global, refusal: Refusal) -> Result<Rendered, AllocError>
+    ensures { IfOk result (λ r. r ≡ refused refusal) }
+{
+    let body = Text::from_str(alloc, refusal.text())?;
+    Ok(Rendered {
+        status: refusal.status(),
+        index: None,
+        body,
+    })
+}
+
+/// What a step that was made is answered.
+pub(crate) fn done(index: Option<u64>, body: String) -> Rendered
+    ensures { result ≡ record { status = 200; index = index; body = string_bytes body } }
+{
+    Rendered {
+        status: 200,
+        index,
+        body: Text::from_string(body),
+    }
+}
+
+fn of_response(alloc: Global, response: Response) -> Result<Rendered, AllocError>
+    ensures { IfOk result (λ r. r ≡ rendered_of response) }
+{
+    match response {
+        Response::Done(index, body) => Ok(done(index, body)),
+        Response::Refused(refusal) => refused(alloc, refusal),
+    }
+}
+
+/// What a step that was made is answered, in new memory.
+#[tactic(auto, unfolding(ns_json::specs::Replies::rendered))]
+pub fn render(alloc: Global, reply: &Reply) -> Result<Rendered, AllocError>
+    ensures { IfOk result (λ r. r ≡ rendered (Ok reply.now)) }
+{
+    match &reply.content {
+        Content::Took(_)
+        | Content::Snapped(_)
+        | Content::Queued(_)
+        | Content::Applied(_, _)
+        | Content::Finished(_, _)
+        | Content::Nacked(_) => {
+            let body = body_text(Vec::new(alloc), &reply.content)?;
+            Ok(done(reply.index, body))
+        }
+        _ => {
+            let response = crate::render(alloc, reply)?;
+            of_response(alloc, response)
+        }
+    }
+}

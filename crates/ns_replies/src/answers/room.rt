@@ -1,0 +1,141 @@
+//! Room for the answer of a step, which is taken before the step.
+
+ghost use Rattle.std.specs.Prelude.{◌≡◌, ◌≤◌, IfOk, Ok, length, option_copied, option_map, string_bytes};
+ghost use Rattle.ns_types.specs.Wire.Refused.{refused};
+ghost use Rattle.ns_json.specs.Replies.{rendered};
+ghost use Rattle.ns_replies.specs.Rooms.{HasRoom, answer_bytes, copy_room, room_of, token_body};
+
+use crate::answers::body::body_text;
+use crate::answers::rendering::done;
+use crate::answers::sizes::step_bytes;
+use crate::shown::text_of;
+use ns_types::refusal::Refusal;
+use ns_types::reply::{Content, Rendered, Reply};
+use ns_types::step::{AdminCommand, Step};
+use ns_types::text::Text;
+use ns_types::worker::Worker;
+use std::alloc::{AllocError, Global};
+use std::marker::Model;
+
+/// Room for the answer of a step, which is taken before the step. Contracts see in how many bytes a body or the text
+/// of a refusal may be written, and the body that is to answer a new token.
+#[derive(Drop)]
+pub struct Room {
+    text: String,
+    token: Option<String>,
+}
+
+impl Model for Room {
+    ghost use Rattle.std.specs.Prelude.{◌≡◌, ◌≤◌, [], option_map};
+    ghost use Rattle.std.specs.String.{string_bytes, string_capacity};
+    ghost use Rattle.ns_replies.specs.Rooms;
+
+    ghost Value = { Rooms.Room };
+
+    ghost view = { λ room. record {
+      bytes = string_capacity room.text;
+      token = option_map string_bytes room.token;
+    } };
+
+    ghost invariant = { λ room. (string_bytes room.text ≡ [])
+        × (Rooms.refusal_bytes ≤ string_capacity room.text) };
+}
+
+/// The body that is to answer the step, if it makes a token.
+#[tactic(auto, unfolding(ns_json::specs::Replies::body_of))]
+fn token_body(alloc: Global, step: &Step) -> Result<Option<String>, AllocError>
+    ensures { IfOk result (λ body. option_map string_bytes body ≡ token_body step.now) }
+{
+    let Step::Admin(_, command) = step else {
+        return Ok(None);
+    };
+    match command.get() {
+        AdminCommand::CreateToken(new) => {
+            let mut body = text_of(alloc, new)?;
+            body.shrink_to_fit();
+            Ok(Some(body))
+        }
+        _ => Ok(None),
+    }
+}
+
+impl Room {
+    /// Room for the answer of the step. The row is the worker's before the step, if it is a worker's step.
+    pub fn for_step(alloc: Global, step: &Step, row: Option<&Worker>) -> Result<Room, AllocError>
+        ensures { IfOk result (λ room. room ≡ room_of step.now (option_copied row.entry)) }
+    {
+        let Some(bytes) = step_bytes(step, row) else {
+            return Err(AllocError);
+        };
+        let token = token_body(alloc, step)?;
+        let text = String::with_capacity(alloc, bytes)?;
+        Ok(Room { text, token })
+    }
+
+    /// Room for a copy of an answer that this one has room for.
+    pub fn for_copy(&self, alloc: Global) -> Result<Room, AllocError>
+        ensures { IfOk result (λ copy. copy ≡ copy_room self.now) }
+    {
+        let text_bytes = self.text.capacity();
+        let bytes = match &self.token {
+            Some(body) => text_bytes.max(body.len()),
+            None => text_bytes,
+        };
+        let text = String::with_capacity(alloc, bytes)?;
+        Ok(Room { text, token: None })
+    }
+
+    /// What the step was answered. It takes no memory.
+    #[tactic(auto, unfolding(ns_json::specs::Replies::rendered))]
+    pub fn render(self, reply: &Reply) -> Rendered
+        requires { HasRoom self reply.now.content }
+        ensures shown { result ≡ rendered (Ok reply.now) }
+        ensures fits { length result.body ≤ answer_bytes self }
+    {
+        let Room { text, token } = self;
+        match &reply.content {
+            Content::Token(_) => {
+                let Some(body) = token else { unreachable!() };
+                done(reply.index, body)
+            }
+            content => {
+                let Ok(body) = body_text(text.into_bytes(), content) else {
+                    unreachable!()
+                };
+                done(reply.index, body)
+            }
+        }
+    }
+
+    /// What the step was answered where it was refused. It takes no memory.
+    pub fn refuse(self, refusal: Refusal) -> Rendered
+        ensures shown { result ≡ refused refusal }
+        ensures fits { length result.body ≤ answer_bytes self }
+    {
+        let Room { mut text, token } = self;
+        drop(token);
+        let pushed = text.push_str(refusal.text());
+        prove!(pushed.is_ok());
+        Rendered {
+            status: refusal.status(),
+            index: None,
+            body: Text::from_string(text),
+        }
+    }
+
+    /// A copy of an answer. It takes no memory.
+    pub fn repeat(self, shown: &Rendered) -> Rendered
+        requires { length shown.now.body ≤ self.bytes }
+        ensures { result ≡ shown.now }
+    {
+        let Room { mut text, token } = self;
+        drop(token);
+        let pushed = text.push_str(shown.body.as_str());
+        prove!(pushed.is_ok());
+        Rendered {
+            status: shown.status,
+            index: shown.index,
+            body: Text::from_string(text),
+        }
+    }
+}

@@ -1,0 +1,35 @@
+-- The values of the names that are known.
+use Rattle.std.specs.Prelude.{ℕ, List, Option, Some, None, bytes_eq, codes, if◌then◌else◌}
+use Rattle.std.specs.Option.{option_or}
+use Rattle.ns_request.specs.declared.parameters.Values.{Values}
+use Rattle.ns_request.specs.Parameters.{parameter}
+
+abbrev pub no_values : Values
+no_values = record { namespace = None; filter = None; per_page = None; next_token = None; index = None; prefix = None; purge = None }
+
+-- the names that are known
+abbrev pub values_of : List ℕ → Values
+values_of query = record {
+  namespace = parameter (codes "namespace") query;
+  filter = parameter (codes "filter") query;
+  per_page = parameter (codes "per_page") query;
+  next_token = parameter (codes "next_token") query;
+  index = parameter (codes "index") query;
+  prefix = parameter (codes "prefix") query;
+  purge = parameter (codes "purge") query;
+}
+
+-- the value is kept, where it is of that name and there is none yet
+abbrev pub kept : List ℕ → List ℕ → List ℕ → Option (List ℕ) → Option (List ℕ)
+kept wanted name value old = if bytes_eq name wanted then option_or old (Some value) else old
+
+abbrev pub values_with : List ℕ → List ℕ → Values → Values
+values_with name value old = record {
+  namespace = kept (codes "namespace") name value old.namespace;
+  filter = kept (codes "filter") name value old.filter;
+  per_page = kept (codes "per_page") name value old.per_page;
+  next_token = kept (codes "next_token") name value old.next_token;
+  index = kept (codes "index") name value old.index;
+  prefix = kept (codes "prefix") name value old.prefix;
+  purge = kept (codes "purge") name value old.purge;
+}

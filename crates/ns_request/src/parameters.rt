@@ -1,0 +1,89 @@
+//! Finds the values of a query's parameters, the first one of each name.
+
+ghost use Rattle.std.specs.Prelude.{◌≡◌, IfOk, OnOk, Some};
+ghost use Rattle.std.specs.Option.{option_or};
+
+use form_urlencoded::parse;
+use ns_types::text::Text;
+use std::alloc::{AllocError, Global};
+
+/// The values of the names that are known, of each name the first one.
+#[derive(Drop)]
+pub struct Values {
+    pub namespace: Option<Text>,
+    pub filter: Option<Text>,
+    pub per_page: Option<Text>,
+    pub next_token: Option<Text>,
+    pub index: Option<Text>,
+    pub prefix: Option<Text>,
+    pub purge: Option<Text>,
+}
+
+const NO_VALUES: Values = Values {
+    namespace: None,
+    filter: None,
+    per_page: None,
+    next_token: None,
+    index: None,
+    prefix: None,
+    purge: None,
+};
+
+/// Keeps the value, where there is none yet.
+fn keep_first(alloc: Global, kept: &mut Option<Text>, value: &str) -> Result<(), AllocError>
+    ensures { OnOk result (kept.new ≡ option_or kept.old (Some value.now)) }
+{
+    if kept.is_none() {
+        *kept = Some(Text::from_str(alloc, value)?);
+    }
+    Ok(())
+}
+
+impl Values {
+    ghost use Rattle.ns_request.specs.Values.{no_values, values_of, values_with};
+
+    /// Keeps the value of a name that has none yet.
+    fn keep(&mut self, alloc: Global, name: &str, value: &str) -> Result<(), AllocError>
+        ensures { OnOk result (self.new ≡ values_with name.now value.now self.old) }
+    {
+        match name {
+            "namespace" => keep_first(alloc, &mut self.namespace, value),
+            "filter" => keep_first(alloc, &mut self.filter, value),
+            "per_page" => keep_first(alloc, &mut self.per_page, value),
+            "next_token" => keep_first(alloc, &mut self.next_token, value),
+            "index" => keep_first(alloc, &mut self.index, value),
+            "prefix" => keep_first(alloc, &mut self.prefix, value),
+            "purge" => keep_first(alloc, &mut self.purge, value),
+            _ => Ok(()),
+        }
+    }
+
+    /// Keeps the values of the query, where none is kept yet.
+    fn keep_all(&mut self, alloc: Global, text: &str) -> Result<(), AllocError>
+        requires { self.old ≡ no_values }
+        ensures { OnOk result (self.new ≡ values_of text.now) }
+    {
+        for pair in parse(alloc, text.as_bytes()) {
+            let (name, value) = pair?;
+            self.keep(alloc, name.as_str(), value.as_str())?;
+        }
+        Ok(())
+    }
+
+    /// The values of the query.
+    pub fn read(alloc: Global, text: &str) -> Result<Values, AllocError>
+        ensures { IfOk result (λ values. values ≡ values_of text.now) }
+    {
+        let mut values = NO_VALUES;
+        if text.is_empty() {
+            return Ok(values);
+        }
+        match values.keep_all(alloc, text) {
+            Ok(()) => Ok(values),
+            Err(error) => {
+                drop(values);
+                Err(error)
+            }
+        }
+    }
+}

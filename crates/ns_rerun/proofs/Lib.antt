@@ -1,3 +1,0 @@
-pub mod Determined
-mod Kept
-pub mod Replied

@@ -1,2 +1,0 @@
-pub mod Replying
-pub mod Rerunning

@@ -1,0 +1,29 @@
+// Another thread shuts a listener of the system's at which one waits.
+use ns_serve::Door;
+use std::net::SocketAddr;
+use std::rt::Clock;
+use std::sync::Wait;
+use std::test::Fail;
+use std::thread;
+use std::thread::Threads;
+use std::time::Duration;
+
+/// Whether a call that waits for a connection fails once the door is shut.
+fn fails_when_shut<R: Threads + Wait + Clock + Sync>(rt: &R, door: &Door) -> bool {
+    let (is_refused, _) = thread::join(
+        rt,
+        move || door.accept(rt).is_err(),
+        move || {
+            thread::sleep(rt, Duration::from_millis(100));
+            door.shut();
+        },
+    );
+    is_refused
+}
+
+#[test]
+fn shut_door(rt: HostRuntime) -> Result<(), Fail> {
+    let door = Door::open(&rt, SocketAddr::from(([127, 0, 0, 1], 0)))?;
+    assert!(rt; fails_when_shut(&rt, &door));
+    Ok(())
+}

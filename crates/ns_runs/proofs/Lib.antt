@@ -1,3 +1,0 @@
-mod Answered
-mod Planning
-mod Runs

@@ -1,3 +1,0 @@
-pub mod Making
-pub mod Planned
-pub mod Running

@@ -1,2 +1,0 @@
-pub mod Joined
-mod Leading

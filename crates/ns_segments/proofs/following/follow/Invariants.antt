@@ -1,5 +1,0 @@
-use Rattle.ns_segments.proofs.Leading.{Leads}
-use Rattle.ns_segments.proofs.following.follow.Given as goal
-
-abbrev pub invariant-loop-segment : goal.invariant-loop-segment
-invariant-loop-segment l = Leads l.segments l.segment-index l.place

@@ -1,9 +1,0 @@
-//! Shows the present state to the plan applier: the tables of the world with the index of live allocations.
-#![tactic(auto)]
-
-mod checking;
-mod looking;
-mod present;
-
-pub use checking::check;
-pub use present::Present;

@@ -1,4 +1,0 @@
-pub mod Requests
-pub mod Settled
-pub mod Entries
-pub mod Texts

@@ -1,5 +1,0 @@
-use Rattle.ns_written.proofs.Settled.{settled_read}
-use Rattle.ns_written.proofs.laws.settled_is_as_read.Goals as goal
-
-pub returns : goal.returns
-returns c = settled_read
