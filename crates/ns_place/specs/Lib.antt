@@ -1,4 +1,5 @@
 pub mod Amounts
+pub mod Cost
 pub mod Laws
 pub mod Order
 pub mod Marks

@@ -1,10 +1,11 @@
 //! The node whose victims cost least.
 
-ghost use Rattle.std.specs.Prelude.{◌≡◌, [], is_some, length, map, unwrap_or};
-ghost use Rattle.ns_types.specs.Placing.Preemption.{best_victims, cheaper, highest_priority, victims};
+ghost use Rattle.std.specs.Prelude.{◌≡◌, map};
+ghost use Rattle.ns_types.specs.Placing.Preemption.{best_victims, highest_priority};
+ghost use Rattle.ns_place.specs.Cost.{cost_of};
 
 use crate::prefix::victims;
-use ns_place::Candidate;
+use ns_place::{Candidate, Cost, is_cheaper};
 use ns_types::resources::Resources;
 use ns_types::snapshot::LiveAllocation;
 
@@ -18,49 +19,55 @@ fn highest_priority(allocations: &[&LiveAllocation]) -> u64
     highest
 }
 
-fn has_victims(candidate: &Candidate<'_>, size: Resources) -> bool
-    ensures { result ≡ is_some (victims size candidate.now) }
+/// What the victims on the node cost, where some make room.
+fn cost_of(candidate: &Candidate<'_>, size: Resources) -> Option<Cost>
+    ensures { result ≡ cost_of size candidate.now }
 {
-    victims(candidate, size).is_some()
+    let victims = victims(candidate, size)?;
+    Some(Cost {
+        highest_priority: highest_priority(&candidate.evictable()[..victims]),
+        victims,
+    })
 }
 
-/// The victims on the node, or nobody where there are none.
-fn lost<'a, 'b>(candidate: &'a Candidate<'b>, size: Resources) -> &'a [&'b LiveAllocation]
-    ensures all { map (λ a. a.now) result.now ≡ unwrap_or (victims size candidate.now) [] }
-    ensures len { length result.now ≡ length (unwrap_or (victims size candidate.now) []) }
+/// The same, found once for as long as nothing is placed on the node.
+fn remembered_cost(candidate: &mut Candidate<'_>, size: Resources) -> Option<Cost>
+    ensures cost { result ≡ cost_of size candidate.old }
+    ensures same { candidate.new ≡ candidate.old }
 {
-    match victims(candidate, size) {
-        Some(n) => &candidate.evictable()[..n],
-        None => &[],
+    if let Some(cost) = candidate.known_cost(size) {
+        return cost;
     }
+    let cost = cost_of(candidate, size);
+    candidate.remember(size, cost);
+    cost
 }
 
-fn is_cheaper(candidate: &Candidate<'_>, other: &Candidate<'_>, size: Resources) -> bool
-    ensures { result ≡ cheaper size candidate.now other.now }
-{
-    let mine = lost(candidate, size);
-    let others = lost(other, size);
-    highest_priority(mine)
-        .cmp(&highest_priority(others))
-        .then(mine.len().cmp(&others.len()))
-        .then(candidate.name().cmp(other.name()))
-        .is_lt()
+/// A node, and what its victims cost.
+#[derive(Clone, Copy)]
+struct Best {
+    node: usize,
+    cost: Cost,
 }
 
 /// The place of the node with victims than which no other's are cheaper: least by the highest priority among them, then
-/// by their number, then by the node's name. None only where no node has victims. It takes no memory.
-pub fn best_victims(candidates: &[Candidate<'_>], size: Resources) -> Option<usize>
-    ensures { result ≡ best_victims size candidates.now }
+/// by their number, then by the node's name. None only where no node has victims. It takes no memory, and looks anew only at
+/// nodes where something was placed since, if it was asked for the same size before.
+pub fn best_victims(candidates: &mut [Candidate<'_>], size: Resources) -> Option<usize>
+    ensures best { result ≡ best_victims size candidates.old }
+    ensures same { candidates.new ≡ candidates.old }
 {
-    let mut best: Option<usize> = None;
+    let mut best: Option<Best> = None;
     for i in 0..candidates.len() {
-        let candidate = &candidates[i];
-        if has_victims(candidate, size) {
+        if let Some(cost) = remembered_cost(&mut candidates[i], size) {
             best = match best {
-                Some(b) if !is_cheaper(candidate, &candidates[b], size) => Some(b),
-                _ => Some(i),
+                Some(least)
+                    if !is_cheaper(&candidates[i], cost, &candidates[least.node], least.cost) => {
+                    Some(least)
+                }
+                _ => Some(Best { node: i, cost }),
             };
         }
     }
-    best
+    Some(best?.node)
 }

@@ -17,14 +17,19 @@ pub(crate) struct Chosen {
     pub victims: usize,
 }
 
-/// The node whose victims are cheapest.
-pub(crate) fn choose_with_victims(candidates: &[Candidate<'_>], size: Resources) -> Option<Chosen>
-    requires { best_fit size candidates.now ≡ None }
-    ensures { MatchOption result (choice size candidates.now ≡ None)
-        (λ ch. (ch.node < length candidates.now)
-        × HoldsAt (IsChosen size candidates.now ch.node ch.victims) candidates.now ch.node) }
+/// The node whose victims are cheapest. What they cost is remembered at each node.
+pub(crate) fn choose_with_victims(
+    candidates: &mut Vec<Candidate<'_>>,
+    size: Resources,
+) -> Option<Chosen>
+    requires { best_fit size candidates.old.items ≡ None }
+    ensures chosen { MatchOption result (choice size candidates.old.items ≡ None)
+        (λ ch. (ch.node < length candidates.old.items)
+        × HoldsAt (IsChosen size candidates.old.items ch.node ch.victims)
+        candidates.old.items ch.node) }
+    ensures same { candidates.new.items ≡ candidates.old.items }
 {
-    let node = best_victims(candidates, size)?;
+    let node = best_victims(candidates.as_mut_slice(), size)?;
     let victims = victims(&candidates[node], size)?;
     Some(Chosen { node, victims })
 }

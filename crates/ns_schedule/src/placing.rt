@@ -70,7 +70,7 @@ fn place_next(
         let placement = place_at(alloc, candidates, used, quota, demand, chosen)?;
         return Ok(Some(placement));
     }
-    let Some(chosen) = choose_with_victims(candidates.as_slice(), demand.size) else {
+    let Some(chosen) = choose_with_victims(candidates, demand.size) else {
         return Ok(None);
     };
     let placement = place_at(alloc, candidates, used, quota, demand, chosen)?;

@@ -79,13 +79,13 @@ fn chosen(
     let second = allocation(rt, alloc, second);
     let third = allocation(rt, alloc, third);
     let fourth = allocation(rt, alloc, fourth);
-    let nodes = [
+    let mut nodes = [
         node(rt, alloc, &name, here, &first, &second),
         node(rt, alloc, &other, there, &third, &fourth),
     ];
     (
         best_node(&nodes, each(200)),
-        best_victims(&nodes, each(250)),
+        best_victims(&mut nodes, each(250)),
     )
 }
 
