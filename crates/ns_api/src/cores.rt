@@ -42,7 +42,7 @@ impl Takes for Held {
     }
 }
 
-/// A new server, which answers requests and drives whom `driven` names.
+/// A new server, which answers requests and drives the worker that `driven` names.
 pub fn open<D: Draws + Drop>(
     alloc: Global,
     bootstrap: &Secret,

@@ -34,7 +34,7 @@ impl<T: Server> Follows<T> for NoFollower {
     fn follow(&mut self, _alloc: Global, _taker: &mut T) {}
 }
 
-/// Whom a server drives after each request.
+/// Which worker a server drives after each request.
 #[derive(Clone, Copy, PartialEq, Eq)]
 pub enum Driven {
     Nobody,
@@ -42,7 +42,7 @@ pub enum Driven {
     Worker,
 }
 
-/// Drives whom a server drives.
+/// Drives the worker that a server drives.
 #[derive(Drop)]
 pub enum Driver {
     Nobody,

@@ -65,7 +65,7 @@ fn come_to(
 /// Applies the plan that the worker handed in for its evaluation of the namespace. The answer has the numbers of the
 /// allocations that are placed, and the names of the nodes of which nothing is done.
 ///
-/// `NotEnabled`: the worker has no evaluation of the namespace, it has not handed in a plan, or another plan is served.
+/// `NotEnabled`: the worker has no evaluation of the namespace, it has not handed in a plan, or another plan is next.
 /// Then `Full`: the number of an allocation, an evaluation, a place or a release, or an index, would pass its bound. Then
 /// want of memory.
 ///

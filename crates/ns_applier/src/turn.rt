@@ -27,7 +27,7 @@ fn is_key(namespace: &Text, number: u64, key: &EvalKey) -> bool
     same_text(namespace, key.namespace()) && same_number(number, key.number())
 }
 
-/// Whether the plan for the namespace's evaluation is the one that is served.
+/// Whether the plan for the namespace's evaluation is the next one.
 fn is_served(tables: &Tables, namespace: &Text, number: u64) -> bool
     ensures { let w = world_of tables.now in
         result ≡ is_served w w.plans (namespace.now, number) }
@@ -38,7 +38,7 @@ fn is_served(tables: &Tables, namespace: &Text, number: u64) -> bool
     }
 }
 
-/// Whether the worker has handed in its plan, and it is the one that is served.
+/// Whether the worker has handed in its plan, and it is the next one.
 pub(crate) fn is_in_turn(tables: &Tables, namespace: &Text, worker: &Worker) -> bool
     ensures { let w = world_of tables.now in
         result ≡ (is_submitted worker.now.phase

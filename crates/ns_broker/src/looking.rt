@@ -28,7 +28,7 @@ pub struct Busy<'a> {
     pub tries: u64,
 }
 
-/// The evaluation that is served next.
+/// The next evaluation: the first of those of the highest priority.
 pub fn served_ready<'a>(tables: &'a Tables, turns: &'a Turns) -> Option<&'a EvalKey>
     requires { IsRight (world_of tables.now) turns.now }
     ensures { option_copied result ≡ served_ready (world_of tables.now) }
@@ -40,14 +40,14 @@ pub fn served_ready<'a>(tables: &'a Tables, turns: &'a Turns) -> Option<&'a Eval
     }
 }
 
-/// Whether one is served. It looks at none.
+/// Whether there is a next evaluation. It looks at none.
 pub fn has_served(tables: &Tables) -> bool
     ensures { result ≡ is_some (served_ready (world_of tables.now)) }
 {
     !tables.ready.is_empty()
 }
 
-/// The evaluation whose plan is served next.
+/// The evaluation whose plan is next.
 pub fn first_plan(tables: &Tables) -> Option<&EvalKey>
     ensures { option_copied result ≡ first_plan (world_of tables.now) }
 {

@@ -1,4 +1,4 @@
-//! Which evaluation of a list is served next.
+//! Which evaluation of a list is next.
 
 ghost use Rattle.std.specs.Prelude.{◌≡◌, option_copied};
 ghost use Rattle.ns_types.specs.Working.Queue.{priority_at, served};

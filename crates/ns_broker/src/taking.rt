@@ -68,7 +68,7 @@ fn is_key(namespace: &Text, number: u64, key: &EvalKey) -> bool
     same_text(namespace, key.namespace()) && same_number(number, key.number())
 }
 
-/// The evaluation's key, where it is the one that is served next.
+/// The evaluation's key, where it is the next one.
 fn served_as<'a>(
     tables: &'a Tables,
     turns: &'a Turns,
@@ -89,7 +89,7 @@ fn served_as<'a>(
     }
 }
 
-/// The evaluation's key, where there is such a worker, it has no evaluation, and this one is served next.
+/// The evaluation's key, where there is such a worker, it has no evaluation, and this one is next.
 fn key_for<'a>(
     tables: &'a Tables,
     turns: &'a Turns,
@@ -125,8 +125,8 @@ fn take(
     take_ready(tables.alloc, change, key)
 }
 
-/// The worker takes the evaluation, which is served next and is no longer ready then. `NotEnabled`: there is no such
-/// worker, it has an evaluation, or another one is served next.
+/// The worker takes the evaluation, which is the next one and is no longer ready then. `NotEnabled`: there is no such
+/// worker, it has an evaluation, or another one is next.
 pub fn dequeue(
     tables: &Tables,
     turns: &Turns,

@@ -138,7 +138,7 @@ impl Parts {
         Ok(plain(content))
     }
 
-    /// Makes the step that is asked of a pool, or leaves the state as it is.
+    /// Makes the step on a pool, or leaves the state as it is.
     pub fn node(
         &mut self,
         pool: &Text,

@@ -1,5 +1,5 @@
 //! All that a core holds: the access lists, the tables of the whole world, the index of live allocations, with the nodes that
-//! snapshots share, and whose turn it is.
+//! snapshots share, and the index of the queues.
 
 ghost use Rattle.std.specs.Prelude.{◌≡◌, IfOk, None, option_map};
 ghost use Rattle.std.specs.FinMap.{get};

@@ -120,7 +120,7 @@ impl Core {
         }
     }
 
-    /// Makes the step in which a worker takes the evaluation of that number in the namespace, which is served next. The
+    /// Makes the step in which a worker takes the evaluation of that number in the namespace, which is the next one. The
     /// reply says its number.
     pub fn dequeue(
         &mut self,
@@ -164,7 +164,7 @@ impl Core {
 
     /// Makes the step in which a worker's plan is applied: what of it still stands is done, node by node all or nothing.
     /// The reply says the numbers of the allocations that are placed, and the names of the nodes of which nothing is done.
-    /// `NotEnabled`: the worker has no evaluation of the namespace, has not handed in a plan, or another plan is served. Then
+    /// `NotEnabled`: the worker has no evaluation of the namespace, has not handed in a plan, or another plan is next. Then
     /// `Full`: a counter would pass its bound.
     pub fn apply(&mut self, worker: u64, namespace: &Text) -> Result<Reply, Refusal>
         ensures { Makes (Step.Apply worker namespace.now) self.old result self.new }
@@ -197,21 +197,21 @@ impl Core {
         parts.nack(worker, namespace)
     }
 
-    /// The evaluation that is served next.
+    /// The next evaluation: the first of those of the highest priority.
     pub fn served(&self) -> Option<&EvalKey>
         ensures { option_copied result ≡ served_ready self.now.world }
     {
         ns_broker::served_ready(&self.parts.tables, &self.parts.turns)
     }
 
-    /// Whether one is served: a look that costs the same however many are ready.
+    /// Whether there is a next evaluation: a look that costs the same however many are ready.
     pub fn has_served(&self) -> bool
         ensures { result ≡ is_some (served_ready self.now.world) }
     {
         ns_broker::has_served(&self.parts.tables)
     }
 
-    /// The evaluation whose plan is served next.
+    /// The evaluation whose plan is next.
     pub fn first_plan(&self) -> Option<&EvalKey>
         ensures { option_copied result ≡ first_plan self.now.world }
     {

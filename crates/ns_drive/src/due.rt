@@ -22,7 +22,7 @@ pub(crate) const WORKER: u64 = 0;
 pub(crate) enum Due {
     /// It is idle, and nothing is ready.
     Nothing,
-    /// It is idle, and this evaluation is served.
+    /// It is idle, and this evaluation is next.
     Take(EvalKey),
     /// It has to look, for the first time or again.
     Look(Text),

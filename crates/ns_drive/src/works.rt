@@ -27,7 +27,7 @@ pub trait Works: Server {
     // Why a call for that step makes none.
     ghost lacks: { Self → AStep → Refusal → Type 0 };
 
-    /// The evaluation that is served next.
+    /// The next evaluation: the first of those of the highest priority.
     fn served(&self) -> Option<&EvalKey>
         ensures { option_copied result ≡ served_ready (Self.state self.now).world };
 

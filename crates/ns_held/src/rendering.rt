@@ -1,4 +1,4 @@
-//! Answers of steps as bytes, for those who are answered.
+//! Answers of steps as bytes, for their callers.
 
 ghost use Rattle.std.specs.Prelude.{◌≡◌, ◌≤◌, IfOk, IfSome, OnOk, length, true};
 ghost use Rattle.ns_types.specs.Wire.Responses.{rendered_of};

@@ -54,7 +54,7 @@ fn note_snapped(
 }
 
 impl Held {
-    /// Makes the step in which a worker takes the evaluation of that number in the namespace, which is served next.
+    /// Makes the step in which a worker takes the evaluation of that number in the namespace, which is the next one.
     pub fn dequeue(
         &mut self,
         alloc: Global,

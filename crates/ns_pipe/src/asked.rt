@@ -8,8 +8,8 @@ use ns_types::name::Secret;
 /// What the words come to.
 #[derive(Drop)]
 pub enum Asked {
-    /// To serve one connection, with that secret as the bootstrap token, to drive whom it says after each request, and to
-    /// print what it says.
+    /// To serve one connection, with that secret as the bootstrap token, to drive the worker that it names after each request,
+    /// and to print what it says.
     Pipe(Secret, Driven, Printed),
     /// To replay a namespace's own part of a log alone.
     Alone(Replay),

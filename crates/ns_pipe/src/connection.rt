@@ -13,8 +13,8 @@ use ns_types::name::Secret;
 use std::alloc::Global;
 use std::io::{Read, Write};
 
-/// Serves one connection with a new server, which drives whom `driven` names after each request, and says the exit status. The
-/// steps of the requests, and those that follow each, are one run.
+/// Serves one connection with a new server, which drives the worker that `driven` names after each request, and says the exit
+/// status. The steps of the requests, and those that follow each, are one run.
 pub fn pipe<D: Draws + Drop, R: Read, W: Write, E: Write>(
     alloc: Global,
     bootstrap: &Secret,

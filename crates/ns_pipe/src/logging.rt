@@ -83,8 +83,8 @@ fn serve_and_log<D: Draws, R: Read, W: Write, V: Write>(
     }
 }
 
-/// Serves one connection with a new server, which drives whom `driven` names after each request, and then writes the log of all
-/// that the server did, after a fault of the reader too. The replies go elsewhere. Says the exit status.
+/// Serves one connection with a new server, which drives the worker that `driven` names after each request, and then writes the log
+/// of all that the server did, after a fault of the reader too. The replies go elsewhere. Says the exit status.
 pub fn pipe_log<D: Draws + Drop, R: Read, W: Write, V: Write, E: Write>(
     alloc: Global,
     bootstrap: &Secret,

@@ -34,7 +34,7 @@ fn drain<R: Clock>(rt: &R, alloc: Global, stream: &TcpStream) -> io::Result<()> 
     Ok(())
 }
 
-/// Tells the client that no more replies come, and takes what it still sends. Whether that works concerns nobody else.
+/// Tells the client that no more replies come, and takes what it still sends. Whether that works changes nothing for others.
 pub fn leave<R: Clock>(rt: &R, alloc: Global, stream: &TcpStream) {
     let silence = Some(Duration::from_secs(SILENCE));
     if stream.shutdown(Shutdown::Write).is_ok() && stream.set_read_timeout(silence).is_ok() {

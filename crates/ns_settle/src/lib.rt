@@ -3,10 +3,10 @@
 //! Want of memory comes last, where the step would have been made. The lemma `makes` of `proofs/Concluding` says that the
 //! reply is the model's reply to the step, and the state afterwards the model's state.
 //!
-//! `settle` completes the change by what the step releases, whom that wakes, and the indexes and events of the rows that changed:
-//! what leads from the world before to the model's `settle` of the world that the change leaves. It reads the change, and looks up
-//! what was there before. Its work grows with what the step changes, and with the evaluations that wait in the pools and for the
-//! quotas that it releases. `commit` puts the result into the tables.
+//! `settle` completes the change by what the step releases, the evaluations that this wakes, and the indexes and events of the
+//! rows that changed: what leads from the world before to the model's `settle` of the world that the change leaves. It reads the
+//! change, and looks up what was there before. Its work grows with what the step changes, and with the evaluations that wait in
+//! the pools and for the quotas that it releases. `commit` puts the result into the tables.
 #![tactic(auto)]
 
 mod commit;

@@ -1,4 +1,4 @@
-//! Whom a step wakes, found in the list of blocked evaluations by what they wait for.
+//! The evaluations that a step wakes, found in the list of blocked evaluations by what they wait for.
 
 ghost use Rattle.std.specs.Prelude.{◌≡◌, ◌∷◌, ◌&&◌, [], IfOk, filter, not};
 ghost use Rattle.std.specs.FinMap.{contains_key};
@@ -94,7 +94,7 @@ fn releases_of(tables: &Tables, rooms: &[Room], names: &[Text]) -> Result<Releas
     Ok(Releases { pools, quotas })
 }
 
-// ---- whom that wakes
+// ---- the evaluations that it wakes
 
 /// Whether an entry of the list is still there.
 fn stays(list: &ListChange, key: &EvalKey) -> bool

@@ -1,4 +1,4 @@
-//! Whom a step wakes.
+//! The evaluations that a step wakes.
 
 ghost use Rattle.std.specs.Prelude.{◌≡◌, ◌++◌, IfOk, OnOk};
 ghost use Rattle.keyed.specs.Queue.{passing_at};

@@ -30,25 +30,25 @@ impl Stage {
     }
 }
 
-/// Whom a call wakes of those who wait.
+/// Which of the waiting threads a call wakes.
 #[derive(Clone, Copy)]
 pub(crate) enum Wakes {
     /// Nobody: it leaves nothing to do, but to its caller.
     Nobody,
-    /// A worker that is idle, where an evaluation is served.
+    /// A worker that is idle, where an evaluation is ready.
     WhereServed,
     /// The same, and all where the server is closed, since workers end once they are idle.
     WhereServedOrClosed,
     /// The applier, for the plan that was handed in.
     Planned,
-    /// The workers whose plans wait, since one was applied, and one that is idle where an evaluation is served.
+    /// The workers whose plans wait, since one was applied, and one that is idle where an evaluation is ready.
     Applied,
     /// All.
     All,
 }
 
 impl Wakes {
-    /// Whether it wakes a worker that is idle, where an evaluation is served.
+    /// Whether it wakes a worker that is idle, where an evaluation is ready.
     pub(crate) fn offers_work(self) -> bool
         ensures { result ≡ offers_work self }
     {
@@ -115,7 +115,7 @@ pub enum Waits {
     ForPlans,
 }
 
-/// How it stands with those who share a server.
+/// The counts of a server's workers and of those who wait.
 #[derive(Clone, Copy)]
 pub struct Moment {
     /// How many changes there were that others wait for. It wraps.
@@ -138,7 +138,7 @@ pub struct Busy {
     pub tries: u64,
 }
 
-/// A worker whose plan is served next, and the namespace that it works for.
+/// A worker whose plan is next, and the namespace that it works for.
 #[derive(Drop)]
 pub struct Planner {
     pub worker: u64,

@@ -11,7 +11,7 @@ use crate::changes::{Moment, Notified, Role, Stage, Wakes};
 use crate::ended::Ended;
 use std::sync::ledger::Ledger;
 
-/// A server with its log, and how it stands with those who share it.
+/// A server with its log, and the counts of its workers and of those who wait.
 #[derive(Drop)]
 pub(crate) struct Desk<L: Ledger> {
     pub(crate) kept: Ended<L>,

@@ -14,7 +14,7 @@ use std::alloc::AllocError;
 /// Past the numbers of workers.
 pub const WORKERS_END: u64 = 64;
 
-/// The evaluation that is served next.
+/// The next evaluation: the first of those of the highest priority.
 pub(crate) fn served(core: &Core) -> Result<Option<EvalKey>, AllocError>
     ensures { IfOk result (λ key. key ≡ served_ready core.now.world) }
 {
@@ -78,7 +78,7 @@ fn first_at(core: &Core, key: &EvalKey) -> Result<Option<Planner>, AllocError>
     Ok(None)
 }
 
-/// The first worker that is busy with the evaluation whose plan is served next.
+/// The first worker that is busy with the evaluation whose plan is next.
 pub(crate) fn planner(core: &Core) -> Result<Option<Planner>, AllocError>
     ensures { IfOk result (λ found. IsFirstPlanner core.now.world found) }
 {

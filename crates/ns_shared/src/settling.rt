@@ -199,7 +199,7 @@ impl<L: Ledger> Ended<L> {
     ///
     /// 1. whether the segments follow each other from the first entry on, and the log follows the last;
     /// 2. whether the receipts settle with the segments and the log, joined: within each seat the places rise, all receipts
-    ///    together name each place once, and each receipt tells of the entry at its place;
+    ///    together name each place once, and each receipt is the entry at its place;
     /// 3. whether the joined log is a run from the first state, with its replies.
     ///
     /// The first fault is a mismatch: of 1 and 3 with the number of seats and the place. Where all seats that were made are

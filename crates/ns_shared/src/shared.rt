@@ -42,7 +42,7 @@ pub struct Shared<L: Ledger> {
     planners: Condvar,
     /// The applier, where it waits.
     applier: Condvar,
-    /// Entries that were given out and that nobody needs any more.
+    /// Entries that were given out and that are needed no more.
     spent: Mutex<Spent>,
     /// With how many entries the log is rotated. None: never.
     pub rotates_at: Option<u64>,
@@ -141,7 +141,7 @@ impl<L: Ledger> Shared<L> {
         }
     }
 
-    /// Lets an entry go that nobody needs any more. No lock is held meanwhile.
+    /// Lets an entry go that is needed no more. No lock is held meanwhile.
     fn let_go<R: Wait>(&self, rt: &R) {
         let entry = self.spent.lock(rt).take_out();
         drop(entry);
@@ -185,7 +185,7 @@ impl<L: Ledger> Shared<L> {
         answer
     }
 
-    /// Makes the step in which a worker takes the evaluation of that number in the namespace, which is served next.
+    /// Makes the step in which a worker takes the evaluation of that number in the namespace, which is the next one.
     pub fn dequeue<R: Wait, M: Retention>(
         &self,
         rt: &R,
@@ -333,7 +333,7 @@ impl<L: Ledger> Shared<L> {
         Ok(segment)
     }
 
-    /// Takes a segment that nobody needs any more. Its entries go one by one, each with a later call for a step, so that their memory
+    /// Takes a segment that is needed no more. Its entries go one by one, each with a later call for a step, so that their memory
     /// comes back where entries are made. Two segments wait so at most: what is left of one before them goes now.
     pub fn spend<R: Wait>(&self, rt: &R, segment: Segment) {
         let left = self.spent.lock(rt).add(segment);
@@ -381,7 +381,7 @@ impl<L: Ledger> Shared<L> {
         looking::applier_view(desk.kept.held.core(), desk.moment(), is_due)
     }
 
-    /// The evaluation that is served next.
+    /// The next evaluation: the first of those of the highest priority.
     pub fn served<R: Wait>(&self, rt: &R) -> Result<Option<EvalKey>, AllocError> {
         looking::served(self.desk.lock(rt).kept.held.core())
     }
@@ -391,7 +391,7 @@ impl<L: Ledger> Shared<L> {
         looking::busy(self.desk.lock(rt).kept.held.core(), worker)
     }
 
-    /// The worker whose plan is served next.
+    /// The worker whose plan is next.
     pub fn first_plan<R: Wait>(&self, rt: &R) -> Result<Option<Planner>, AllocError> {
         looking::planner(self.desk.lock(rt).kept.held.core())
     }

@@ -1,4 +1,4 @@
-//! Entries that nobody needs any more, which go one by one.
+//! Entries that are needed no more, which go one by one.
 
 ghost use Rattle.std.specs.Prelude.{◌≡◌, ◌++◌, [], IfNone, IsSomeAnd, None, length, option_to_list};
 ghost use Rattle.ns_shared.specs.Spending.{left, waiting};
@@ -7,7 +7,7 @@ use ns_log::Entry;
 use ns_log::segments::Segment;
 use std::mem;
 
-/// Entries of two segments at most, which nobody needs any more.
+/// Entries of two segments at most, which are needed no more.
 #[derive(Drop)]
 pub(crate) struct Spent {
     /// What is left of the earlier one. It goes first.

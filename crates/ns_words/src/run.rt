@@ -23,8 +23,8 @@ use std::alloc::Global;
 use std::io::{Read, Write};
 
 /// Runs the program with these words, of which the first is its own name: serves a connection with the secret that they
-/// give, drives whom they say and prints what they say; or makes the replay that they ask for; or writes what they ask for or
-/// what is wrong with them, and then reads no input. A server over TCP is left to `conclude`.
+/// give, drives the worker that they name and prints what they say; or makes the replay that they ask for; or writes
+/// what they ask for or what is wrong with them, and then reads no input. A server over TCP is left to `conclude`.
 pub fn run_words<D: Draws + Drop, R: Read + Drop, W: Write + Drop, E: Write>(
     alloc: Global,
     words: &[&str],

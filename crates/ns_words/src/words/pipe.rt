@@ -18,7 +18,7 @@ pub const BAD_SECRET: &str = "the bootstrap secret has 1 to 64 printable bytes w
 
 const BAD_PRINT: &str = "what is printed is replies or log";
 
-/// Whom to drive, by what is given for the flag.
+/// Which worker to drive, by what is given for the flag.
 fn driven(given: Option<&str>) -> Driven
     ensures { result ≡ driven_by (option_map (λ s. s.now) given.entry) }
 {
