@@ -1,13 +1,15 @@
-"""Prints how many instructions `./nsd pipe` takes for one pipelined read of a job, as callgrind counts them.
+"""Prints how many instructions `./nsd pipe` takes for one pipelined read of a job, as callgrind counts them, or for a job.
 
     python3 bench/instructions.py                  of crates/nsd/out/nsd
     python3 bench/instructions.py PROGRAM          of another program
     python3 bench/instructions.py PROGRAM --most N ends with status 1 where a read takes more than N
+    python3 bench/instructions.py PROGRAM --placed for a job of one allocation, registered and placed, on a node of 1,000 that has no
+                                                   other allocation, 100 others, or 900; and the last beside the second
 
 Two runs are counted, of FEW reads and of twice as many, and their difference is divided by FEW: so what the program does at its
-start and its end, and the registration of the job, do not count. Callgrind counts each byte that `rep movsb` moves. The functions
-that take most are listed with it, where the program has their names. Ends with status 1 where a reply is not 200, or where the two
-runs do not answer each request.
+start and its end, and the registration of the job, do not count. For jobs it is the same with JOBS of them, of which each goes to the
+node that the others are on. Callgrind counts each byte that `rep movsb` moves. The functions that take most are listed with it, where
+the program has their names. Ends with status 1 where a reply is not 200, or where the two runs do not answer each request.
 """
 
 import argparse
@@ -17,26 +19,46 @@ import subprocess
 import sys
 import tempfile
 
-from driven import jobs, request
+from driven import jobs, nodes, request
 
 FEW = 1_000
+JOBS = 20
+ROOM = 1_000
+BESIDE = (0, 100, 900)
+ASKED_PLACED, AIM_PLACED = 130_000, 80_000
+ASKED_RATIO = 1.5
 LISTED = 20
 ASKED = 6_000
 AIM = 4_000
 OK = b"HTTP/1.1 200 OK\r\n"
 
 
-def counted(program, reads, folder):
-    """The instructions by function of a run of so many reads, or none where a reply is not 200."""
-    source, profile = os.path.join(folder, f"requests{reads}"), os.path.join(folder, f"profile{reads}")
+def reads(number):
+    """The registration of a job, and so many reads of it."""
+    return jobs("web", 1, 50, 1, count=1) + [request("GET", "/v1/job/web-0")] * number
+
+
+def placed(beside):
+    """Nodes with room for many, a job of so many allocations, and so many jobs of one, which go where those are."""
+
+    def requests(number):
+        filled = jobs("other", 1, 50, 1, count=beside) if beside else []
+        return nodes(ROOM) + filled + jobs("web", number, 50, 1, count=1)
+
+    return requests
+
+
+def counted(program, requests, folder, words):
+    """The instructions by function of a run of these requests, or none where a reply is not 200."""
+    source, profile = os.path.join(folder, "requests"), os.path.join(folder, "profile")
     with open(source, "wb") as file:
-        file.writelines(jobs("web", 1, 50, 1, count=1) + [request("GET", "/v1/job/web-0")] * reads)
-    words = ["valgrind", "--tool=callgrind", f"--callgrind-out-file={profile}", program, "pipe", "--bootstrap", "root"]
+        file.writelines(requests)
+    words = ["valgrind", "--tool=callgrind", f"--callgrind-out-file={profile}", program, "pipe", "--bootstrap", "root", *words]
     with open(source, "rb") as given:
         run = subprocess.run(words, stdin=given, capture_output=True, check=True)
     replies, served = run.stdout.count(b"HTTP/1.1 "), run.stdout.count(OK)
-    if replies != reads + 1 or served != replies:
-        print(f"{reads + 1} requests, {replies} replies, {served} of them 200", file=sys.stderr)
+    if replies != len(requests) or served != replies:
+        print(f"{len(requests)} requests, {replies} replies, {served} of them 200", file=sys.stderr)
         return None
     words = ["callgrind_annotate", "--threshold=100", profile]
     lines = subprocess.run(words, capture_output=True, text=True, check=True).stdout.splitlines()
@@ -47,25 +69,53 @@ def counted(program, reads, folder):
     return costs
 
 
+def each_of(program, requests, few, words=()):
+    """What one more request takes, in all and by function, or none where a reply is not 200."""
+    with tempfile.TemporaryDirectory() as folder:
+        once = counted(program, requests(few), folder, words)
+        twice = once and counted(program, requests(2 * few), folder, words)
+    if not twice:
+        return None
+    each = {name: (cost - once.get(name, 0)) / few for name, cost in twice.items()}
+    return each.pop("PROGRAM TOTALS"), each
+
+
+def show(each):
+    for name, cost in sorted(each.items(), key=lambda it: -it[1])[:LISTED]:
+        print(f"{cost:8.0f}  {name}")
+
+
+def show_placed(program):
+    totals = []
+    for beside in BESIDE:
+        found = each_of(program, placed(beside), JOBS, ["--drive"])
+        if found is None:
+            return 1
+        totals.append(found[0])
+        print(f"a job of one allocation on a node that has {beside} others takes {found[0]:.0f} instructions; ", end="")
+        print(f"asked {ASKED_PLACED}, aim {AIM_PLACED}")
+        show(found[1])
+    print(f"on a node of {BESIDE[2]} it takes {totals[2] / totals[1]:.2f} times what it takes on one of {BESIDE[1]}; asked {ASKED_RATIO}")
+    return 0
+
+
 def main():
     parser = argparse.ArgumentParser()
     parser.add_argument("program", nargs="?", default="crates/nsd/out/nsd")
     parser.add_argument("--most", type=int)
+    parser.add_argument("--placed", action="store_true")
     words = parser.parse_args()
     if not os.path.exists(words.program):
         print(f"there is no {words.program} here: build the program first", file=sys.stderr)
         return 2
-    with tempfile.TemporaryDirectory() as folder:
-        once = counted(words.program, FEW, folder)
-        twice = once and counted(words.program, 2 * FEW, folder)
-    if not twice:
+    if words.placed:
+        return show_placed(words.program)
+    found = each_of(words.program, reads, FEW)
+    if found is None:
         return 1
-    each = {name: (cost - once.get(name, 0)) / FEW for name, cost in twice.items()}
-    total = each.pop("PROGRAM TOTALS")
-    print(f"a read of a job takes {total:.0f} instructions; asked {ASKED}, aim {AIM}")
-    for name, cost in sorted(each.items(), key=lambda it: -it[1])[:LISTED]:
-        print(f"{cost:8.0f}  {name}")
-    if words.most is not None and total > words.most:
+    print(f"a read of a job takes {found[0]:.0f} instructions; asked {ASKED}, aim {AIM}")
+    show(found[1])
+    if words.most is not None and found[0] > words.most:
         print(f"that is more than {words.most}", file=sys.stderr)
         return 1
     return 0
