@@ -3,8 +3,9 @@
     python3 bench/instructions.py                  of crates/nsd/out/nsd
     python3 bench/instructions.py PROGRAM          of another program
     python3 bench/instructions.py PROGRAM --most N ends with status 1 where a read takes more than N
-    python3 bench/instructions.py PROGRAM --placed for a job of one allocation, registered and placed, on a node of 1,000 that has no
-                                                   other allocation, 100 others, or 900; and the last beside the second
+    python3 bench/instructions.py PROGRAM --placed for a job of one allocation, registered and placed, on a node that has no other
+                                                   allocation, 100 others, or 900; and the last beside the second
+    python3 bench/instructions.py PROGRAM --placed --nodes N    the same where the pool has N nodes, and not 10
 
 Two runs are counted, of FEW reads and of twice as many, and their difference is divided by FEW: so what the program does at its
 start and its end, and the registration of the job, do not count. For jobs it is the same with JOBS of them, of which each goes to the
@@ -38,12 +39,12 @@ def reads(number):
     return jobs("web", 1, 50, 1, count=1) + [request("GET", "/v1/job/web-0")] * number
 
 
-def placed(beside):
-    """Nodes with room for many, a job of so many allocations, and so many jobs of one, which go where those are."""
+def placed(beside, count):
+    """So many nodes with room for many, a job of so many allocations, and so many jobs of one, which go where those are."""
 
     def requests(number):
         filled = jobs("other", 1, 50, 1, count=beside) if beside else []
-        return nodes(ROOM) + filled + jobs("web", number, 50, 1, count=1)
+        return nodes(ROOM)[:count] + filled + jobs("web", number, 50, 1, count=1)
 
     return requests
 
@@ -85,10 +86,10 @@ def show(each):
         print(f"{cost:8.0f}  {name}")
 
 
-def show_placed(program):
+def show_placed(program, count):
     totals = []
     for beside in BESIDE:
-        found = each_of(program, placed(beside), JOBS, ["--drive"])
+        found = each_of(program, placed(beside, count), JOBS, ["--drive"])
         if found is None:
             return 1
         totals.append(found[0])
@@ -104,12 +105,13 @@ def main():
     parser.add_argument("program", nargs="?", default="crates/nsd/out/nsd")
     parser.add_argument("--most", type=int)
     parser.add_argument("--placed", action="store_true")
+    parser.add_argument("--nodes", type=int, default=10)
     words = parser.parse_args()
     if not os.path.exists(words.program):
         print(f"there is no {words.program} here: build the program first", file=sys.stderr)
         return 2
     if words.placed:
-        return show_placed(words.program)
+        return show_placed(words.program, words.nodes)
     found = each_of(words.program, reads, FEW)
     if found is None:
         return 1
