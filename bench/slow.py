@@ -1,7 +1,7 @@
 """Prints what took a check longest: each crate's time, and of each the modules of a second and more.
 
     python3 bench/slow.py                 all crates that were checked in this repository
-    python3 bench/slow.py ns_held keyed   these crates, every module of half a second and more
+    python3 bench/slow.py ns_work_log keyed   these crates, every module of half a second and more
 
 A check keeps a file for each module that it has finished, one after the other, in `crates/NAME/out/incremental`: so the time between
 two files is what the later one took, where the crate was checked in one run with one job, as `rt all check` does. A module that ends

@@ -1,7 +1,7 @@
 """Tries the wrong bodies `wrong-bodies/CRATE/*.edit`, as the gate tries its own: the prover has to refuse each.
 
     python3 bench/wrong_bodies.py                those that changed since they were last tried, or whose crate did, or one below it
-    python3 bench/wrong_bodies.py ns_held keyed  every one of these crates
+    python3 bench/wrong_bodies.py ns_work_log keyed  every one of these crates
     python3 bench/wrong_bodies.py --anew         every one, also where rt itself keeps what an earlier run on this machine found
     python3 bench/wrong_bodies.py --standing     proves nothing, and takes a second: whether each one can be read and applied,
                                                  those of the gate in `crates/CRATE/must-fail` too

@@ -9,10 +9,10 @@ use Rattle.ns_types.proofs.Tables.{table_of-empty, table_of-insert}
 use Rattle.ns_types.specs.State.Names.{ByName, default_name}
 use Rattle.ns_types.specs.State.Tables.{table_of}
 use Rattle.ns_types.specs.Steps.{opening_pool, opening_tenant, opening_world}
-use Rattle.ns_world.specs.declared.tables.PoolRows.{PoolRows}
-use Rattle.ns_world.specs.declared.tables.Tables.{Tables}
-use Rattle.ns_world.specs.declared.tables.TenantRows.{TenantRows}
-use Rattle.ns_world.specs.World.{pool_of, quota_of, tenant_of, world_of}
+use Rattle.ns_tables.specs.declared.tables.PoolRows.{PoolRows}
+use Rattle.ns_tables.specs.declared.tables.Tables.{Tables}
+use Rattle.ns_tables.specs.declared.tables.TenantRows.{TenantRows}
+use Rattle.ns_tables.specs.World.{pool_of, quota_of, tenant_of, world_of}
 
 -- the one row of a table
 one_row : {X Y : Type 0} (f : X → Y) (m : ByName X) (x : X) (y : Y) → m ≡ insert empty default_name x → f x ≡ y →

@@ -16,16 +16,16 @@ use Rattle.ns_types.specs.State.Rows.{Tenant, World, is_live}
 use Rattle.ns_types.specs.Working.Commit.{quota_named}
 use Rattle.ns_types.proofs.Named.{names, numbers, one_number, same_name_is}
 use Rattle.ns_types.proofs.TableRows.{entries_empty}
-use Rattle.ns_live.specs.declared.live.Live.{Live}
-use Rattle.ns_live.specs.Naming.{AreKept, AreNamed, HoldsSame, PutsQuota, use_in, with_quota, with_use}
-use Rattle.ns_live.proofs.QuotaLevels.{with_here}
-use Rattle.ns_live.proofs.Totals.{are_still_kept, free_moved}
+use Rattle.ns_live_index.specs.declared.live.Live.{Live}
+use Rattle.ns_live_index.specs.Naming.{AreKept, AreNamed, HoldsSame, PutsQuota, use_in, with_quota, with_use}
+use Rattle.ns_live_index.proofs.QuotaLevels.{with_here}
+use Rattle.ns_live_index.proofs.Totals.{are_still_kept, free_moved}
 use Rattle.ns_types.proofs.Amounts.{none_total}
-use Rattle.ns_world.specs.Allocations.{IsTotalOf, rows_use}
+use Rattle.ns_tables.specs.Allocations.{IsTotalOf, rows_use}
 use Rattle.ns_types.specs.State.Resources.{IsTotal}
-use Rattle.ns_world.specs.declared.tables.Tables.{Tables}
-use Rattle.ns_world.specs.declared.tables.TenantRows.{TenantRows}
-use Rattle.ns_world.specs.World.{world_of}
+use Rattle.ns_tables.specs.declared.tables.Tables.{Tables}
+use Rattle.ns_tables.specs.declared.tables.TenantRows.{TenantRows}
+use Rattle.ns_tables.specs.World.{world_of}
 use Rattle.ns_admin.specs.Recorded.{Writes}
 use Rattle.ns_admin.specs.Viewed.{with_namespace_put, without_namespace}
 use Rattle.ns_admin.proofs.World.{tenant_is}

@@ -5,8 +5,8 @@ use Rattle.std.specs.Result.{IsErrAnd}
 use Rattle.ns_types.specs.declared.refusal.Refusal.{Refusal}
 use Rattle.ns_types.specs.Settling.Outcome.{Outcome, is_done}
 use Rattle.ns_types.specs.State.Rows.{World}
-use Rattle.ns_world.specs.declared.tables.Tables.{Tables}
-use Rattle.ns_world.specs.World.{world_of}
+use Rattle.ns_tables.specs.declared.tables.Tables.{Tables}
+use Rattle.ns_tables.specs.World.{world_of}
 use Rattle.ns_admin.specs.declared.record.RecordChange.{RecordChange}
 use Rattle.ns_admin.specs.Recorded.{PreparesRecord}
 

@@ -10,8 +10,8 @@ use Rattle.ns_types.specs.Asking.Admins.{is_pool_in_use, looks_to_pool, names_po
 use Rattle.ns_types.specs.State.Names.{Name, same_name}
 use Rattle.ns_types.specs.State.Rows.{Tenant}
 use Rattle.ns_types.specs.State.Tables.{any_row}
-use Rattle.ns_world.specs.declared.tables.Tables.{Tables}
-use Rattle.ns_world.specs.World.{tenant_of, world_of}
+use Rattle.ns_tables.specs.declared.tables.Tables.{Tables}
+use Rattle.ns_tables.specs.World.{tenant_of, world_of}
 use Rattle.ns_admin.specs.Viewed.{overlaps_other, tenant_uses_pool}
 
 module _ (t : Tables) where

@@ -5,8 +5,8 @@ use Rattle.keyed.specs.Table.{row_list}
 use Rattle.keyed.proofs.Viewing.{listed, listed_all}
 use Rattle.ns_types.specs.State.Names.{Name}
 use Rattle.ns_types.specs.State.Rows.{Tenant, PoolRows, QuotaRows}
-use Rattle.ns_world.specs.declared.tables.Tables.{Tables}
-use Rattle.ns_world.specs.World.{pool_of, quota_of, tenant_of, world_of}
+use Rattle.ns_tables.specs.declared.tables.Tables.{Tables}
+use Rattle.ns_tables.specs.World.{pool_of, quota_of, tenant_of, world_of}
 
 module _ {S : Type 0} (t : Tables) where
   pub tenants_shown : (passes : Name → Bool) (show : Name × Tenant → S)

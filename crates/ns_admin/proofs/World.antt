@@ -10,12 +10,12 @@ use Rattle.ns_types.specs.Asking.Admins.{is_full, new_tenant, with_namespace, wi
 use Rattle.ns_types.specs.Settling.Making.{put_pool, put_tenant}
 use Rattle.ns_types.specs.State.Names.{Name, name_cmp}
 use Rattle.ns_types.proofs.Tests.{some_mapped}
-use Rattle.ns_world.specs.declared.tables.PoolRows.{PoolRows}
-use Rattle.ns_world.specs.declared.tables.QuotaRows.{QuotaRows}
-use Rattle.ns_world.specs.declared.tables.Tables.{Tables}
-use Rattle.ns_world.specs.declared.tables.TenantRows.{TenantRows}
-use Rattle.ns_world.specs.World.{pool_of, quota_of, tenant_of, world_of}
-use Rattle.ns_world.proofs.World.{pool_at, tenant_at}
+use Rattle.ns_tables.specs.declared.tables.PoolRows.{PoolRows}
+use Rattle.ns_tables.specs.declared.tables.QuotaRows.{QuotaRows}
+use Rattle.ns_tables.specs.declared.tables.Tables.{Tables}
+use Rattle.ns_tables.specs.declared.tables.TenantRows.{TenantRows}
+use Rattle.ns_tables.specs.World.{pool_of, quota_of, tenant_of, world_of}
+use Rattle.ns_tables.proofs.World.{pool_at, tenant_at}
 use Rattle.ns_admin.specs.Viewed.{with_quota_written}
 use Rattle.ns_admin.proofs.Written.{found_at, full_at, shown-remove, shown-set, shown-written}
 

@@ -7,8 +7,8 @@ use Rattle.keyed.specs.Table.{row_list}
 use Rattle.ns_types.specs.declared.reply.Content.{Content}
 use Rattle.ns_types.specs.State.Names.{Name}
 use Rattle.ns_types.specs.State.Rows.{World}
-use Rattle.ns_world.specs.declared.tables.Tables.{Tables}
-use Rattle.ns_world.specs.World.{world_of}
+use Rattle.ns_tables.specs.declared.tables.Tables.{Tables}
+use Rattle.ns_tables.specs.World.{world_of}
 
 -- the closure answers whether a name passes
 abbrev pub Tests : {F : Type 0} → Shared F (Bor Name × Unit {0}) Bool → F → (Name → Bool) → Type 0

@@ -6,8 +6,8 @@ use Rattle.ns_types.specs.declared.refusal.Refusal.{Refusal}
 use Rattle.ns_types.specs.declared.reply.Content.TheVariants as Content
 use Rattle.ns_types.specs.Settling.Outcome.{Outcome, Refused, Done, is_done}
 use Rattle.ns_types.specs.State.Rows.{World}
-use Rattle.ns_world.specs.declared.tables.Tables.{Tables}
-use Rattle.ns_world.specs.World.{world_of}
+use Rattle.ns_tables.specs.declared.tables.Tables.{Tables}
+use Rattle.ns_tables.specs.World.{world_of}
 use Rattle.ns_admin.specs.declared.record.RecordChange.{RecordChange}
 use Rattle.ns_admin.specs.Viewed.{with_namespace_put, with_pool_put, with_quota_put, without_namespace}
 

@@ -9,7 +9,7 @@ use Rattle.ns_types.specs.State.Rows.{World, Tenant, is_held, is_open}
 use Rattle.ns_types.specs.State.Tables.{any_row}
 use Rattle.ns_types.specs.Working.Worker.{Worker}
 use Rattle.ns_types.specs.Access.Sharing.{intrudes, stays_within}
-use Rattle.ns_world.specs.declared.tables.TenantRows.{TenantRows}
+use Rattle.ns_tables.specs.declared.tables.TenantRows.{TenantRows}
 
 -- ---- in a namespace
 

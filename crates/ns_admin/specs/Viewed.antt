@@ -21,10 +21,10 @@ use Rattle.ns_types.specs.State.Names.{Name, same_name}
 use Rattle.ns_types.specs.State.Rows.{World, Tenant, QuotaRows, is_live, is_open}
 use Rattle.ns_types.specs.State.Sums.{names_quota}
 use Rattle.ns_types.specs.State.Tables.{any_row}
-use Rattle.ns_world.specs.declared.tables.PoolRows.{PoolRows}
-use Rattle.ns_world.specs.declared.tables.QuotaRows.{QuotaRows as StoredQuota}
-use Rattle.ns_world.specs.declared.tables.TenantRows.{TenantRows}
-use Rattle.ns_world.specs.World.{tenant_of}
+use Rattle.ns_tables.specs.declared.tables.PoolRows.{PoolRows}
+use Rattle.ns_tables.specs.declared.tables.QuotaRows.{QuotaRows as StoredQuota}
+use Rattle.ns_tables.specs.declared.tables.TenantRows.{TenantRows}
+use Rattle.ns_tables.specs.World.{tenant_of}
 
 -- ---- changes of a row
 

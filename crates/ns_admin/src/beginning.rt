@@ -4,16 +4,16 @@ ghost use Rattle.std.specs.Prelude.{◌≡◌, IfOk};
 ghost use Rattle.std.specs.FinMap.{empty, insert};
 ghost use Rattle.keyed.specs.Table.{rows};
 ghost use Rattle.ns_types.specs.Steps.{opening_pool, opening_tenant, opening_world};
-ghost use Rattle.ns_world.specs.World.{pool_of, tenant_of, world_of};
+ghost use Rattle.ns_tables.specs.World.{pool_of, tenant_of, world_of};
 
 use crate::looking::DEFAULT;
 use crate::namespaces::new_tenant;
 use crate::pools::new_pool;
 use keyed::{Bounded, KeyQueue, NameTable, OwnerTable};
+use ns_tables::{PoolRows, Tables, TenantRows};
 use ns_types::records::{Namespace, Pool};
 use ns_types::rows::Rows;
 use ns_types::text::Text;
-use ns_world::{PoolRows, Tables, TenantRows};
 use std::alloc::{AllocError, Global};
 
 fn opening_tenant(alloc: Global) -> Result<TenantRows, AllocError>

@@ -5,7 +5,7 @@ ghost use Rattle.std.specs.Prelude.{◌≡◌, option_copied};
 ghost use Rattle.ns_types.specs.Isolation.{lacks_room};
 ghost use Rattle.ns_types.specs.Access.Sharing.{has_pool, is_apart, namespace_at, stays_within, strays_from};
 ghost use Rattle.ns_admin.specs.Straying.{stays_there};
-ghost use Rattle.ns_world.specs.World.{tenant_of, world_of};
+ghost use Rattle.ns_tables.specs.World.{tenant_of, world_of};
 
 mod intruding;
 mod straying;
@@ -16,10 +16,10 @@ use crate::confinement::straying::{
     has_allocation_astray, has_evaluation_astray, has_worker_astray,
 };
 use crate::{is_confined, is_full, permits_in};
+use ns_tables::{Tables, TenantRows};
 use ns_types::records::Namespace;
 use ns_types::step::{AdminCommand, Step};
 use ns_types::text::Text;
-use ns_world::{Tables, TenantRows};
 
 /// Whether the namespace is there and may use the pool, which need not exist.
 pub fn permits(tables: &Tables, namespace: &Text, pool: &Text) -> bool

@@ -11,18 +11,18 @@ ghost use Rattle.ns_types.specs.State.Tables.{any_row};
 ghost use Rattle.ns_admin.specs.Asked.{passes};
 ghost use Rattle.ns_admin.specs.Viewed.{has_job_in, has_kept_in, has_live_in, has_open_in, has_work};
 ghost use Rattle.ns_admin.specs.Viewed.{is_unfinished, job_in, kept_in, live_in, lives, open_in};
-ghost use Rattle.ns_world.specs.World.{tenant_of};
+ghost use Rattle.ns_tables.specs.World.{tenant_of};
 
 use crate::sharing::{is_withdrawn, same_quota};
 use keyed::NameTable;
-use ns_alike::same_text;
+use ns_equality::same_text;
+use ns_tables::TenantRows;
 use ns_types::allocation::Allocation;
 use ns_types::evaluation::{Evaluation, Status};
 use ns_types::job::Job;
 use ns_types::records::Namespace;
 use ns_types::text::Text;
 use ns_types::worker::Worker;
-use ns_world::TenantRows;
 
 type JobSlot = (Text, Option<Job>);
 

@@ -5,13 +5,13 @@ ghost use Rattle.keyed.specs.Table.{row_list};
 ghost use Rattle.ns_types.specs.Asking.Admins.{list_namespaces, list_pools, list_quotas};
 ghost use Rattle.ns_admin.specs.Calls.{ListsPassing, ShowsPassing};
 ghost use Rattle.ns_admin.specs.Viewed.{namespace_shown, pool_shown, quota_shown};
-ghost use Rattle.ns_world.specs.World.{world_of};
+ghost use Rattle.ns_tables.specs.World.{world_of};
 
 use crate::looking::Slot;
+use ns_tables::{PoolRows, QuotaRows, Tables, TenantRows};
 use ns_types::reply::{Content, NamespaceShown, PoolShown, QuotaShown};
 use ns_types::rows::Rows;
 use ns_types::text::Text;
-use ns_world::{PoolRows, QuotaRows, Tables, TenantRows};
 use std::alloc::{AllocError, Global};
 
 /// A row that lists by name show.

@@ -8,14 +8,14 @@ ghost use Rattle.ns_types.specs.Access.Sharing.{shares};
 ghost use Rattle.ns_types.specs.Asking.Admins.{is_full};
 ghost use Rattle.ns_types.specs.State.Names.{default_name, same_name};
 ghost use Rattle.ns_admin.specs.Viewed.{is_confined_in, overlaps_other, permits_in};
-ghost use Rattle.ns_world.specs.World.{world_of};
+ghost use Rattle.ns_tables.specs.World.{world_of};
 
 use crate::sharing::{is_confined, overlaps, permits};
 use keyed::NameTable;
-use ns_alike::same_text;
+use ns_equality::same_text;
+use ns_tables::{Tables, TenantRows};
 use ns_types::records::Namespace;
 use ns_types::text::Text;
-use ns_world::{Tables, TenantRows};
 
 /// The name of the namespace and of the pool that are there from the start.
 pub(crate) const DEFAULT: &str = "default";

@@ -6,17 +6,17 @@ ghost use Rattle.std.specs.FinMap.{contains_key};
 ghost use Rattle.ns_types.specs.Asking.Admins.{delete_namespace, lacks_allowed, lacks_quota, new_tenant, put_namespace};
 ghost use Rattle.ns_admin.specs.Recorded.{PreparesRecord};
 ghost use Rattle.ns_admin.specs.Viewed.{forbids_in};
-ghost use Rattle.ns_world.specs.World.{tenant_of, world_of};
+ghost use Rattle.ns_tables.specs.World.{tenant_of, world_of};
 
 use crate::held::{forbids_put, has_work};
 use crate::looking::{has_pool, is_default, is_full};
 use crate::record::RecordChange;
 use keyed::{NameTable, NumberTable};
+use ns_tables::events::Events;
+use ns_tables::{AllocationTable, EvaluationTable, Tables, TenantRows};
 use ns_types::records::Namespace;
 use ns_types::refusal::{Member, Refusal};
 use ns_types::text::Text;
-use ns_world::events::Events;
-use ns_world::{AllocationTable, EvaluationTable, Tables, TenantRows};
 use std::alloc::{AllocError, Global};
 
 /// Whether the namespace names a quota that is not there.

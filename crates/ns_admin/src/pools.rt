@@ -7,17 +7,17 @@ ghost use Rattle.ns_types.specs.Asking.Admins.{delete_pool, is_pool_in_use, put_
 ghost use Rattle.ns_types.specs.State.Tables.{any_row};
 ghost use Rattle.ns_admin.specs.Recorded.{PreparesRecord};
 ghost use Rattle.ns_admin.specs.Viewed.{tenant_uses_pool};
-ghost use Rattle.ns_world.specs.World.{pool_of, world_of};
+ghost use Rattle.ns_tables.specs.World.{pool_of, world_of};
 
 use crate::held::{Asked, has_rows, looks_to_pool};
 use crate::looking::{Slot, is_default, is_full};
 use crate::record::RecordChange;
 use crate::sharing::names_pool;
 use keyed::{NameTable, Series};
+use ns_tables::{PoolRows, Tables, TenantRows};
 use ns_types::records::Pool;
 use ns_types::refusal::Refusal;
 use ns_types::text::Text;
-use ns_world::{PoolRows, Tables, TenantRows};
 use std::alloc::Global;
 
 fn uses_pool(slot: &Slot<TenantRows>, pool: &Text) -> bool

@@ -9,20 +9,20 @@ ghost use Rattle.ns_change.specs.Changed.{with_record};
 ghost use Rattle.ns_change.specs.Prepared.{Prepares, bounded};
 ghost use Rattle.ns_admin.specs.Recorded.{PreparesRecord};
 ghost use Rattle.ns_admin.specs.Viewed.{content_of_quota};
-ghost use Rattle.ns_live.specs.Naming.{AreNamed};
-ghost use Rattle.ns_world.specs.World.{world_of};
+ghost use Rattle.ns_live_index.specs.Naming.{AreNamed};
+ghost use Rattle.ns_tables.specs.World.{world_of};
 
 use crate::looking::is_full;
 use crate::record::RecordChange;
-use ns_alike::changes_limits;
-use ns_bounds::given_limits_pass;
 use ns_change::{Change, Prepared, prepare};
-use ns_live::Live;
+use ns_counters::given_limits_pass;
+use ns_equality::changes_limits;
+use ns_live_index::Live;
+use ns_tables::Tables;
 use ns_types::records::Quota;
 use ns_types::refusal::Refusal;
 use ns_types::reply::{Content, QuotaShown};
 use ns_types::text::Text;
-use ns_world::Tables;
 use std::alloc::AllocError;
 
 fn content_of_quota(name: &Text, quota: &Quota) -> Result<Content, AllocError>

@@ -7,7 +7,7 @@ ghost use Rattle.ns_types.specs.Access.Sharing.{is_confined, overlaps, permits, 
 ghost use Rattle.ns_types.specs.State.Sums.{names_quota};
 ghost use Rattle.ns_admin.specs.Viewed.{shares_quota};
 
-use ns_alike::{has_name, same_text};
+use ns_equality::{has_name, same_text};
 use ns_types::records::Namespace;
 use ns_types::text::Text;
 

@@ -5,18 +5,18 @@ ghost use Rattle.keyed.specs.Table.{row_at};
 ghost use Rattle.ns_admin.specs.Recorded.{Writes, recorded};
 ghost use Rattle.ns_admin.specs.Viewed.{with_namespace_put, with_pool_put, with_quota_put};
 ghost use Rattle.ns_admin.specs.Viewed.{without_namespace};
-ghost use Rattle.ns_live.specs.Naming.{AreNamed, HasNameRoom, KeepsNodes, use_in};
+ghost use Rattle.ns_live_index.specs.Naming.{AreNamed, HasNameRoom, KeepsNodes, use_in};
 ghost use Rattle.ns_types.specs.State.Resources.{IsTotal};
-ghost use Rattle.ns_world.specs.World.{world_of};
+ghost use Rattle.ns_tables.specs.World.{world_of};
 
 use crate::namespaces::new_tenant;
 use crate::pools::new_pool;
 use crate::record::RecordChange;
-use ns_live::Live;
+use ns_live_index::Live;
+use ns_tables::{QuotaRows, Tables};
 use ns_types::records::{Namespace, Pool, Quota};
 use ns_types::resources::{Resources, none};
 use ns_types::text::Text;
-use ns_world::{QuotaRows, Tables};
 use std::alloc::AllocError;
 
 /// Writes the record over what the namespace has, and holds the namespace at its quota. It takes no memory.

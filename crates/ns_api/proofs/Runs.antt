@@ -11,8 +11,8 @@ use Rattle.ns_types.specs.Wire.Responses
 use Rattle.ns_types.specs.Wire.Responses.{Exchange}
 use Rattle.ns_steps.specs.Chains.{Chain}
 use Rattle.ns_steps.proofs.Chains.{is_run, join, one}
-use Rattle.ns_asked.specs.Asking.{asked}
-use Rattle.ns_asked.specs.Drawing.{DrawsFor}
+use Rattle.ns_endpoints.specs.Asking.{asked}
+use Rattle.ns_endpoints.specs.Drawing.{DrawsFor}
 use Rattle.ns_api.specs.Answering.{AnswersAsked, AnswersOrWants, AnswersRefused, AnswersRequest, Answers, Holding, MakesNone, MakesOwn, Made, RunsAs}
 
 module _ {S D : Type 0} (state : S → State) (notes : S → Step → Answer → S → Type 0) (lacks : S → Refusal → Type 0)

@@ -9,8 +9,8 @@ use Rattle.ns_types.specs.declared.reply.Rendered.{Rendered}
 use Rattle.ns_types.specs.declared.reply.Response.{Response}
 use Rattle.ns_types.specs.Wire.Refused.{refused}
 use Rattle.ns_types.specs.Wire.Responses.{rendered_of}
-use Rattle.ns_held.specs.Logs.{History, IsNoted}
-use Rattle.ns_held.specs.Rendered.{LogsRendered}
+use Rattle.ns_work_log.specs.Logs.{History, IsNoted}
+use Rattle.ns_work_log.specs.Rendered.{LogsRendered}
 use Rattle.ns_steps.specs.Served.{IsServed, is_reading}
 use Rattle.ns_steps.proofs.Telling.{reading_rests, served_decides}
 use Rattle.ns_api.specs.Answering.{AnswersOrWants, IsWanting}

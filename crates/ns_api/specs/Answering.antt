@@ -11,8 +11,8 @@ use Rattle.ns_types.specs.Steps.{Answer, Run}
 use Rattle.ns_types.specs.Wire.Responses.{Exchange, refusal_of}
 use Rattle.ns_steps.specs.Chains.{Chain, IsMade}
 use Rattle.ns_json.specs.Replies.{rendered}
-use Rattle.ns_asked.specs.Asking.{asked}
-use Rattle.ns_asked.specs.Drawing.{DrawsFor}
+use Rattle.ns_endpoints.specs.Asking.{asked}
+use Rattle.ns_endpoints.specs.Drawing.{DrawsFor}
 
 -- what is served: the server, what draws random bits, and what is done after each request
 pub record Holding (S D F : Type 0) : Type 0 where

@@ -6,8 +6,8 @@ use Rattle.ns_types.specs.State.Rows.{State}
 use Rattle.ns_types.specs.Steps.{Answer, opening}
 use Rattle.ns_types.specs.Wire.Http.{End}
 use Rattle.ns_core.specs.Lacking.{CoreLacks}
-use Rattle.ns_held.specs.Lacking.{HeldLacks}
-use Rattle.ns_held.specs.Logs.{History, IsNoted}
+use Rattle.ns_work_log.specs.Lacking.{HeldLacks}
+use Rattle.ns_work_log.specs.Logs.{History, IsNoted}
 use Rattle.ns_http.specs.Conversation.{Streams}
 use Rattle.ns_api.specs.declared.following.Driver.{Driver}
 use Rattle.ns_api.specs.Answering.{Holding}

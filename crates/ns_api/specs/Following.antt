@@ -4,10 +4,10 @@ use Rattle.ns_types.specs.declared.refusal.Refusal.{Refusal}
 use Rattle.ns_types.specs.declared.step.Step.{Step}
 use Rattle.ns_types.specs.State.Rows.{State}
 use Rattle.ns_types.specs.Steps.{Answer}
-use Rattle.ns_drive.specs.declared.kept.Kept.{Kept}
-use Rattle.ns_drive.specs.declared.stopping.Stop.{Stop}
-use Rattle.ns_drive.specs.Driving.{Drives}
-use Rattle.ns_drive.specs.Kept.{seen_of}
+use Rattle.ns_driver.specs.declared.kept.Kept.{Kept}
+use Rattle.ns_driver.specs.declared.stopping.Stop.{Stop}
+use Rattle.ns_driver.specs.Driving.{Drives}
+use Rattle.ns_driver.specs.Kept.{seen_of}
 use Rattle.ns_api.specs.declared.following.Driven.{Driven}
 use Rattle.ns_api.specs.declared.following.Driver.{Driver}
 

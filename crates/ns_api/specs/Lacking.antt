@@ -2,7 +2,7 @@
 use Rattle.std.specs.Prelude.{◌≡◌}
 use Rattle.ns_types.specs.declared.refusal.Refusal.{Refusal}
 use Rattle.ns_types.specs.declared.refusal.Refusal.TheVariants.{LogFull}
-use Rattle.ns_held.specs.Logs.{History, IsFull}
+use Rattle.ns_work_log.specs.Logs.{History, IsFull}
 
 abbrev pub LacksNothing : {S : Type 0} → S → Refusal → Type 0
 LacksNothing s refusal = ⊥

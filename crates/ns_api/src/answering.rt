@@ -6,10 +6,10 @@ ghost use Rattle.ns_http.specs.Head;
 ghost use Rattle.ns_steps.specs.Served.{IsServed};
 ghost use Rattle.ns_api.specs.Answering.{AnswersAsked, AnswersOrWants, AnswersRequest};
 ghost use Rattle.ns_api.specs.Serving.{held};
-ghost use Rattle.ns_asked.specs.Wanted.{draft_step, IsServedDraft};
+ghost use Rattle.ns_endpoints.specs.Wanted.{draft_step, IsServedDraft};
 
 use crate::following::Follows;
-use ns_asked::{Draft, Draws, asked, drawn};
+use ns_endpoints::{Draft, Draws, asked, drawn};
 use ns_http::{Answer, Request};
 use ns_request::Routes;
 use ns_steps::chain::Server;

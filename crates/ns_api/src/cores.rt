@@ -8,12 +8,12 @@ ghost use Rattle.ns_api.specs.Following.{driver_of};
 use crate::answering::{Api, Takes};
 use crate::following::{Driven, Driver};
 use crate::responding::respond;
-use ns_asked::Draws;
 use ns_core::Core;
-use ns_held::Held;
+use ns_endpoints::Draws;
 use ns_types::name::Secret;
 use ns_types::reply::Response;
 use ns_types::step::Step;
+use ns_work_log::Held;
 use std::alloc::{AllocError, Global};
 
 impl Takes for Core {

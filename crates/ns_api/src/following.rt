@@ -6,7 +6,7 @@ ghost use Rattle.ns_types.specs.Steps.{Answer};
 ghost use Rattle.ns_steps.specs.Chains.{Chain};
 ghost use Rattle.ns_api.specs.Following.{driver_of};
 
-use ns_drive::{Kept, Works, drive};
+use ns_driver::{Kept, Works, drive};
 use ns_steps::chain::Server;
 use std::alloc::Global;
 

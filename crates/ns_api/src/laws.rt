@@ -6,7 +6,7 @@ ghost use Rattle.ns_api.specs.Answering.{Answers, Holding, RunsAs};
 
 use crate::answering::Takes;
 use crate::following::Follows;
-use ns_asked::Draws;
+use ns_endpoints::Draws;
 
 /// What a connection was answered, one request after the other, is a chain of steps, and so a run of the model: the steps
 /// that its requests ask for, in their order, but for those that were refused without a step, and after each those that

@@ -8,7 +8,7 @@ ghost use Rattle.ns_api.specs.Serving.{holding, Served, ServedInPart};
 
 use crate::answering::{Api, Takes};
 use crate::following::Follows;
-use ns_asked::Draws;
+use ns_endpoints::Draws;
 use ns_http::{ConnFault, Counted, READ_LIMIT, READ_ROOM};
 use std::alloc::Allocator;
 use std::io::{Read, Write};

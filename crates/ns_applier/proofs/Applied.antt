@@ -21,8 +21,8 @@ use Rattle.ns_types.proofs.Named.{names, one_name}
 use Rattle.ns_types.proofs.TableRows.{any_row-alike}
 use Rattle.ns_types.proofs.Tables.{none_of_any}
 use Rattle.ns_release.proofs.Rooms.{any_row-at}
-use Rattle.ns_bounds.specs.Bounds.{is_at_bound, is_last_index}
-use Rattle.ns_bounds.proofs.Bounded.{any_named, any_row-either, any_with, any_chosen}
+use Rattle.ns_counters.specs.Bounds.{is_at_bound, is_last_index}
+use Rattle.ns_counters.proofs.Bounded.{any_named, any_row-either, any_with, any_chosen}
 use Rattle.ns_types.specs.Working.Parts.{goes_to}
 use Rattle.ns_applier.specs.HeadroomApplying.{Doing, PassesByApply, apply_raise, does_something, ended_keys, evaluations_pass}
 use Rattle.ns_applier.specs.HeadroomApplying.{losing_in, own_passes, own_passes_in, place_passes, place_passes_on, places_on, stop_passes, victim_key}

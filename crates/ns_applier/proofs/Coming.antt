@@ -14,8 +14,8 @@ use Rattle.ns_types.specs.Working.Commit.{Applied, applied, commit, done, evicte
 use Rattle.ns_types.specs.Working.Worker.{Worker}
 use Rattle.ns_types.proofs.Lists.{not_both}
 use Rattle.ns_applier.proofs.Judged.{room_is_left}
-use Rattle.ns_apply.specs.Whole.{CanWrite}
-use Rattle.ns_apply.specs.Writing.{placed_on}
+use Rattle.ns_plan_result.specs.Whole.{CanWrite}
+use Rattle.ns_plan_result.specs.Writing.{placed_on}
 use Rattle.ns_applier.specs.HeadroomApplying.{apply_passes}
 use Rattle.ns_applier.specs.Judging.{doing, live_numbers}
 use Rattle.ns_plan.specs.Looks.{Decision, IsChecked, decision_of}

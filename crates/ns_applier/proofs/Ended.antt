@@ -27,7 +27,7 @@ use Rattle.ns_types.proofs.Tables.{tied}
 use Rattle.ns_types.proofs.Tests.{or_none}
 use Rattle.ns_release.specs.Released.{at_room, quota_left, releases_wake, releases_wake_at, room_at, room_left, woken_by}
 use Rattle.ns_release.proofs.Rooms.{any_and, any_image, any_none, any_row-at, any_swap}
-use Rattle.ns_bounds.proofs.Bounded.{any_named, any_with}
+use Rattle.ns_counters.proofs.Bounded.{any_named, any_with}
 use Rattle.ns_types.specs.Working.Parts.{lives_at}
 use Rattle.ns_applier.specs.Releasing.{EndsAlone}
 use Rattle.ns_applier.proofs.Keys.{any_row-keys}

@@ -16,7 +16,7 @@ use Rattle.ns_types.proofs.Elements.{filter_shorter}
 use Rattle.ns_types.proofs.Lists.{left_none, not_both, right_none}
 use Rattle.ns_types.proofs.Named.{one_number, same_name_is, same_name_refl, second_of_both}
 use Rattle.ns_types.proofs.Tables.{tied}
-use Rattle.ns_bounds.specs.Bounds.{is_at_bound, is_last_index}
+use Rattle.ns_counters.specs.Bounds.{is_at_bound, is_last_index}
 use Rattle.ns_applier.specs.HeadroomApplying.{place_passes, place_passes_on, places_on}
 use Rattle.ns_types.specs.Working.Parts.{goes_to, placed_on}
 use Rattle.ns_applier.specs.Judging.{allocations_pass, committed_passes, node_passes}

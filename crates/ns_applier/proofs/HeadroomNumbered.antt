@@ -19,8 +19,8 @@ use Rattle.ns_types.proofs.TableRows.{any_row-alike}
 use Rattle.ns_types.proofs.Tables.{none_of_any}
 use Rattle.ns_types.proofs.Tests.{same_Some}
 use Rattle.ns_release.proofs.Model.{wake_pools, wake_quotas}
-use Rattle.ns_bounds.specs.Bounds.{is_at_bound, quota_passes, room_passes}
-use Rattle.ns_bounds.proofs.Bounded.{any_row-either, any_row-mapped, any_chosen}
+use Rattle.ns_counters.specs.Bounds.{is_at_bound, quota_passes, room_passes}
+use Rattle.ns_counters.proofs.Bounded.{any_row-either, any_row-mapped, any_chosen}
 use Rattle.ns_applier.specs.Passing.{places_past}
 use Rattle.ns_applier.specs.Releasing.{EndsAlone}
 use Rattle.ns_applier.proofs.Ended.{pool_is, quota_is, quotas, rooms}

@@ -11,7 +11,7 @@ use Rattle.ns_types.proofs.Elements.{any_same}
 use Rattle.ns_types.proofs.Lists.{any_alike, each_map}
 use Rattle.ns_types.proofs.Named.{numbers, one_number}
 use Rattle.ns_release.proofs.Rooms.{any_and, any_row-at, any_swap}
-use Rattle.ns_bounds.proofs.Bounded.{any_with}
+use Rattle.ns_counters.proofs.Bounded.{any_with}
 use Rattle.ns_types.proofs.Once.{each_member}
 use Rattle.std.proofs.Math.Bool.{and_assoc}
 

@@ -13,7 +13,7 @@ use Rattle.ns_change.specs.declared.change.Prepared.{Prepared}
 use Rattle.ns_change.specs.Changed.{view}
 use Rattle.ns_change.specs.Prepared.{Prepares, bounded}
 use Rattle.ns_change.proofs.Making.{does, refuses}
-use Rattle.ns_world.specs.declared.tables.Tables.{Tables}
+use Rattle.ns_tables.specs.declared.tables.Tables.{Tables}
 
 module _ (worker : ℕ) (ns : Name) (s : State) where
   apply_acts : act (Step.Apply worker ns) s ≡ lift (with_world s.acl) (apply worker ns s.world)

@@ -15,10 +15,10 @@ use Rattle.ns_types.proofs.Tests.{or_none}
 use Rattle.ns_release.specs.Released.{at_room, releases_wake_at, woken_by}
 use Rattle.ns_release.proofs.Rooms.{any_and, any_none, any_swap}
 use Rattle.ns_release.proofs.Together.{wakes_by_each, wakes_by_quotas}
-use Rattle.ns_bounds.proofs.Each.{split_middle}
-use Rattle.ns_bounds.specs.Bounds.{is_at_bound, quota_passes, room_passes, shows_awake}
-use Rattle.ns_bounds.specs.Given.{given_limits_pass, given_room_passes, given_waking_passes, given_waking_passes_in}
-use Rattle.ns_bounds.proofs.Bounded.{any_with}
+use Rattle.ns_counters.proofs.Each.{split_middle}
+use Rattle.ns_counters.specs.Bounds.{is_at_bound, quota_passes, room_passes, shows_awake}
+use Rattle.ns_counters.specs.Given.{given_limits_pass, given_room_passes, given_waking_passes, given_waking_passes_in}
+use Rattle.ns_counters.proofs.Bounded.{any_with}
 use Rattle.std.proofs.Math.Bool.{and-false}
 
 module _ (w : World) where

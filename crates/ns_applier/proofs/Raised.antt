@@ -17,9 +17,9 @@ use Rattle.ns_types.proofs.Elements.{any_same}
 use Rattle.ns_types.proofs.Lists.{not_both}
 use Rattle.ns_types.proofs.Named.{names, one_name}
 use Rattle.ns_types.proofs.Tables.{any_row-none, none_of_any}
-use Rattle.ns_bounds.specs.Bounds.{is_at_bound}
-use Rattle.ns_bounds.specs.Given.{given_room_passes}
-use Rattle.ns_bounds.proofs.Bounded.{any_row-either}
+use Rattle.ns_counters.specs.Bounds.{is_at_bound}
+use Rattle.ns_counters.specs.Given.{given_room_passes}
+use Rattle.ns_counters.proofs.Bounded.{any_row-either}
 use Rattle.ns_applier.specs.Passing.{end_passes, index_passes, indexes_pass, is_number_past, left_quota_passes, left_room_passes, numbers_past, places_past}
 use Rattle.ns_applier.specs.Raising.{PassesByCounts, Raise, Raises, places_pass, raise_passes, raises_pass, with_places}
 use Rattle.ns_applier.specs.Releasing.{EndsAlone}

@@ -17,8 +17,8 @@ use Rattle.ns_types.proofs.Elements.{any_flat, any_same}
 use Rattle.ns_types.proofs.Lists.{left_none, right_none}
 use Rattle.ns_types.proofs.Tests.{or_none}
 use Rattle.ns_release.specs.Released.{in_pool, quota_left, room_at, room_left}
-use Rattle.ns_bounds.specs.Bounds.{quota_passes, room_passes}
-use Rattle.ns_bounds.specs.Given.{given_limits_pass, given_room_passes, given_waking_passes}
+use Rattle.ns_counters.specs.Bounds.{quota_passes, room_passes}
+use Rattle.ns_counters.specs.Given.{given_limits_pass, given_room_passes, given_waking_passes}
 use Rattle.ns_applier.specs.Passing.{PassesByEnds, end_passes, indexes_pass, left_room_passes, numbers_past, places_past, step_passes}
 use Rattle.ns_applier.specs.Releasing.{EndsAlone}
 use Rattle.ns_applier.proofs.Ended.{quotas, quotas_at, rooms, rooms_at}

@@ -5,9 +5,9 @@ use Rattle.ns_types.specs.declared.node.Class.{Class}
 use Rattle.ns_types.specs.State.Names.{Name}
 use Rattle.ns_types.specs.State.Rows.{World}
 use Rattle.ns_types.proofs.Tests.{or_none}
-use Rattle.ns_bounds.specs.Bounds.{any_last_index, quota_passes, room_passes}
-use Rattle.ns_bounds.specs.Given.{given_limits_pass, given_room_passes}
-use Rattle.ns_bounds.proofs.Last.{none_given_passes}
+use Rattle.ns_counters.specs.Bounds.{any_last_index, quota_passes, room_passes}
+use Rattle.ns_counters.specs.Given.{given_limits_pass, given_room_passes}
+use Rattle.ns_counters.proofs.Last.{none_given_passes}
 
 module _ (w : World) (none : any_last_index w ≡ false) where
   pub room_alone : (room : Name × Class) → room_passes w room ≡ given_room_passes w room

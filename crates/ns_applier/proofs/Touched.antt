@@ -23,10 +23,10 @@ use Rattle.ns_types.proofs.Tables.{none_of_any}
 use Rattle.ns_types.proofs.Tests.{and_turned, or_none, same_Some}
 use Rattle.ns_release.specs.Released.{releases_wake_at}
 use Rattle.ns_release.proofs.Rooms.{any_and}
-use Rattle.ns_bounds.proofs.Each.{split_last}
-use Rattle.ns_bounds.specs.Bounds.{is_at_bound, shows_awake}
-use Rattle.ns_bounds.specs.Given.{given_waking_passes, given_waking_passes_in}
-use Rattle.ns_bounds.proofs.Bounded.{any_named, any_row-either, any_row-mapped}
+use Rattle.ns_counters.proofs.Each.{split_last}
+use Rattle.ns_counters.specs.Bounds.{is_at_bound, shows_awake}
+use Rattle.ns_counters.specs.Given.{given_waking_passes, given_waking_passes_in}
+use Rattle.ns_counters.proofs.Bounded.{any_named, any_row-either, any_row-mapped}
 use Rattle.keyed.proofs.Queues.{has_filter}
 use Rattle.ns_applier.specs.Passing.{index_passes, indexes_pass, is_number_past, numbers_past}
 use Rattle.ns_applier.specs.Releasing.{EndsAlone}

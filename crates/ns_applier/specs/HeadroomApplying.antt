@@ -15,7 +15,7 @@ use Rattle.ns_types.specs.State.Tables.{any_row}
 use Rattle.ns_types.specs.Steps.{greatest, is_past_bound}
 use Rattle.ns_types.specs.Working.Commit.{Victim, node_name, same_victim_job}
 use Rattle.ns_types.specs.Working.Parts.{goes_to}
-use Rattle.ns_bounds.specs.Bounds.{is_at_bound, is_last_index}
+use Rattle.ns_counters.specs.Bounds.{is_at_bound, is_last_index}
 use Rattle.ns_applier.specs.Passing.{end_passes}
 use Rattle.ns_applier.specs.Raising.{Raise, Raises}
 use Rattle.ns_applier.specs.Releasing.{EndsAlone}

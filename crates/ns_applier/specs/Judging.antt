@@ -11,7 +11,7 @@ use Rattle.ns_types.specs.State.Names.{Name}
 use Rattle.ns_types.specs.State.Rows.{World, node_at}
 use Rattle.ns_types.specs.Steps.{greatest}
 use Rattle.ns_types.specs.Working.Commit.{counts, evicted_rows, node_name, stop_all}
-use Rattle.ns_bounds.specs.Bounds.{is_last_index}
+use Rattle.ns_counters.specs.Bounds.{is_last_index}
 use Rattle.ns_applier.specs.HeadroomApplying.{Doing, own_passes, place_passes, place_passes_on, stop_passes}
 use Rattle.ns_applier.specs.HeadroomApplying.{victim_passes}
 use Rattle.ns_applier.specs.Passing.{end_passes}

@@ -10,8 +10,8 @@ use Rattle.ns_types.specs.State.Rows.{World, Tenant, allocation_at, class_of, is
 use Rattle.ns_types.specs.State.Tables.{any_row}
 use Rattle.ns_types.specs.Steps.{greatest, is_past_bound}
 use Rattle.ns_types.specs.Working.Commit.{quota_named}
-use Rattle.ns_bounds.specs.Bounds.{is_at_bound}
-use Rattle.ns_bounds.specs.Given.{given_limits_pass, given_room_passes}
+use Rattle.ns_counters.specs.Bounds.{is_at_bound}
+use Rattle.ns_counters.specs.Given.{given_limits_pass, given_room_passes}
 use Rattle.ns_applier.specs.Releasing.{EndsAlone}
 
 -- ---- what the step itself counts

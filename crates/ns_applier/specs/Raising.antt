@@ -8,7 +8,7 @@ use Rattle.ns_types.specs.State.Names.{Name, Key}
 use Rattle.ns_types.specs.State.Rows.{World, Tenant, node_at}
 use Rattle.ns_types.specs.State.Tables.{any_row}
 use Rattle.ns_types.specs.Steps.{greatest, is_past_bound}
-use Rattle.ns_bounds.specs.Bounds.{is_at_bound}
+use Rattle.ns_counters.specs.Bounds.{is_at_bound}
 use Rattle.ns_applier.specs.Passing.{end_passes}
 use Rattle.ns_applier.specs.Releasing.{EndsAlone}
 

@@ -8,23 +8,23 @@ ghost use Rattle.ns_types.specs.Validity.{IsSound};
 ghost use Rattle.ns_types.specs.Working.Commit.{apply};
 ghost use Rattle.ns_applier.specs.Applying.{comes_to};
 ghost use Rattle.ns_change.specs.Prepared.{Prepares, bounded};
-ghost use Rattle.ns_live.specs.Index.{IsRight};
+ghost use Rattle.ns_live_index.specs.Index.{IsRight};
 ghost use Rattle.ns_plan.specs.Looks.{AreCounted, IsOnFewNodes};
-ghost use Rattle.ns_world.specs.World.{tenant_of, world_of};
+ghost use Rattle.ns_tables.specs.World.{tenant_of, world_of};
 
 use crate::judging::passes;
 use crate::turn::{evaluation, is_in_turn};
 use crate::view::check;
-use ns_apply::{Committed, Turn, apply_refused, apply_standing};
 use ns_broker::worker_at;
 use ns_change::Prepared;
-use ns_live::Live;
+use ns_live_index::Live;
 use ns_place::marking::Marked;
+use ns_plan_result::{Committed, Turn, apply_refused, apply_standing};
+use ns_tables::{Tables, TenantRows};
 use ns_types::plan::Plan;
 use ns_types::refusal::Refusal;
 use ns_types::snapshot::Snapshot;
 use ns_types::text::Text;
-use ns_world::{Tables, TenantRows};
 
 /// What the plan of a worker in turn comes to. It is checked, and whether a counter would pass its bound is judged,
 /// before anything takes memory.
@@ -69,7 +69,7 @@ fn come_to(
 /// Then `Full`: the number of an allocation, an evaluation, a place or a release, or an index, would pass its bound. Then
 /// want of memory.
 ///
-/// In a valid world. It costs what the plan costs (`ns_plan::check`, `ns_apply::apply_standing`) and a look-up for each
+/// In a valid world. It costs what the plan costs (`ns_plan::check`, `ns_plan_result::apply_standing`) and a look-up for each
 /// plan in the list and for each blocked evaluation.
 pub fn apply(
     tables: &Tables,

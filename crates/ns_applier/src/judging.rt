@@ -4,23 +4,23 @@ ghost use Rattle.std.specs.Prelude.{◌≡◌, false};
 ghost use Rattle.ns_types.specs.Steps.{is_past_bound};
 ghost use Rattle.ns_applier.specs.HeadroomApplying.{apply_passes};
 ghost use Rattle.ns_applier.specs.Judging.{doing};
-ghost use Rattle.ns_live.specs.Index.{IsRight};
+ghost use Rattle.ns_live_index.specs.Index.{IsRight};
 ghost use Rattle.ns_plan.specs.Looks.{IsOnFewNodes};
 ghost use Rattle.ns_renewal.specs.Counted.{counted_of};
 ghost use Rattle.ns_renewal.specs.Losing.{numbers_pass, victims_at};
 ghost use Rattle.ns_applier.specs.Losing.{is_victim};
 ghost use Rattle.ns_plan.specs.After.{after_stops};
-ghost use Rattle.ns_world.specs.World.{world_of};
+ghost use Rattle.ns_tables.specs.World.{world_of};
 
 use crate::headroom::{Headroom, lost_part_passes, own_part_passes};
 use crate::losing::Evicting;
 use crate::view::Present;
-use ns_live::Live;
+use ns_live_index::Live;
 use ns_place::marking::Marked;
 use ns_renewal::{Counted, numbers_pass};
+use ns_tables::Tables;
 use ns_types::plan::Plan;
 use ns_types::snapshot::Snapshot;
-use ns_world::Tables;
 
 /// Whether a namespace has too few numbers for an evaluation of each of its jobs that lose an allocation.
 fn evaluations_pass(

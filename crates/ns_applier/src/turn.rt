@@ -5,15 +5,15 @@ ghost use Rattle.ns_types.specs.State.Names.{same_key};
 ghost use Rattle.ns_types.specs.State.Rows.{evaluation_at};
 ghost use Rattle.ns_types.specs.Working.Queue.{is_served};
 ghost use Rattle.ns_types.specs.Working.Work.{is_submitted};
-ghost use Rattle.ns_world.specs.World.{world_of};
+ghost use Rattle.ns_tables.specs.World.{world_of};
 
-use ns_alike::{same_number, same_text};
 use ns_broker::first_plan;
+use ns_equality::{same_number, same_text};
+use ns_tables::Tables;
 use ns_types::evaluation::Evaluation;
 use ns_types::key::EvalKey;
 use ns_types::text::Text;
 use ns_types::worker::{Phase, Worker};
-use ns_world::Tables;
 
 fn is_submitted(worker: &Worker) -> bool
     ensures { result ≡ is_submitted worker.now.phase }

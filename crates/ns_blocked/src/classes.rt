@@ -5,7 +5,7 @@ ghost use Rattle.ns_blocked.specs.Waking.{can_use, can_use_any, is_usable};
 ghost use Rattle.ns_types.specs.State.Names.{has_class};
 
 use crate::entry::Waiting;
-use ns_alike::same_class;
+use ns_equality::same_class;
 use ns_types::node::Class;
 
 fn has_class(classes: &[Class], class: &Class) -> bool

@@ -18,7 +18,7 @@ use Rattle.ns_types.specs.Working.Worker.{Worker}
 use Rattle.ns_broker.specs.Looking.{busy_for}
 use Rattle.ns_broker.specs.Serving.{may_dequeue, served_as}
 use Rattle.ns_change.specs.Changed.{without_ready}
-use Rattle.ns_turns.proofs.Holding.{idle_is}
+use Rattle.ns_queues.proofs.Holding.{idle_is}
 
 -- a worker is idle where it is busy for no namespace
 pub idle_by : (w : World) (number : ℕ) → not (is_some (busy_for w number)) ≡ is_idle w number

@@ -12,9 +12,9 @@ use Rattle.ns_types.specs.State.Names.{Name}
 use Rattle.ns_types.specs.State.Rows.{Tenant}
 use Rattle.ns_broker.specs.Looking.{busy_for}
 use Rattle.ns_broker.specs.Serving.{is_busy_for}
-use Rattle.ns_world.specs.declared.tables.Tables.{Tables}
-use Rattle.ns_world.specs.declared.tables.TenantRows.{TenantRows}
-use Rattle.ns_world.specs.World.{tenant_of, world_of}
+use Rattle.ns_tables.specs.declared.tables.Tables.{Tables}
+use Rattle.ns_tables.specs.declared.tables.TenantRows.{TenantRows}
+use Rattle.ns_tables.specs.World.{tenant_of, world_of}
 
 module _ (number : ℕ) where
   abbrev is_busy : Name × Tenant → Bool

@@ -18,7 +18,7 @@ use Rattle.ns_types.proofs.Tests.{not_Some, same_Some}
 use Rattle.ns_change.specs.declared.change.Prepared.{Prepared}
 use Rattle.ns_change.specs.Changed.{view}
 use Rattle.ns_change.specs.Prepared.{Prepares, bounded}
-use Rattle.ns_world.specs.declared.tables.Tables.{Tables}
+use Rattle.ns_tables.specs.declared.tables.Tables.{Tables}
 use Rattle.ns_change.proofs.Making.{does, refuses}
 use Rattle.ns_broker.specs.Bounded.{PassesNothing}
 use Rattle.ns_broker.specs.Nacking.{SoundHasNackLeft}

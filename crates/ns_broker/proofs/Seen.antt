@@ -22,20 +22,20 @@ use Rattle.ns_types.proofs.Named.{first_of_both, names, numbers, one_name, one_n
 use Rattle.ns_types.proofs.TableRows.{entries_empty}
 use Rattle.ns_types.proofs.Tables.{each_row, entries-table_of, get-table_of, tied}
 use Rattle.ns_types.proofs.Tests.{same_Some}
-use Rattle.ns_world.specs.declared.tables.PoolRows.{PoolRows as StoredPool}
-use Rattle.ns_world.specs.declared.tables.Tables.{Tables}
-use Rattle.ns_world.specs.declared.tables.TenantRows.{TenantRows}
-use Rattle.ns_world.specs.World.{pool_of, tenant_of, world_of}
-use Rattle.ns_world.proofs.Under.{none_passing, passing_at}
-use Rattle.ns_world.proofs.World.{pool_at, tenant_at}
-use Rattle.ns_world.specs.Filing.{AreNumbersUnder, allocation_job, slots_at}
+use Rattle.ns_tables.specs.declared.tables.PoolRows.{PoolRows as StoredPool}
+use Rattle.ns_tables.specs.declared.tables.Tables.{Tables}
+use Rattle.ns_tables.specs.declared.tables.TenantRows.{TenantRows}
+use Rattle.ns_tables.specs.World.{pool_of, tenant_of, world_of}
+use Rattle.ns_tables.proofs.Under.{none_passing, passing_at}
+use Rattle.ns_tables.proofs.World.{pool_at, tenant_at}
+use Rattle.ns_tables.specs.Filing.{AreNumbersUnder, allocation_job, slots_at}
 use Rattle.keyed.specs.Levels.{holds_key}
 use Rattle.keyed.specs.declared.key_set.KeySet.{KeySet}
-use Rattle.ns_live.specs.Listed.{found_at, keys_in}
-use Rattle.ns_live.proofs.Listing.{allocations_are, no_allocations, shown}
-use Rattle.ns_live.specs.declared.live.Live.{Live}
-use Rattle.ns_live.specs.Index.{IsRight}
-use Rattle.ns_live.specs.Shown.{node_seen}
+use Rattle.ns_live_index.specs.Listed.{found_at, keys_in}
+use Rattle.ns_live_index.proofs.Listing.{allocations_are, no_allocations, shown}
+use Rattle.ns_live_index.specs.declared.live.Live.{Live}
+use Rattle.ns_live_index.specs.Index.{IsRight}
+use Rattle.ns_live_index.specs.Shown.{node_seen}
 use Rattle.ns_broker.specs.Seen.{AreNodesOf, IsNodeOf, add_namespace, add_number, add_seen, is_own, node_at_slot, own_at, seen_row}
 
 -- what is answered, in another form

@@ -24,8 +24,8 @@ use Rattle.ns_types.proofs.Tests.{same_Some}
 use Rattle.ns_broker.specs.Bounded.{SnapPassesNothing}
 use Rattle.ns_broker.specs.declared.snapping.Snapped.{Snapped}
 use Rattle.ns_broker.specs.Snapping.{Snaps, kept_at}
-use Rattle.ns_world.specs.declared.tables.Tables.{Tables}
-use Rattle.ns_world.specs.World.{world_of}
+use Rattle.ns_tables.specs.declared.tables.Tables.{Tables}
+use Rattle.ns_tables.specs.World.{world_of}
 use Rattle.ns_types.proofs.Outcomes.{state_or}
 use Rattle.ns_broker.proofs.Bounding.{settles_unseen, unseen}
 

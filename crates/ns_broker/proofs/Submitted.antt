@@ -30,8 +30,8 @@ use Rattle.ns_broker.proofs.AtWork.{no_turn, no_worker, works}
 use Rattle.ns_broker.specs.Bounded.{SubmitPassesNothing}
 use Rattle.ns_broker.specs.Snapping.{kept_at}
 use Rattle.ns_broker.specs.Submitting.{HasWork, IsAdmitted, RefusedIsNotEnabled, SoundHasWork, Submits, handed_in}
-use Rattle.ns_world.specs.declared.tables.Tables.{Tables}
-use Rattle.ns_world.specs.World.{world_of}
+use Rattle.ns_tables.specs.declared.tables.Tables.{Tables}
+use Rattle.ns_tables.specs.World.{world_of}
 
 module _ (number : ℕ) (ns : Name) (w : World) (planned : Snapshot) (worker : Worker) (admitted : IsAdmitted w number ns planned worker) where
   keeps_it : kept_at w number ns ≡ Some planned

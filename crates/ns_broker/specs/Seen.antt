@@ -15,7 +15,7 @@ use Rattle.ns_types.specs.State.Resources.{IsCounted}
 use Rattle.ns_types.specs.State.Rows.{World, Tenant, is_live, node_at}
 use Rattle.ns_types.specs.State.Sums.{quota_use}
 use Rattle.ns_types.specs.Working.Snapshot.{is_done_for, live_on, seen_live}
-use Rattle.ns_world.specs.declared.tables.TenantRows.{TenantRows}
+use Rattle.ns_tables.specs.declared.tables.TenantRows.{TenantRows}
 
 -- ---- the job's own allocations
 

@@ -8,7 +8,7 @@ use Rattle.ns_types.specs.State.Rows.{World}
 use Rattle.ns_types.specs.Working.Queue.{is_served}
 use Rattle.ns_types.specs.Working.Work.{is_idle, new_worker, with_worker, workers_end}
 use Rattle.ns_change.specs.Changed.{without_ready}
-use Rattle.ns_world.specs.declared.tables.TenantRows.{TenantRows}
+use Rattle.ns_tables.specs.declared.tables.TenantRows.{TenantRows}
 
 -- the key, where it is the one of the list that is served next
 abbrev pub served_as : World → List Key → Key → Option Key

@@ -14,8 +14,8 @@ use Rattle.ns_change.specs.declared.change.Change.{Change}
 use Rattle.ns_change.specs.Changed.{view}
 use Rattle.ns_change.specs.Prepared.{Prepares}
 use Rattle.ns_broker.specs.Seen.{UseOfFits}
-use Rattle.ns_world.specs.declared.tables.Tables.{Tables}
-use Rattle.ns_world.specs.World.{world_of}
+use Rattle.ns_tables.specs.declared.tables.Tables.{Tables}
+use Rattle.ns_tables.specs.World.{world_of}
 use Rattle.ns_broker.specs.declared.snapping.Snapped.{Snapped}
 
 -- what is used of the namespace's quota fits 64 bits

@@ -16,8 +16,8 @@ use Rattle.ns_change.specs.declared.change.Prepared.{Prepared}
 use Rattle.ns_change.specs.Changed.{with_plan}
 use Rattle.ns_change.specs.Prepared.{Prepares}
 use Rattle.ns_broker.specs.Snapping.{kept_at}
-use Rattle.ns_world.specs.declared.tables.Tables.{Tables}
-use Rattle.ns_world.specs.World.{world_of}
+use Rattle.ns_tables.specs.declared.tables.Tables.{Tables}
+use Rattle.ns_tables.specs.World.{world_of}
 
 -- the evaluation that the worker has is there
 abbrev pub HasWork : World → ℕ → Name → Type 0

@@ -4,15 +4,15 @@ ghost use Rattle.std.specs.Prelude.{◌≡◌, find, is_some, option_copied, opt
 ghost use Rattle.ns_types.specs.Working.Looks.{first_plan, row_of, served_ready, worker_at};
 ghost use Rattle.ns_broker.specs.Looking.{busy_fields, busy_for, busy_of};
 ghost use Rattle.ns_broker.specs.Serving.{is_busy_for};
-ghost use Rattle.ns_turns.specs.Turns.{IsRight};
-ghost use Rattle.ns_world.specs.World.{world_of};
+ghost use Rattle.ns_queues.specs.Turns.{IsRight};
+ghost use Rattle.ns_tables.specs.World.{world_of};
 
 use crate::serving::served;
-use ns_turns::Turns;
+use ns_queues::Turns;
+use ns_tables::{Tables, TenantRows};
 use ns_types::key::EvalKey;
 use ns_types::text::Text;
 use ns_types::worker::{Phase, Worker};
-use ns_world::{Tables, TenantRows};
 
 /// A namespace with what it owns, or a vacant slot.
 type TenantSlot = (Text, Option<TenantRows>);

@@ -11,17 +11,17 @@ ghost use Rattle.ns_broker.specs.Bounded.{cannot_fail, is_failed, is_last_index}
 ghost use Rattle.ns_broker.specs.Nacking.{HasNackLeft, left, put_away, put_back};
 ghost use Rattle.ns_change.specs.Changed.{Does, DoesIn};
 ghost use Rattle.ns_change.specs.Prepared.{Prepares, bounded};
-ghost use Rattle.ns_world.specs.World.{world_of};
+ghost use Rattle.ns_tables.specs.World.{world_of};
 
 use crate::looking::worker_at;
 use ns_change::{Change, Prepared, add_ready, prepare, promote, put_row, remove_worker};
+use ns_tables::Tables;
 use ns_types::evaluation::{Evaluation, Status};
 use ns_types::key::EvalKey;
 use ns_types::refusal::Refusal;
 use ns_types::reply::Content;
 use ns_types::text::Text;
 use ns_types::worker::{Phase, Worker};
-use ns_world::Tables;
 use std::alloc::AllocError;
 
 /// An evaluation with so many nacks has failed at the next one.

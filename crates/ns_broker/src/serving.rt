@@ -3,11 +3,11 @@
 ghost use Rattle.std.specs.Prelude.{◌≡◌, option_copied};
 ghost use Rattle.ns_types.specs.Working.Queue.{priority_at, served};
 ghost use Rattle.ns_broker.specs.Serving.{preferred_at};
-ghost use Rattle.ns_world.specs.World.{world_of};
+ghost use Rattle.ns_tables.specs.World.{world_of};
 
 use keyed::KeyQueue;
+use ns_tables::Tables;
 use ns_types::key::EvalKey;
-use ns_world::Tables;
 
 /// A place of a list with its key, or a vacant one.
 type KeySlot = (u64, Option<EvalKey>);

@@ -6,13 +6,14 @@ ghost use Rattle.ns_types.specs.declared.reply.Content.TheVariants as Content;
 ghost use Rattle.ns_types.specs.Working.Snapshot.{snapshot_of};
 ghost use Rattle.ns_types.specs.Working.Work.{may_snap};
 ghost use Rattle.ns_broker.specs.Snapping.{Keeps, Snaps, UseFitsIn};
-ghost use Rattle.ns_live.specs.Index.{IsRight};
+ghost use Rattle.ns_live_index.specs.Index.{IsRight};
 ghost use Rattle.ns_broker.specs.Seen.{UseOfFits};
-ghost use Rattle.ns_world.specs.World.{tenant_of, world_of};
+ghost use Rattle.ns_tables.specs.World.{tenant_of, world_of};
 
 use crate::snapshot::snapshot;
 use ns_change::{Change, Prepared, put_row};
-use ns_live::Live;
+use ns_live_index::Live;
+use ns_tables::{Tables, TenantRows};
 use ns_types::evaluation::Evaluation;
 use ns_types::refusal::Refusal;
 use ns_types::reply::Content;
@@ -20,7 +21,6 @@ use ns_types::shared::Shared;
 use ns_types::snapshot::Snapshot;
 use ns_types::text::Text;
 use ns_types::worker::{Phase, Worker};
-use ns_world::{Tables, TenantRows};
 use std::alloc::AllocError;
 
 /// What a worker that looks answers and changes, with the snapshot that its row keeps.

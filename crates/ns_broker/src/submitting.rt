@@ -5,11 +5,12 @@ ghost use Rattle.ns_types.specs.Working.Looks.{RefusesPlan};
 ghost use Rattle.ns_types.specs.Working.Work.{is_snapped};
 ghost use Rattle.ns_broker.specs.Submitting.{HasWork, IsAdmitted, Submits, handed_in};
 ghost use Rattle.ns_change.specs.Changed.{Does};
-ghost use Rattle.ns_world.specs.World.{world_of};
+ghost use Rattle.ns_tables.specs.World.{world_of};
 
 use crate::looking::worker_at;
-use ns_alike::snapshots::same_snapshot;
 use ns_change::{Change, Prepared, add_plan, prepare, put_row};
+use ns_equality::snapshots::same_snapshot;
+use ns_tables::Tables;
 use ns_types::key::EvalKey;
 use ns_types::planned::Planned;
 use ns_types::refusal::Refusal;
@@ -17,7 +18,6 @@ use ns_types::reply::Content;
 use ns_types::snapshot::Snapshot;
 use ns_types::text::Text;
 use ns_types::worker::{Phase, Worker};
-use ns_world::Tables;
 use std::alloc::AllocError;
 
 /// Whether it has looked, and has not handed in a plan since.

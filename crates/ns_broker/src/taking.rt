@@ -1,18 +1,19 @@
 //! A worker takes an evaluation.
 
 ghost use Rattle.std.specs.Prelude.{◌≡◌, nat_lt, option_copied};
-ghost use Rattle.ns_turns.specs.Turns.{IsRight};
+ghost use Rattle.ns_queues.specs.Turns.{IsRight};
 ghost use Rattle.ns_types.specs.State.Names.{same_key};
 ghost use Rattle.ns_types.specs.Working.Work.{dequeue, is_idle, new_worker, tries_for, workers_end};
 ghost use Rattle.ns_broker.specs.Serving.{key_for, served_as, take};
 ghost use Rattle.ns_change.specs.Changed.{Does};
 ghost use Rattle.ns_change.specs.Prepared.{Prepares};
-ghost use Rattle.ns_world.specs.World.{world_of};
+ghost use Rattle.ns_tables.specs.World.{world_of};
 
 use crate::looking::{namespace_of, served_ready};
-use ns_alike::same_number;
 use ns_change::{Change, Prepared, prepare, put_row, take_ready};
-use ns_turns::Turns;
+use ns_equality::same_number;
+use ns_queues::Turns;
+use ns_tables::Tables;
 use ns_types::evaluation::Evaluation;
 use ns_types::job::JobKind;
 use ns_types::key::EvalKey;
@@ -20,7 +21,6 @@ use ns_types::refusal::Refusal;
 use ns_types::reply::Content;
 use ns_types::text::{Text, same_text};
 use ns_types::worker::Worker;
-use ns_world::Tables;
 use std::alloc::AllocError;
 
 /// How many workers there are: their numbers are less than this.

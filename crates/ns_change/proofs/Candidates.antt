@@ -20,8 +20,8 @@ use Rattle.ns_change.specs.Changed.{view}
 use Rattle.ns_change.specs.Queued.{any_left, is_left_in, is_of}
 use Rattle.ns_change.specs.declared.change.Change.{Change}
 use Rattle.ns_change.specs.declared.change.TenantChange.{TenantChange}
-use Rattle.ns_world.specs.declared.tables.Tables.{Tables}
-use Rattle.ns_world.specs.declared.tables.TenantRows.{TenantRows}
+use Rattle.ns_tables.specs.declared.tables.Tables.{Tables}
+use Rattle.ns_tables.specs.declared.tables.TenantRows.{TenantRows}
 use Rattle.ns_types.proofs.Once.{key_is}
 use Rattle.std.proofs.lemmas.Bool.{or_right}
 

@@ -13,9 +13,9 @@ use Rattle.ns_types.specs.Working.Commit.{with_place}
 use Rattle.ns_types.proofs.Named.{names, one_name}
 use Rattle.ns_change.specs.declared.change.Change.{Change}
 use Rattle.ns_change.specs.declared.change.PoolChange.{PoolChange}
-use Rattle.ns_world.specs.declared.tables.PoolRows.{PoolRows as StoredPool}
-use Rattle.ns_world.specs.declared.tables.Tables.{Tables}
-use Rattle.ns_world.specs.World.{pool_of}
+use Rattle.ns_tables.specs.declared.tables.PoolRows.{PoolRows as StoredPool}
+use Rattle.ns_tables.specs.declared.tables.Tables.{Tables}
+use Rattle.ns_tables.specs.World.{pool_of}
 use Rattle.ns_change.specs.Changed.{change_pool, changed_pool, count_place, perhaps, view}
 use Rattle.ns_change.proofs.Pools.{opened_pool, put_open_pool}
 use Rattle.ns_change.proofs.Seen.{changed_node}

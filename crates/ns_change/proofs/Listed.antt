@@ -18,11 +18,11 @@ use Rattle.ns_types.proofs.Named.{numbers, one_number}
 use Rattle.ns_change.specs.declared.change.Change.{Change}
 use Rattle.ns_change.specs.declared.change.ListChange.{ListChange}
 use Rattle.ns_change.specs.declared.change.TenantChange.{TenantChange}
-use Rattle.ns_world.specs.declared.tables.Tables.{Tables}
-use Rattle.ns_world.specs.declared.tables.TenantRows.{TenantRows}
+use Rattle.ns_tables.specs.declared.tables.Tables.{Tables}
+use Rattle.ns_tables.specs.declared.tables.TenantRows.{TenantRows}
 use Rattle.ns_change.specs.Changed.{DoesToList, changed, changed_list, with_key, without_keys}
 use Rattle.ns_change.specs.Changed.{view}
-use Rattle.ns_world.specs.World.{world_of}
+use Rattle.ns_tables.specs.World.{world_of}
 use Rattle.std.proofs.lemmas.List.Folds.{list_any-append}
 use Rattle.std.proofs.Math.Bool.{and-false, or-false}
 use Rattle.keyed.proofs.Over.{any_row-both}

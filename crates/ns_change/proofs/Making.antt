@@ -1,4 +1,4 @@
--- From what a step on the world prepares to what the model makes of it. With the end of a step (the lemma `makes` of `ns_settle`),
+-- From what a step on the world prepares to what the model makes of it. With the end of a step (the lemma `makes` of `ns_settlement`),
 -- which wants the second, this is all that a call of the core needs.
 use Rattle.std.specs.Prelude.{◌≡◌, Bool, true, false, cond, None, Ok, Err}
 use Rattle.std.proofs.Common.{refl, ap, sym, ◌∙◌}
@@ -15,7 +15,7 @@ use Rattle.ns_types.proofs.Outcomes.{is_enabled, refusal_of}
 use Rattle.ns_change.specs.declared.change.Prepared.{Prepared}
 use Rattle.ns_change.specs.Changed.{view}
 use Rattle.ns_change.specs.Prepared.{Prepares, bounded}
-use Rattle.ns_world.specs.declared.tables.Tables.{Tables}
+use Rattle.ns_tables.specs.declared.tables.Tables.{Tables}
 
 module _ (step : Step) (s : State) (outcome : Outcome World) (acts : act step s ≡ lift (with_world s.acl) outcome)
     (allowed : is_allowed step s.acl ≡ true) where

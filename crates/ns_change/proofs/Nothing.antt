@@ -12,8 +12,8 @@ use Rattle.ns_types.proofs.Tables.{map_rows_idle}
 use Rattle.ns_change.specs.declared.change.Change.{Change}
 use Rattle.ns_change.specs.declared.change.ListChange.{ListChange}
 use Rattle.ns_change.specs.Changed.{changed, changed_list, changed_pool, changed_quota, changed_tenant, perhaps, view, change_pool}
-use Rattle.ns_world.specs.declared.tables.Tables.{Tables}
-use Rattle.ns_world.specs.World.{world_of}
+use Rattle.ns_tables.specs.declared.tables.Tables.{Tables}
+use Rattle.ns_tables.specs.World.{world_of}
 use Rattle.std.specs.Option.{option_map_or}
 use Rattle.ns_types.specs.State.Rows.{World, PoolRows}
 use Rattle.ns_types.specs.Settling.Making.{put_pool}

@@ -18,15 +18,15 @@ use Rattle.ns_types.proofs.Tables.{get-map_rows, tied}
 use Rattle.ns_types.proofs.Tests.{same_Some}
 use Rattle.ns_change.specs.declared.change.Change.{Change}
 use Rattle.ns_change.specs.declared.change.TenantChange.{TenantChange}
-use Rattle.ns_world.specs.declared.tables.Tables.{Tables}
-use Rattle.ns_world.specs.declared.tables.TenantRows.{TenantRows}
+use Rattle.ns_tables.specs.declared.tables.Tables.{Tables}
+use Rattle.ns_tables.specs.declared.tables.TenantRows.{TenantRows}
 use Rattle.ns_change.specs.Changed.{changed, changed_tenant, next_evaluation, perhaps, unchanged}
 use Rattle.keyed.specs.Over.{over}
 use Rattle.ns_change.specs.Opened.{IsOpen, Opened, with_tenant}
-use Rattle.ns_world.specs.World.{tenant_of, world_of}
+use Rattle.ns_tables.specs.World.{tenant_of, world_of}
 use Rattle.ns_change.specs.Changed.{view}
 use Rattle.keyed.proofs.Over.{over-empty, over-put}
-use Rattle.ns_world.proofs.World.{tenant_at}
+use Rattle.ns_tables.proofs.World.{tenant_at}
 use Rattle.ns_change.proofs.Seen.{tenant_seen}
 use Rattle.ns_types.proofs.Gone.{insert_twice}
 

@@ -19,17 +19,17 @@ use Rattle.ns_types.proofs.Named.{names, one_name}
 use Rattle.ns_types.proofs.Tables.{get-map_rows, tied}
 use Rattle.ns_change.specs.declared.change.Change.{Change}
 use Rattle.ns_change.specs.declared.change.PoolChange.{PoolChange}
-use Rattle.ns_world.specs.declared.tables.PoolRows.{PoolRows as StoredPool}
-use Rattle.ns_world.specs.declared.tables.Tables.{Tables}
+use Rattle.ns_tables.specs.declared.tables.PoolRows.{PoolRows as StoredPool}
+use Rattle.ns_tables.specs.declared.tables.Tables.{Tables}
 use Rattle.ns_change.specs.Changed.{changed, changed_pool, perhaps, unchanged_pool}
 use Rattle.ns_change.specs.Opened.{IsOpenPool, OpenedPool, with_pool}
 use Rattle.keyed.specs.Over.{over}
-use Rattle.ns_world.specs.World.{pool_of, world_of}
+use Rattle.ns_tables.specs.World.{pool_of, world_of}
 use Rattle.ns_change.specs.Changed.{view}
 use Rattle.ns_change.specs.Changed.{change_pool}
 use Rattle.ns_change.proofs.Opening.{row_set}
 use Rattle.ns_change.proofs.Seen.{pool_seen, seen_as}
-use Rattle.ns_world.proofs.World.{pool_at}
+use Rattle.ns_tables.proofs.World.{pool_at}
 use Rattle.keyed.proofs.Over.{over-empty}
 use Rattle.ns_types.proofs.Gone.{insert_twice}
 

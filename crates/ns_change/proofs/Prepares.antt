@@ -8,7 +8,7 @@ use Rattle.ns_change.specs.declared.change.Change.{Change}
 use Rattle.ns_change.specs.declared.change.Prepared.{Prepared}
 use Rattle.ns_change.specs.Changed.{view}
 use Rattle.ns_change.specs.Prepared.{Prepares}
-use Rattle.ns_world.specs.declared.tables.Tables.{Tables}
+use Rattle.ns_tables.specs.declared.tables.Tables.{Tables}
 
 -- want of memory, where the command would have been made
 pub out_of_memory : (outcome : Outcome World) (t : Tables) (r : Result Prepared Refusal) → r ≡ Err Refusal.Memory → is_done outcome ≡ true →

@@ -14,8 +14,8 @@ use Rattle.ns_types.proofs.Tables.{get-map_rows, tied}
 use Rattle.ns_change.specs.declared.change.Change.{Change}
 use Rattle.ns_change.specs.Changed.{changed, changed_quota, perhaps, view, with_record}
 use Rattle.ns_change.proofs.Opening.{row_set, row_with_slot}
-use Rattle.ns_world.specs.declared.tables.Tables.{Tables}
-use Rattle.ns_world.specs.World.{world_of}
+use Rattle.ns_tables.specs.declared.tables.Tables.{Tables}
+use Rattle.ns_tables.specs.World.{world_of}
 
 module _ (before : ByName QuotaRows) (m : FinMap name_cmp (Option Quota)) (name : Name) (x : Quota) where
   abbrev slots : FinMap name_cmp (Option Quota)

@@ -12,13 +12,13 @@ use Rattle.ns_types.proofs.Tables.{get-map_rows}
 use Rattle.ns_change.specs.declared.change.Change.{Change}
 use Rattle.ns_change.specs.declared.change.PoolChange.{PoolChange}
 use Rattle.ns_change.specs.declared.change.TenantChange.{TenantChange}
-use Rattle.ns_world.specs.declared.tables.PoolRows.{PoolRows as StoredPool}
-use Rattle.ns_world.specs.declared.tables.Tables.{Tables}
-use Rattle.ns_world.specs.declared.tables.TenantRows.{TenantRows}
+use Rattle.ns_tables.specs.declared.tables.PoolRows.{PoolRows as StoredPool}
+use Rattle.ns_tables.specs.declared.tables.Tables.{Tables}
+use Rattle.ns_tables.specs.declared.tables.TenantRows.{TenantRows}
 use Rattle.ns_change.specs.Changed.{changed, changed_pool, changed_quota, changed_tenant, perhaps}
 use Rattle.keyed.specs.Over.{over}
-use Rattle.ns_world.specs.World.{pool_of, tenant_of, world_of}
-use Rattle.ns_world.proofs.World.{pool_at, tenant_at}
+use Rattle.ns_tables.specs.World.{pool_of, tenant_of, world_of}
+use Rattle.ns_tables.proofs.World.{pool_at, tenant_at}
 use Rattle.ns_change.specs.Changed.{view}
 
 module _ (w : World) (c : Change) where

@@ -23,12 +23,12 @@ use Rattle.ns_types.proofs.Lists.{not_both}
 use Rattle.ns_types.proofs.Named.{first_of_both, names, one_name, numbers, one_number, second_of_both}
 use Rattle.ns_types.specs.declared.evaluation.Evaluation.{Evaluation}
 use Rattle.keyed.specs.Levels.{holds_number}
-use Rattle.ns_world.specs.Filing.{AreNumbersUnder, job_where, stands_under}
+use Rattle.ns_tables.specs.Filing.{AreNumbersUnder, job_where, stands_under}
 use Rattle.ns_types.proofs.Tables.{each_row, insert_same, tied}
 use Rattle.ns_change.specs.declared.change.Change.{Change}
 use Rattle.ns_change.specs.declared.change.TenantChange.{TenantChange}
-use Rattle.ns_world.specs.declared.tables.Tables.{Tables}
-use Rattle.ns_world.specs.declared.tables.TenantRows.{TenantRows}
+use Rattle.ns_tables.specs.declared.tables.Tables.{Tables}
+use Rattle.ns_tables.specs.declared.tables.TenantRows.{TenantRows}
 use Rattle.ns_change.specs.Changed.{unlist_blocked, view, without_blocked_key}
 use Rattle.ns_change.proofs.Seen.{changed_seen, kept_seen, none_seen}
 use Rattle.keyed.specs.Over.{over}

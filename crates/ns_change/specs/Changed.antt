@@ -20,8 +20,8 @@ use Rattle.ns_change.specs.declared.change.ListChange.{ListChange}
 use Rattle.ns_change.specs.declared.change.PoolChange.{PoolChange}
 use Rattle.ns_change.specs.declared.change.TenantChange.{TenantChange}
 use Rattle.keyed.specs.Over.{over}
-use Rattle.ns_world.specs.declared.tables.Tables.{Tables}
-use Rattle.ns_world.specs.World.{world_of}
+use Rattle.ns_tables.specs.declared.tables.Tables.{Tables}
+use Rattle.ns_tables.specs.World.{world_of}
 
 abbrev pub changed_tenant : Tenant → TenantChange → Tenant
 changed_tenant t x = record t {

@@ -8,7 +8,7 @@ use Rattle.ns_types.specs.State.Rows.{PoolRows, Tenant}
 use Rattle.ns_change.specs.declared.change.Change.{Change}
 use Rattle.ns_change.specs.declared.change.PoolChange.{PoolChange}
 use Rattle.ns_change.specs.declared.change.TenantChange.{TenantChange}
-use Rattle.ns_world.specs.declared.tables.Tables.{Tables}
+use Rattle.ns_tables.specs.declared.tables.Tables.{Tables}
 use Rattle.ns_change.specs.Changed.{changed_pool, changed_tenant}
 use Rattle.ns_change.specs.Changed.{view}
 

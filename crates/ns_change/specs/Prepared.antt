@@ -7,7 +7,7 @@ use Rattle.ns_types.specs.State.Rows.{World}
 use Rattle.ns_types.specs.Steps.{is_past_bound}
 use Rattle.ns_change.specs.declared.change.Prepared.{Prepared}
 use Rattle.ns_change.specs.Changed.{view}
-use Rattle.ns_world.specs.declared.tables.Tables.{Tables}
+use Rattle.ns_tables.specs.declared.tables.Tables.{Tables}
 
 -- The tables are as they were. Want of memory comes last, where the command would have been made.
 abbrev pub Prepares : Outcome World → Tables → Result Prepared Refusal → Type 0

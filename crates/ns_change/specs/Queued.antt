@@ -11,7 +11,7 @@ use Rattle.ns_types.specs.State.Names.{Name, Key, has_key}
 use Rattle.ns_types.specs.State.Rows.{World}
 use Rattle.ns_types.specs.State.Tables.{any_row}
 use Rattle.ns_types.specs.Working.Queue.{is_of_job}
-use Rattle.ns_world.specs.declared.tables.Tables.{Tables}
+use Rattle.ns_tables.specs.declared.tables.Tables.{Tables}
 use Rattle.ns_change.specs.declared.change.Change.{Change}
 use Rattle.ns_change.specs.Changed.{view}
 use Rattle.ns_change.specs.Waiting.{first, of_job, stands}

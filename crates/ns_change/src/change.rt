@@ -2,8 +2,8 @@
 
 ghost use Rattle.std.specs.Prelude.{◌≡◌, []};
 ghost use Rattle.ns_change.specs.Changed.{view};
-ghost use Rattle.ns_world.specs.World.{world_of};
-ghost use Rattle.ns_world.specs.declared.tables.Tables.{Tables};
+ghost use Rattle.ns_tables.specs.World.{world_of};
+ghost use Rattle.ns_tables.specs.declared.tables.Tables.{Tables};
 
 use keyed::{NameTable, NumberTable};
 use ns_types::allocation::Allocation;

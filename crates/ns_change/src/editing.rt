@@ -4,16 +4,16 @@ ghost use Rattle.std.specs.Prelude.{◌≡◌, IfOk};
 ghost use Rattle.ns_types.specs.Settling.Making.{with_status};
 ghost use Rattle.ns_change.specs.Changed.{DoesIn, unchanged};
 ghost use Rattle.ns_change.specs.Opened.{Opened};
-ghost use Rattle.ns_world.specs.World.{tenant_of};
+ghost use Rattle.ns_tables.specs.World.{tenant_of};
 
 use crate::change::{Change, TenantChange};
 use crate::looking::evaluation;
 use crate::numbered::put_row;
 use keyed::{NameTable, NumberTable};
+use ns_tables::{Tables, TenantRows};
 use ns_types::evaluation::Status;
 use ns_types::key::EvalKey;
 use ns_types::text::Text;
-use ns_world::{Tables, TenantRows};
 use std::alloc::{AllocError, Global};
 
 /// A change of nothing.

@@ -7,9 +7,9 @@ use crate::change::Change;
 use crate::copying::copied_allocation;
 use crate::looking::allocation;
 use crate::numbered::put_row;
+use ns_tables::Tables;
 use ns_types::allocation::{ClientStatus, DesiredStatus};
 use ns_types::key::EvalKey;
-use ns_world::Tables;
 use std::alloc::AllocError;
 
 /// Gives the allocation that desired status.

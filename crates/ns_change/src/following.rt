@@ -9,10 +9,10 @@ use crate::change::Change;
 use crate::editing::open;
 use crate::looking::evaluation;
 use crate::numbered::{NumberedRow, put_row};
+use ns_tables::Tables;
 use ns_types::evaluation::Evaluation;
 use ns_types::key::EvalKey;
 use ns_types::text::Text;
-use ns_world::Tables;
 use std::alloc::AllocError;
 
 /// The evaluation names that one as its follower.

@@ -8,9 +8,9 @@ ghost use Rattle.ns_change.specs.Changed.{DoesIn, changed_tenant, without_job};
 use crate::change::{Change, TenantChange};
 use crate::editing::open;
 use crate::numbered::put_name;
+use ns_tables::Tables;
 use ns_types::job::Job;
 use ns_types::text::Text;
-use ns_world::Tables;
 use std::alloc::AllocError;
 
 /// Puts the job among those that change.

@@ -4,10 +4,10 @@ ghost use Rattle.std.specs.Prelude.{◌≡◌, ◌++◌, OnOk};
 ghost use Rattle.ns_types.specs.Working.Work.{without_key};
 ghost use Rattle.ns_change.specs.Changed.{Does, DoesToList, with_blocked_key, with_key, with_plan, with_ready};
 ghost use Rattle.ns_change.specs.Changed.{without_blocked_key, without_keys, without_plan, without_ready};
-ghost use Rattle.ns_world.specs.declared.tables.Tables.{Tables};
+ghost use Rattle.ns_tables.specs.declared.tables.Tables.{Tables};
 
 use crate::change::{Change, ListChange};
-use ns_alike::has_key;
+use ns_equality::has_key;
 use ns_types::key::EvalKey;
 use ns_types::rows::Rows;
 use std::alloc::{AllocError, Global};

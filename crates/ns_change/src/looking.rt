@@ -6,12 +6,12 @@ ghost use Rattle.ns_change.specs.Changed.{view};
 
 use crate::change::Change;
 use crate::numbered::row;
-use ns_alike::same_text;
+use ns_equality::same_text;
+use ns_tables::Tables;
 use ns_types::allocation::Allocation;
 use ns_types::evaluation::Evaluation;
 use ns_types::node::Node;
 use ns_types::text::Text;
-use ns_world::Tables;
 
 /// The evaluation after the change.
 pub fn evaluation<'a>(

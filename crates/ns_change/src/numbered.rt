@@ -9,16 +9,16 @@ ghost use Rattle.ns_types.specs.State.Names.{name_cmp};
 ghost use Rattle.ns_types.specs.State.Rows.{Tenant};
 ghost use Rattle.ns_types.specs.Working.Work.{with_worker};
 ghost use Rattle.ns_change.specs.Changed.{DoesIn, changed_tenant, put_allocation, put_evaluation, row_in, view};
-ghost use Rattle.ns_world.specs.World.{tenant_of};
+ghost use Rattle.ns_tables.specs.World.{tenant_of};
 
 use crate::change::{Change, TenantChange};
 use crate::editing::open;
 use keyed::{NameTable, NumberTable};
+use ns_tables::{Tables, TenantRows};
 use ns_types::allocation::Allocation;
 use ns_types::evaluation::Evaluation;
 use ns_types::text::Text;
 use ns_types::worker::Worker;
-use ns_world::{Tables, TenantRows};
 use std::alloc::AllocError;
 
 /// A row of a namespace, by number.

@@ -14,10 +14,10 @@ use crate::editing::unchanged;
 use crate::looking::node;
 use crate::numbered::put_name;
 use keyed::NameTable;
+use ns_tables::Tables;
 use ns_types::allocation::Allocation;
 use ns_types::node::Node;
 use ns_types::text::Text;
-use ns_world::Tables;
 use std::alloc::AllocError;
 
 /// Takes the change of a pool out, which is to be put again.

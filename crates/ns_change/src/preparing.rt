@@ -5,7 +5,7 @@ ghost use Rattle.ns_types.specs.Settling.Outcome.{Done};
 ghost use Rattle.ns_types.specs.State.Rows.{World};
 ghost use Rattle.ns_change.specs.Changed.{view};
 ghost use Rattle.ns_change.specs.Prepared.{Prepares};
-ghost use Rattle.ns_world.specs.declared.tables.Tables.{Tables};
+ghost use Rattle.ns_tables.specs.declared.tables.Tables.{Tables};
 
 use crate::change::{Change, Prepared};
 use ns_types::refusal::Refusal;

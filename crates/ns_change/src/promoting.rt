@@ -5,7 +5,7 @@ ghost use Rattle.keyed.specs.Table.{at_slot, rows};
 ghost use Rattle.ns_types.specs.State.Names.{same_name};
 ghost use Rattle.ns_types.specs.Working.Queue.{promote};
 ghost use Rattle.ns_types.specs.Working.Work.{cancel_blocked};
-ghost use Rattle.ns_world.specs.Filing.{AreNumbersUnder, job_where};
+ghost use Rattle.ns_tables.specs.Filing.{AreNumbersUnder, job_where};
 ghost use Rattle.ns_change.specs.Changed.{Does, DoesIn, unlist_blocked, view};
 ghost use Rattle.ns_change.specs.Queued.{first_of_job, first_slot};
 ghost use Rattle.ns_change.specs.Waiting.{Leads, lesser, of_job, row_passes, stands, standing, unheld_passes};
@@ -15,11 +15,11 @@ use crate::editing::set_status;
 use crate::lists::{add_ready, take_blocked};
 use crate::queueing::is_busy;
 use keyed::NumberTable;
-use ns_alike::same_text;
+use ns_equality::same_text;
+use ns_tables::{Tables, TenantRows};
 use ns_types::evaluation::{Evaluation, Status};
 use ns_types::key::EvalKey;
 use ns_types::text::Text;
-use ns_world::{Tables, TenantRows};
 use std::alloc::AllocError;
 
 /// An evaluation with its number, or a vacant slot.

@@ -17,12 +17,12 @@ use crate::following::add_evaluation;
 use crate::lists::{add_ready, take_out};
 use crate::looking::evaluation;
 use keyed::{KeyQueue, NumberTable};
-use ns_alike::{same_number, same_text};
+use ns_equality::{same_number, same_text};
+use ns_tables::{Tables, TenantRows};
 use ns_types::evaluation::{Evaluation, Status};
 use ns_types::key::EvalKey;
 use ns_types::text::Text;
 use ns_types::worker::Worker;
-use ns_world::{Tables, TenantRows};
 use std::alloc::AllocError;
 
 /// Whether that evaluation is of the job.

@@ -1,7 +1,7 @@
 //! Records of quotas.
 
 ghost use Rattle.ns_change.specs.Changed.{Does, with_record};
-ghost use Rattle.ns_world.specs.declared.tables.Tables.{Tables};
+ghost use Rattle.ns_tables.specs.declared.tables.Tables.{Tables};
 
 use crate::change::Change;
 use ns_types::records::Quota;

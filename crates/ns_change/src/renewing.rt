@@ -2,14 +2,14 @@
 
 ghost use Rattle.std.specs.Prelude.{◌≡◌, IfOk};
 ghost use Rattle.ns_types.specs.Settling.Making.{evaluation_for, new_evaluation};
-ghost use Rattle.ns_world.specs.World.{tenant_of};
+ghost use Rattle.ns_tables.specs.World.{tenant_of};
 
+use ns_tables::TenantRows;
 use ns_types::allocation::Allocation;
 use ns_types::evaluation::{Evaluation, Status, Trigger};
 use ns_types::job::JobKind;
 use ns_types::rows::Rows;
 use ns_types::text::Text;
-use ns_world::TenantRows;
 use std::alloc::{AllocError, Global};
 
 /// A new evaluation with copies of the names.

@@ -7,8 +7,8 @@ ghost use Rattle.ns_change.specs.Changed.{DoesIn, changed_tenant};
 
 use crate::change::{Change, TenantChange};
 use crate::editing::open;
+use ns_tables::Tables;
 use ns_types::text::Text;
-use ns_world::Tables;
 use std::alloc::AllocError;
 
 /// Takes the worker away among those that change.

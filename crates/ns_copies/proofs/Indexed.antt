@@ -19,20 +19,20 @@ use Rattle.ns_types.proofs.Lists.{not_both}
 use Rattle.ns_types.proofs.Named.{names, numbers, same_name_refl}
 use Rattle.ns_types.proofs.Tables.{equal_by}
 use Rattle.ns_types.proofs.Tests.{first, not_Some, second}
-use Rattle.ns_live.specs.declared.live.Live.{Live}
-use Rattle.ns_live.specs.Index.{Indexes, IsEmpty, IsRight, KeepsKeys, with_changes}
-use Rattle.ns_live.specs.Naming.{AreKept, HoldsSame, KeepsNames, KeepsNodes, PutsQuota, is_quota, use_in}
-use Rattle.ns_live.specs.Shown.{KeepsShown, ShowsUnmoved, live_row, shown_at, shown_in}
-use Rattle.ns_live.proofs.Kept.{index_kept, pools_kept}
-use Rattle.ns_live.proofs.PutLoads.{empty_indexes}
-use Rattle.ns_live.proofs.Puts.{indexes_same}
-use Rattle.ns_live.proofs.Totals.{are_still_kept, total_free}
-use Rattle.ns_world.specs.Allocations.{IsTotalOf, live_use, rows_use}
+use Rattle.ns_live_index.specs.declared.live.Live.{Live}
+use Rattle.ns_live_index.specs.Index.{Indexes, IsEmpty, IsRight, KeepsKeys, with_changes}
+use Rattle.ns_live_index.specs.Naming.{AreKept, HoldsSame, KeepsNames, KeepsNodes, PutsQuota, is_quota, use_in}
+use Rattle.ns_live_index.specs.Shown.{KeepsShown, ShowsUnmoved, live_row, shown_at, shown_in}
+use Rattle.ns_live_index.proofs.Kept.{index_kept, pools_kept}
+use Rattle.ns_live_index.proofs.PutLoads.{empty_indexes}
+use Rattle.ns_live_index.proofs.Puts.{indexes_same}
+use Rattle.ns_live_index.proofs.Totals.{are_still_kept, total_free}
+use Rattle.ns_tables.specs.Allocations.{IsTotalOf, live_use, rows_use}
 use Rattle.ns_types.specs.State.Resources.{IsTotal}
-use Rattle.ns_world.specs.declared.tables.Tables.{Tables}
-use Rattle.ns_world.specs.declared.tables.TenantRows.{TenantRows}
-use Rattle.ns_world.specs.World.{tenant_of, world_of}
-use Rattle.ns_world.proofs.World.{tenant_at}
+use Rattle.ns_tables.specs.declared.tables.Tables.{Tables}
+use Rattle.ns_tables.specs.declared.tables.TenantRows.{TenantRows}
+use Rattle.ns_tables.specs.World.{tenant_of, world_of}
+use Rattle.ns_tables.proofs.World.{tenant_at}
 
 abbrev Slots : Type 0
 Slots = List (Name × Option TenantRows)

@@ -9,9 +9,9 @@ use Rattle.ns_types.specs.State.Lists.{last}
 use Rattle.ns_types.specs.State.Names.{ByName, ByNumber, class_cmp}
 use Rattle.ns_types.proofs.Lists.{each, filter_all}
 use Rattle.ns_types.proofs.Named.{names, numbers, one_name, one_number}
-use Rattle.ns_world.specs.declared.tables.PoolRows.{PoolRows}
-use Rattle.ns_world.specs.declared.tables.TenantRows.{TenantRows}
-use Rattle.ns_world.specs.World.{pool_of, tenant_of}
+use Rattle.ns_tables.specs.declared.tables.PoolRows.{PoolRows}
+use Rattle.ns_tables.specs.declared.tables.TenantRows.{TenantRows}
+use Rattle.ns_tables.specs.World.{pool_of, tenant_of}
 use Rattle.ns_copies.specs.Chosen.{is_chosen}
 use Rattle.ns_copies.specs.Copied.{seen_rows}
 use Rattle.ns_copies.specs.declared.choosing.Chosen.TheVariants as Chosen

@@ -8,9 +8,9 @@ use Rattle.ns_types.specs.State.Rows.{World}
 use Rattle.ns_types.specs.Validity.{IsSound}
 use Rattle.ns_types.proofs.Lists.{each, filter_all}
 use Rattle.ns_types.proofs.Named.{names, one_name}
-use Rattle.ns_world.specs.declared.tables.Tables.{Tables}
-use Rattle.ns_world.specs.World.{pool_of, quota_of, tenant_of, world_of}
-use Rattle.ns_world.proofs.World.{tenant_at}
+use Rattle.ns_tables.specs.declared.tables.Tables.{Tables}
+use Rattle.ns_tables.specs.World.{pool_of, quota_of, tenant_of, world_of}
+use Rattle.ns_tables.proofs.World.{tenant_at}
 use Rattle.ns_copies.specs.Chosen.{chosen_part, is_chosen}
 use Rattle.ns_copies.specs.Copied.{EachRow, seen_rows}
 use Rattle.ns_copies.specs.declared.choosing.Chosen.{Chosen}

@@ -3,7 +3,7 @@
 ghost use Rattle.std.specs.Prelude.{◌≡◌};
 ghost use Rattle.ns_copies.specs.Chosen.{is_chosen};
 
-use ns_alike::has_name;
+use ns_equality::has_name;
 use ns_types::text::{Text, same_text};
 
 /// Names whose rows are copied.

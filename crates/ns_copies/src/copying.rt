@@ -6,14 +6,14 @@ ghost use Rattle.ns_types.specs.Isolation.{alone_in, part_of};
 ghost use Rattle.ns_types.specs.Validity.{IsSound};
 ghost use Rattle.ns_copies.specs.Chosen.{chosen_part, is_chosen};
 ghost use Rattle.ns_copies.specs.Copied.{seen_rows};
-ghost use Rattle.ns_world.specs.World.{pool_of, quota_of, tenant_of, world_of};
+ghost use Rattle.ns_tables.specs.World.{pool_of, quota_of, tenant_of, world_of};
 
 use crate::choosing::Chosen;
 use crate::lists::copied_keys;
 use crate::tables::copied_names;
 use keyed::{KeyQueue, NameTable, OwnerTable};
+use ns_tables::{PoolRows, QuotaRows, Tables, TenantRows};
 use ns_types::text::Text;
-use ns_world::{PoolRows, QuotaRows, Tables, TenantRows};
 use std::alloc::{AllocError, Global};
 
 /// The three ordered lists.

@@ -1,12 +1,12 @@
 //! The index of live allocations, and of the namespaces that name a quota with what they use, made anew.
 
 ghost use Rattle.std.specs.Prelude.{IfOk};
-ghost use Rattle.ns_live.specs.Index.{IsRight};
-ghost use Rattle.ns_world.specs.World.{world_of};
+ghost use Rattle.ns_live_index.specs.Index.{IsRight};
+ghost use Rattle.ns_tables.specs.World.{world_of};
 
 use keyed::NumberTable;
-use ns_live::Live;
-use ns_world::Tables;
+use ns_live_index::Live;
+use ns_tables::Tables;
 use std::alloc::{AllocError, Global};
 
 /// The index of the tables' live allocations, with which namespaces name which quota, and what they use. No node is shown.

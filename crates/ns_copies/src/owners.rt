@@ -3,19 +3,19 @@
 ghost use Rattle.std.specs.Prelude.{◌≡◌, ◌≤◌, IfOk, length};
 ghost use Rattle.keyed.specs.Table.{rows};
 ghost use Rattle.ns_types.specs.State.Rows;
-ghost use Rattle.ns_world.specs.World.{pool_of, quota_of, tenant_of};
+ghost use Rattle.ns_tables.specs.World.{pool_of, quota_of, tenant_of};
 ghost use Rattle.ns_copies.specs.Whole.{IsWholeTenant};
 
 use crate::choosing::Chosen;
 use crate::copies::Copies;
 use crate::tables::{copied_names, copied_numbers};
 use keyed::{NameTable, NumberTable, Series};
+use ns_tables::events::Events;
+use ns_tables::{AllocationTable, EvaluationTable, PoolRows, QuotaRows, TenantRows};
 use ns_types::job::Job;
 use ns_types::node::Class;
 use ns_types::records::Namespace;
 use ns_types::worker::Worker;
-use ns_world::events::Events;
-use ns_world::{AllocationTable, EvaluationTable, PoolRows, QuotaRows, TenantRows};
 use std::alloc::{AllocError, Global};
 
 fn copied_events(alloc: Global, events: &Events) -> Result<Events, AllocError>

@@ -19,13 +19,13 @@ use Rattle.ns_admin.specs.Recorded.{PreparesRecord}
 use Rattle.ns_change.specs.declared.change.Prepared.{Prepared}
 use Rattle.ns_change.specs.Prepared.{Prepares, bounded}
 use Rattle.ns_change.proofs.Making.{does, refuses}
-use Rattle.ns_live.specs.Naming.{KeepsNodes}
-use Rattle.ns_live.proofs.Administered.{administration_right}
-use Rattle.ns_turns.specs.Turns as turns
-use Rattle.ns_turns.proofs.Administered.{administration_keeps_work}
-use Rattle.ns_turns.proofs.Together.{right_still}
+use Rattle.ns_live_index.specs.Naming.{KeepsNodes}
+use Rattle.ns_live_index.proofs.Administered.{administration_right}
+use Rattle.ns_queues.specs.Turns as turns
+use Rattle.ns_queues.proofs.Administered.{administration_keeps_work}
+use Rattle.ns_queues.proofs.Together.{right_still}
 use Rattle.ns_steps.proofs.Reading.{changes_lift}
-use Rattle.ns_world.specs.declared.tables.Tables.{Tables}
+use Rattle.ns_tables.specs.declared.tables.Tables.{Tables}
 use Rattle.ns_core.specs.declared.parts.Parts.{Parts}
 use Rattle.ns_core.specs.Answering.{ChangesBy, PreparesStep, WritesPrepared}
 use Rattle.ns_core.specs.Held.{IsIndexed, KeepsNamed}

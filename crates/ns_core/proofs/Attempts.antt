@@ -8,8 +8,8 @@ use Rattle.ns_types.specs.State.Names.{Name}
 use Rattle.ns_types.specs.State.Rows.{State}
 use Rattle.ns_types.specs.Steps.{Answer, Makes, after, said}
 use Rattle.ns_steps.specs.Chains.{IsMade}
-use Rattle.ns_drive.specs.Attempting.{Attempts, AttemptsFinish, AttemptsSubmit}
-use Rattle.ns_drive.specs.Calls.{FinishesBy, HandsIn}
+use Rattle.ns_driver.specs.Attempting.{Attempts, AttemptsFinish, AttemptsSubmit}
+use Rattle.ns_driver.specs.Calls.{FinishesBy, HandsIn}
 use Rattle.ns_core.specs.Lacking.{CoreLacks}
 
 -- a core is its state, and notes nothing

@@ -11,7 +11,7 @@ use Rattle.ns_types.specs.Within.{IsGoodStep}
 use Rattle.ns_audit.proofs.Valid.{valid_step}
 use Rattle.ns_jobs.specs.Counted.{HasFewVersionsIn}
 use Rattle.ns_types.specs.Validity.{IsValid}
-use Rattle.ns_drive.specs.Calls.{FinishesBy, HandsIn}
+use Rattle.ns_driver.specs.Calls.{FinishesBy, HandsIn}
 
 module _ (step : Step) (s s' : State) (good : IsGoodStep step) (valid : IsValid s) where
   pub keeps : (answer : Answer) → Makes step s answer s' → IsValid s'

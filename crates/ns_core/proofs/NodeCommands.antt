@@ -13,7 +13,7 @@ use Rattle.ns_types.specs.Steps.{act}
 use Rattle.ns_change.specs.declared.change.Prepared.{Prepared}
 use Rattle.ns_change.specs.Prepared.{Prepares, bounded}
 use Rattle.ns_change.proofs.Making.{does, refuses}
-use Rattle.ns_live.proofs.Administered.{loads_fit}
+use Rattle.ns_live_index.proofs.Administered.{loads_fit}
 use Rattle.ns_nodes.specs.Listed.{LoadsFit}
 use Rattle.ns_core.specs.declared.parts.Parts.{Parts}
 use Rattle.ns_core.specs.Answering.{PreparesNode}

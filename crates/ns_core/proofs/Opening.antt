@@ -4,14 +4,14 @@ use Rattle.std.proofs.Common.{sym, subst}
 use Rattle.ns_types.specs.State.Names.{Name}
 use Rattle.ns_types.specs.State.Rows.{Acl}
 use Rattle.ns_types.specs.Steps.{opening, opening_acl, opening_world}
-use Rattle.ns_live.specs.Index as live
-use Rattle.ns_live.specs.Index.{IsEmpty}
-use Rattle.ns_live.proofs.Administered.{empty_right}
-use Rattle.ns_turns.specs.Turns as turns
-use Rattle.ns_turns.specs.Turns.{IsNew}
-use Rattle.ns_turns.proofs.Together.{new_is_right}
-use Rattle.ns_world.specs.declared.tables.Tables.{Tables}
-use Rattle.ns_world.specs.World as tables
+use Rattle.ns_live_index.specs.Index as live
+use Rattle.ns_live_index.specs.Index.{IsEmpty}
+use Rattle.ns_live_index.proofs.Administered.{empty_right}
+use Rattle.ns_queues.specs.Turns as turns
+use Rattle.ns_queues.specs.Turns.{IsNew}
+use Rattle.ns_queues.proofs.Together.{new_is_right}
+use Rattle.ns_tables.specs.declared.tables.Tables.{Tables}
+use Rattle.ns_tables.specs.World as tables
 use Rattle.ns_core.specs.declared.parts.Parts.{Parts}
 use Rattle.ns_core.specs.Held.{IsIndexed}
 use Rattle.ns_core.specs.Viewed.{world_of}

@@ -22,15 +22,15 @@ use Rattle.ns_broker.proofs.Making.{submit_does, submit_refuses}
 use Rattle.ns_broker.proofs.Snaps.{snap_answers, snap_settles}
 use Rattle.ns_broker.proofs.Submitted.{has_work}
 use Rattle.ns_applier.proofs.Making.{apply_does, apply_refuses}
-use Rattle.ns_finish.specs.Finishing.{Finishes, HasPendingWork}
-use Rattle.ns_finish.proofs.Answered.{pending_there}
-use Rattle.ns_finish.proofs.Making.{finish_does, finish_refuses}
+use Rattle.ns_followers.specs.Finishing.{Finishes, HasPendingWork}
+use Rattle.ns_followers.proofs.Answered.{pending_there}
+use Rattle.ns_followers.proofs.Making.{finish_does, finish_refuses}
 use Rattle.ns_core.specs.declared.parts.Parts.{Parts}
 use Rattle.ns_core.specs.Answering.{MakesStep, PreparesStep}
 use Rattle.ns_types.specs.Validity.{IsValid}
 use Rattle.ns_types.specs.Settling.Outcome.{is_done}
 use Rattle.ns_types.proofs.Lists.{not_both}
-use Rattle.ns_drive.specs.Calls.{FinishesBy, HandsIn}
+use Rattle.ns_driver.specs.Calls.{FinishesBy, HandsIn}
 use Rattle.ns_core.specs.Viewed.{state_of, world_of}
 use Rattle.ns_core.proofs.Keeping.{within}
 use Rattle.ns_core.proofs.Making.{made_of}

@@ -21,8 +21,8 @@ use Rattle.ns_change.specs.declared.change.Prepared.{Prepared}
 use Rattle.ns_change.specs.Changed.{view}
 use Rattle.ns_core.specs.declared.parts.Parts.{Parts}
 use Rattle.ns_core.specs.Viewed.{state_of, world_of}
-use Rattle.ns_world.specs.declared.tables.Tables.{Tables}
-use Rattle.ns_world.specs.World
+use Rattle.ns_tables.specs.declared.tables.Tables.{Tables}
+use Rattle.ns_tables.specs.World
 
 abbrev pub MakesStep : Step → Parts → Answer → Parts → Type 0
 MakesStep step old result new = Makes step (state_of old) result (state_of new)

@@ -1,13 +1,13 @@
 -- What is true of every core.
 use Rattle.ns_types.specs.Validity.{IsValid}
-use Rattle.ns_live.specs.declared.live.Live.{Live}
-use Rattle.ns_live.specs.Index as live
-use Rattle.ns_live.specs.Naming.{AreNamed}
-use Rattle.ns_turns.specs.Turns as turns
+use Rattle.ns_live_index.specs.declared.live.Live.{Live}
+use Rattle.ns_live_index.specs.Index as live
+use Rattle.ns_live_index.specs.Naming.{AreNamed}
+use Rattle.ns_queues.specs.Turns as turns
 use Rattle.ns_core.specs.declared.parts.Parts.{Parts}
 use Rattle.ns_core.specs.Viewed.{state_of, world_of}
-use Rattle.ns_world.specs.declared.tables.Tables.{Tables}
-use Rattle.ns_world.specs.World
+use Rattle.ns_tables.specs.declared.tables.Tables.{Tables}
+use Rattle.ns_tables.specs.World
 
 -- where the first index says rightly which namespaces name which quota, the second does
 abbrev pub KeepsNamed : Tables → Live → Tables → Live → Type 0

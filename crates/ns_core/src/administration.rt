@@ -8,7 +8,7 @@ ghost use Rattle.ns_types.specs.Asking.Policies.{may_administer};
 ghost use Rattle.ns_admin.specs.Laws.{relimits};
 ghost use Rattle.ns_core.specs.Answering.{ChangesBy, MakesAdmin, MakesStep, ReadsBy, WritesPrepared, sees, sees_pool};
 ghost use Rattle.ns_types.specs.Validity.{IsValid};
-ghost use Rattle.ns_live.specs.Naming.{KeepsNodes};
+ghost use Rattle.ns_live_index.specs.Naming.{KeepsNodes};
 ghost use Rattle.ns_core.specs.Held.{IsIndexed, IsKept, KeepsNamed};
 ghost use Rattle.ns_core.specs.Viewed.{state_of, world_of};
 
@@ -18,13 +18,13 @@ use ns_admin::{
     RecordChange, change_limits, delete_namespace, delete_pool, delete_quota, is_relimited,
     list_quotas, put_namespace, put_pool, put_quota, read_quota, write,
 };
-use ns_live::Live;
+use ns_live_index::Live;
+use ns_tables::Tables;
 use ns_types::records::Quota;
 use ns_types::refusal::Refusal;
 use ns_types::reply::{Content, Reply};
 use ns_types::step::AdminCommand;
 use ns_types::text::Text;
-use ns_world::Tables;
 
 /// Writes what was prepared for a command on a record, or leaves the tables as they are. Which namespaces name which quota,
 /// and what they use, stays right in the index.

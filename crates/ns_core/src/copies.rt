@@ -9,7 +9,7 @@ ghost use Rattle.ns_core.specs.Viewed.{state_of, world_of};
 use crate::parts::Parts;
 use crate::server::Core;
 use ns_copies::live_of;
-use ns_turns::Turns;
+use ns_queues::Turns;
 use ns_types::text::Text;
 use std::alloc::{AllocError, Global};
 

@@ -2,7 +2,7 @@
 
 use crate::server::Core;
 use ns_broker::Busy;
-use ns_drive::Works;
+use ns_driver::Works;
 use ns_steps::chain::Server;
 use ns_types::key::EvalKey;
 use ns_types::planned::Planned;

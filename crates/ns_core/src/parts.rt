@@ -10,13 +10,13 @@ ghost use Rattle.ns_core.specs.Viewed.{state_of, world_of};
 
 use ns_acl::Acl;
 use ns_change::Prepared;
-use ns_live::Live;
-use ns_settle::conclude;
-use ns_turns::Turns;
+use ns_live_index::Live;
+use ns_queues::Turns;
+use ns_settlement::conclude;
+use ns_tables::Tables;
 use ns_types::refusal::Refusal;
 use ns_types::reply::{Content, Reply};
 use ns_types::text::Text;
-use ns_world::Tables;
 use std::alloc::{AllocError, Global};
 
 pub struct Parts {

@@ -10,7 +10,7 @@ ghost use Rattle.ns_types.specs.Validity.{IsValid};
 ghost use Rattle.ns_types.specs.Working.Looks.{first_plan, row_of, served_ready, worker_at};
 ghost use Rattle.ns_broker.specs.Looking.{busy_fields, busy_of};
 ghost use Rattle.ns_broker.specs.Snapping.{kept_at};
-ghost use Rattle.ns_drive.specs.Calls.{FinishesBy, HandsIn, snapped};
+ghost use Rattle.ns_driver.specs.Calls.{FinishesBy, HandsIn, snapped};
 ghost use Rattle.ns_steps.specs.Served.{IsServed};
 
 use crate::parts::Parts;

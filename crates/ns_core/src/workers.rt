@@ -7,13 +7,13 @@ ghost use Rattle.ns_core.specs.Answering.{MakesStep};
 ghost use Rattle.ns_core.specs.Held.{IsIndexed, IsKept};
 ghost use Rattle.ns_core.specs.Viewed.{state_of, world_of};
 ghost use Rattle.ns_core.specs.Working.{MakesWork};
-ghost use Rattle.ns_drive.specs.Calls.{FinishesBy, HandsIn, snapped};
+ghost use Rattle.ns_driver.specs.Calls.{FinishesBy, HandsIn, snapped};
 
 use crate::parts::{Parts, plain};
 use ns_applier::apply;
 use ns_broker::{Snapped, dequeue, nack, snap, submit};
 use ns_change::Prepared;
-use ns_finish::finish;
+use ns_followers::finish;
 use ns_types::planned::Planned;
 use ns_types::refusal::Refusal;
 use ns_types::reply::Reply;

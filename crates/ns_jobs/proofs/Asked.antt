@@ -26,7 +26,7 @@ use Rattle.ns_types.proofs.Registrations.{by_tests}
 use Rattle.ns_types.proofs.Tests.{same_Some}
 use Rattle.ns_change.specs.Prepared.{Prepares, bounded}
 use Rattle.ns_change.proofs.Bounded.{done_still, refused_full, still_refused}
-use Rattle.ns_world.specs.declared.tables.Tables.{Tables}
+use Rattle.ns_tables.specs.declared.tables.Tables.{Tables}
 use Rattle.ns_jobs.specs.Counted.{counted, counted_ask, passes_bound, passes_in}
 use Rattle.ns_jobs.specs.Ending.{ending_passes}
 use Rattle.ns_jobs.specs.Made.{job_of, stopped_with}

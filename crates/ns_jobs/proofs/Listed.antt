@@ -7,8 +7,8 @@ use Rattle.keyed.specs.Table.{row_list}
 use Rattle.ns_types.proofs.Elements.{filter_map}
 use Rattle.ns_types.specs.State.Names.{ByNumber, Name}
 use Rattle.ns_types.specs.declared.step.AskCommand.{AskCommand}
-use Rattle.ns_world.proofs.Under.{none_passing, passing_at}
-use Rattle.ns_world.specs.Filing.{AreNumbersUnder, slots_at}
+use Rattle.ns_tables.proofs.Under.{none_passing, passing_at}
+use Rattle.ns_tables.specs.Filing.{AreNumbersUnder, slots_at}
 use Rattle.ns_jobs.specs.Read.{IsAmongThoseOf, rows_shown}
 
 module _ {X Shown : Type 0} (as_shown : Name → ℕ → X → Shown) (is_listed : AskCommand → Shown → Bool) (ns : Name) (command : AskCommand) where

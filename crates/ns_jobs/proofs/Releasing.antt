@@ -39,15 +39,15 @@ use Rattle.ns_change.specs.Changed.{changed, changed_list, changed_pool, changed
 use Rattle.ns_change.proofs.Nothing.{nothing, list_stays}
 use Rattle.ns_change.proofs.Opening.{row_set}
 use Rattle.ns_release.specs.Released.{does_wake}
-use Rattle.ns_bounds.specs.Bounds.{is_at_bound, passes_in, places_pass, quota_passes, room_passes, shows_awake}
-use Rattle.ns_bounds.specs.Bounds.{tenant_passes, touches_asleep, waking_passes}
-use Rattle.ns_bounds.specs.Given.{given_limits_pass, given_waking_passes}
-use Rattle.ns_bounds.proofs.Each.{waking_each}
+use Rattle.ns_counters.specs.Bounds.{is_at_bound, passes_in, places_pass, quota_passes, room_passes, shows_awake}
+use Rattle.ns_counters.specs.Bounds.{tenant_passes, touches_asleep, waking_passes}
+use Rattle.ns_counters.specs.Given.{given_limits_pass, given_waking_passes}
+use Rattle.ns_counters.proofs.Each.{waking_each}
 use Rattle.ns_release.specs.Released.{ended_in, ended_of, ended_one, ended_rows, in_pool, is_woken, quota_left, quota_relimited, released_quotas}
 use Rattle.ns_release.specs.Released.{released_rooms}
 use Rattle.ns_release.specs.Released.{releases_wake_at, room_left, rooms_left, rooms_of_pool}
-use Rattle.ns_bounds.specs.Given.{given_room_passes}
-use Rattle.ns_bounds.proofs.Indexes.{past_bound_is}
+use Rattle.ns_counters.specs.Given.{given_room_passes}
+use Rattle.ns_counters.proofs.Indexes.{past_bound_is}
 use Rattle.ns_release.proofs.Together.{wakes_by_quotas}
 use Rattle.ns_jobs.specs.Counted.{passes_bound}
 use Rattle.ns_jobs.specs.Ending.{ending_passes}

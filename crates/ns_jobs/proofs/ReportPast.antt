@@ -12,7 +12,7 @@ use Rattle.ns_types.specs.Settling.Same.{same_allocation}
 use Rattle.ns_types.specs.Settling.Settle.{settle}
 use Rattle.ns_types.specs.State.Rows.{World, Tenant, is_held, is_live, is_run}
 use Rattle.ns_types.specs.Steps.{is_past_bound}
-use Rattle.ns_bounds.specs.Bounds.{is_at_bound}
+use Rattle.ns_counters.specs.Bounds.{is_at_bound}
 use Rattle.ns_jobs.specs.Ending.{ending_passes}
 use Rattle.ns_jobs.proofs.Releasing.{row_made_past, row_put_past}
 use Rattle.ns_jobs.specs.Reporting.{ends, report_passes}

@@ -19,7 +19,7 @@ use Rattle.ns_types.proofs.Named.{names, one_name}
 use Rattle.ns_types.proofs.TableRows.{get_put}
 use Rattle.ns_types.proofs.Tests.{same_Some}
 use Rattle.ns_change.specs.Changed.{HasEvaluationLeft, put_allocation}
-use Rattle.ns_bounds.specs.Bounds.{is_at_bound}
+use Rattle.ns_counters.specs.Bounds.{is_at_bound}
 use Rattle.ns_jobs.specs.Reporting.{number_passes}
 use Rattle.ns_types.proofs.Gone.{insert_twice}
 

@@ -3,7 +3,7 @@ use Rattle.std.specs.Prelude.{Bool, false, ◌&&◌, ◌||◌}
 use Rattle.std.specs.Option.{option_map_or}
 use Rattle.ns_types.specs.declared.allocation.Allocation.{Allocation}
 use Rattle.ns_types.specs.State.Rows.{World, Tenant, class_of, is_free, node_at}
-use Rattle.ns_bounds.specs.Given.{given_room_passes, left_quota_passes}
+use Rattle.ns_counters.specs.Given.{given_room_passes, left_quota_passes}
 
 -- the room that it leaves, where its node is there, ready and eligible
 abbrev pub left_room_passes : World → Allocation → Bool

@@ -19,10 +19,10 @@ use Rattle.ns_types.specs.State.Names.{Name, begins_with, same_name}
 use Rattle.ns_types.specs.State.Resources.{IsCounted}
 use Rattle.ns_types.specs.State.Rows.{World, Tenant}
 use Rattle.ns_types.specs.State.Sums.{quota_use}
-use Rattle.ns_world.specs.declared.tables.Tables.{Tables}
-use Rattle.ns_world.specs.declared.tables.TenantRows.{TenantRows}
-use Rattle.ns_world.specs.Filing.{stands_under}
-use Rattle.ns_world.specs.World.{tenant_of, world_of}
+use Rattle.ns_tables.specs.declared.tables.Tables.{Tables}
+use Rattle.ns_tables.specs.declared.tables.TenantRows.{TenantRows}
+use Rattle.ns_tables.specs.Filing.{stands_under}
+use Rattle.ns_tables.specs.World.{tenant_of, world_of}
 
 -- the command changes nothing
 abbrev pub only_reads : AskCommand → Bool

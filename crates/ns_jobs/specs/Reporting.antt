@@ -4,7 +4,7 @@ use Rattle.ns_types.specs.declared.allocation.Allocation.{Allocation}
 use Rattle.ns_types.specs.declared.allocation.ClientStatus.{ClientStatus}
 use Rattle.ns_types.specs.Asking.Nodes.{calls_for_one}
 use Rattle.ns_types.specs.State.Rows.{World, Tenant, is_held, is_live}
-use Rattle.ns_bounds.specs.Bounds.{is_at_bound}
+use Rattle.ns_counters.specs.Bounds.{is_at_bound}
 use Rattle.ns_jobs.specs.Ending.{ending_passes}
 
 -- the allocation was live, and is not with that status

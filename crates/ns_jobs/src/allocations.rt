@@ -4,21 +4,21 @@ ghost use Rattle.std.specs.Prelude.{◌≡◌, IfOk};
 ghost use Rattle.ns_types.specs.declared.step.AskCommand.TheVariants as AskCommand;
 ghost use Rattle.ns_types.specs.Asking.Reads.{allocations_where};
 ghost use Rattle.ns_jobs.specs.Read.{SaysIn, allocation_shown, lists_allocation};
-ghost use Rattle.ns_world.specs.Filing.{allocation_job};
-ghost use Rattle.ns_world.specs.World.{tenant_of};
+ghost use Rattle.ns_tables.specs.Filing.{allocation_job};
+ghost use Rattle.ns_tables.specs.World.{tenant_of};
 
 use crate::listing::{Listed, rows_listed};
 use crate::looking::{self, id_begins};
 use keyed::NumberTable;
-use ns_alike::same_text;
 use ns_change::copied_allocation;
+use ns_equality::same_text;
+use ns_tables::TenantRows;
 use ns_types::allocation::Allocation;
 use ns_types::id::IdKind;
 use ns_types::refusal::Refusal;
 use ns_types::reply::{AllocationShown, Content};
 use ns_types::step::AskCommand;
 use ns_types::text::Text;
-use ns_world::TenantRows;
 use std::alloc::{AllocError, Global};
 
 impl Listed for Allocation {

@@ -6,17 +6,17 @@ ghost use Rattle.ns_types.specs.declared.step.AskCommand.TheVariants as AskComma
 ghost use Rattle.ns_types.specs.Asking.Asks.{deregister_job, stopped_job};
 ghost use Rattle.ns_change.specs.Prepared.{Prepares};
 ghost use Rattle.ns_jobs.specs.Counted.{IsNext, counted_ask};
-ghost use Rattle.ns_world.specs.World.{tenant_of, world_of};
+ghost use Rattle.ns_tables.specs.World.{tenant_of, world_of};
 
 use crate::looking;
 use crate::making::{Numbers, next_numbers, put_and_make, remove_and_make};
 use ns_change::{Change, Prepared, prepare};
+use ns_tables::{Tables, TenantRows};
 use ns_types::evaluation::Trigger;
 use ns_types::job::Job;
 use ns_types::refusal::Refusal;
 use ns_types::reply::Content;
 use ns_types::text::Text;
-use ns_world::{Tables, TenantRows};
 use std::alloc::AllocError;
 
 /// The job as it is once it is stopped. One that was stopped before stays as it is.

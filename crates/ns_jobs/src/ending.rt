@@ -2,12 +2,12 @@
 
 ghost use Rattle.std.specs.Prelude.{◌≡◌};
 ghost use Rattle.ns_jobs.specs.Ending.{ending_passes, left_room_passes};
-ghost use Rattle.ns_world.specs.World.{tenant_of, world_of};
+ghost use Rattle.ns_tables.specs.World.{tenant_of, world_of};
 
-use ns_alike::is_free;
-use ns_bounds::{given_room_passes, left_quota_passes};
+use ns_counters::{given_room_passes, left_quota_passes};
+use ns_equality::is_free;
+use ns_tables::{Tables, TenantRows};
 use ns_types::allocation::Allocation;
-use ns_world::{Tables, TenantRows};
 
 /// Whether a counter passes its bound by the room that the allocation leaves on its node. A node that is not there, not
 /// ready or not eligible gives none.

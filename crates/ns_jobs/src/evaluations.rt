@@ -4,20 +4,20 @@ ghost use Rattle.std.specs.Prelude.{◌≡◌, IfOk};
 ghost use Rattle.ns_types.specs.declared.step.AskCommand.TheVariants as AskCommand;
 ghost use Rattle.ns_types.specs.Asking.Reads.{evaluations_where};
 ghost use Rattle.ns_jobs.specs.Read.{SaysIn, evaluation_shown, lists_evaluation};
-ghost use Rattle.ns_world.specs.Filing.{evaluation_job};
-ghost use Rattle.ns_world.specs.World.{tenant_of};
+ghost use Rattle.ns_tables.specs.Filing.{evaluation_job};
+ghost use Rattle.ns_tables.specs.World.{tenant_of};
 
 use crate::listing::{Listed, rows_listed};
 use crate::looking::{self, id_begins};
 use keyed::NumberTable;
-use ns_alike::same_text;
+use ns_equality::same_text;
+use ns_tables::TenantRows;
 use ns_types::evaluation::Evaluation;
 use ns_types::id::IdKind;
 use ns_types::refusal::Refusal;
 use ns_types::reply::{Content, EvaluationShown};
 use ns_types::step::AskCommand;
 use ns_types::text::Text;
-use ns_world::TenantRows;
 use std::alloc::{AllocError, Global};
 
 impl Listed for Evaluation {

@@ -10,18 +10,18 @@ ghost use Rattle.ns_types.specs.State.Names.{same_name};
 ghost use Rattle.ns_types.specs.State.Rows.{is_live};
 ghost use Rattle.ns_types.specs.State.Tables.{any_row};
 ghost use Rattle.ns_jobs.specs.Read.{SaysIn, jobs_shown};
-ghost use Rattle.ns_world.specs.World.{tenant_of};
+ghost use Rattle.ns_tables.specs.World.{tenant_of};
 
 use crate::looking::{self, begins};
 use keyed::NumberTable;
-use ns_alike::same_text;
+use ns_equality::same_text;
+use ns_tables::TenantRows;
 use ns_types::allocation::Allocation;
 use ns_types::job::Job;
 use ns_types::refusal::Refusal;
 use ns_types::reply::{Content, JobShown, JobStatus};
 use ns_types::rows::Rows;
 use ns_types::text::Text;
-use ns_world::TenantRows;
 use std::alloc::{AllocError, Global};
 
 fn is_live_at(allocations: &NumberTable<Allocation>, id: &Text, number: u64) -> bool

@@ -5,14 +5,14 @@ ghost use Rattle.std.specs.FinMap.{entries};
 ghost use Rattle.ns_types.specs.declared.step.AskCommand.{AskCommand};
 ghost use Rattle.ns_types.specs.State.Names.{ByNumber, Name};
 ghost use Rattle.ns_jobs.specs.Read.{IsAmongThoseOf, rows_shown};
-ghost use Rattle.ns_world.specs.Filing.{AreNumbersUnder, slots_at};
-ghost use Rattle.ns_world.specs.declared.tables.TenantRows.{TenantRows};
+ghost use Rattle.ns_tables.specs.Filing.{AreNumbersUnder, slots_at};
+ghost use Rattle.ns_tables.specs.declared.tables.TenantRows.{TenantRows};
 
 use keyed::NumberTable;
+use ns_tables::TenantRows;
 use ns_types::rows::Rows;
 use ns_types::step::AskCommand;
 use ns_types::text::Text;
-use ns_world::TenantRows;
 use std::alloc::{AllocError, Global};
 
 /// A row that commands list.

@@ -4,14 +4,14 @@ ghost use Rattle.std.specs.Prelude.{◌≡◌, option_copied};
 ghost use Rattle.std.specs.FinMap.{get};
 ghost use Rattle.ns_types.specs.State.Id.{id_text};
 ghost use Rattle.ns_types.specs.State.Names.{begins_with};
-ghost use Rattle.ns_world.specs.World.{tenant_of};
+ghost use Rattle.ns_tables.specs.World.{tenant_of};
 
+use ns_tables::TenantRows;
 use ns_types::allocation::Allocation;
 use ns_types::evaluation::Evaluation;
 use ns_types::id::{IdKind, id_str};
 use ns_types::job::Job;
 use ns_types::text::Text;
-use ns_world::TenantRows;
 
 /// The job of the namespace.
 pub fn job<'a>(tenant: &'a TenantRows, id: &Text) -> Option<&'a Job>

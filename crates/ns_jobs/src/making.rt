@@ -7,16 +7,16 @@ ghost use Rattle.ns_types.specs.Settling.Making.{evaluation_for, evaluation_of, 
 ghost use Rattle.ns_change.specs.Changed.{Does, HasEvaluationLeft, view, without_job};
 ghost use Rattle.ns_jobs.specs.Counted.{NextNumbers};
 ghost use Rattle.ns_jobs.specs.Made.{with_made};
-ghost use Rattle.ns_world.specs.World.{tenant_of};
+ghost use Rattle.ns_tables.specs.World.{tenant_of};
 
 use ns_change::{Change, evaluation_for, make, put_job, remove_job, set_desired};
+use ns_tables::{Tables, TenantRows};
 use ns_types::allocation::{Allocation, DesiredStatus};
 use ns_types::evaluation::{Evaluation, Status, Trigger};
 use ns_types::job::{Document, Job};
 use ns_types::key::EvalKey;
 use ns_types::rows::Rows;
 use ns_types::text::Text;
-use ns_world::{Tables, TenantRows};
 use std::alloc::{AllocError, Global};
 
 /// The numbers that a step gives in a namespace: that of the evaluation that it makes, and its index.

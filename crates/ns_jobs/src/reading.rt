@@ -4,19 +4,19 @@ ghost use Rattle.std.specs.Prelude.{◌≡◌, IfOk, IsTrue};
 ghost use Rattle.ns_types.specs.declared.step.AskCommand.TheVariants as AskCommand;
 ghost use Rattle.ns_types.specs.Asking.Reads.{events_from};
 ghost use Rattle.ns_jobs.specs.Read.{Reads, ReadsIn, SaysIn, UsageFits, only_reads};
-ghost use Rattle.ns_live.specs.Index.{IsRight};
-ghost use Rattle.ns_world.specs.World.{tenant_of, world_of};
+ghost use Rattle.ns_live_index.specs.Index.{IsRight};
+ghost use Rattle.ns_tables.specs.World.{tenant_of, world_of};
 
 use crate::allocations::{list_allocations, read_allocation};
 use crate::evaluations::{list_evaluations, read_evaluation};
 use crate::jobs::{list_jobs, read_job};
 use crate::usage::quota_usage;
-use ns_live::Live;
+use ns_live_index::Live;
+use ns_tables::{Tables, TenantRows};
 use ns_types::refusal::Refusal;
 use ns_types::reply::{Content, NamespaceShown};
 use ns_types::step::AskCommand;
 use ns_types::text::Text;
-use ns_world::{Tables, TenantRows};
 use std::alloc::{AllocError, Global};
 
 /// What the read of the namespace's record says.

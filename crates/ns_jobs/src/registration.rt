@@ -9,19 +9,19 @@ ghost use Rattle.ns_types.specs.Asking.Asks.{registered_job, registered_with};
 ghost use Rattle.ns_change.specs.Prepared.{Prepares};
 ghost use Rattle.ns_jobs.specs.Counted.{HasFewVersions, HasFewVersionsIn, IsNext, counted_ask};
 ghost use Rattle.ns_jobs.specs.Made.{job_of, misses};
-ghost use Rattle.ns_world.specs.World.{tenant_of, world_of};
+ghost use Rattle.ns_tables.specs.World.{tenant_of, world_of};
 
 use crate::looking::job;
 use crate::making::{Numbers, next_numbers, put_and_make};
 use ns_admin::permits;
-use ns_alike::{same_document, same_number};
 use ns_change::{Change, Prepared, prepare};
+use ns_equality::{same_document, same_number};
+use ns_tables::{Tables, TenantRows};
 use ns_types::evaluation::Trigger;
 use ns_types::job::{Document, Job, Registration};
 use ns_types::refusal::{Member, Refusal};
 use ns_types::reply::Content;
 use ns_types::text::Text;
-use ns_world::{Tables, TenantRows};
 use std::alloc::AllocError;
 
 /// How many jobs a namespace has at most.

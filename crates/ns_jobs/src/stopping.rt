@@ -8,17 +8,17 @@ ghost use Rattle.ns_types.specs.Steps.{is_past_bound};
 ghost use Rattle.ns_change.specs.Prepared.{Prepares, bounded};
 ghost use Rattle.ns_jobs.specs.Counted.{IsNext};
 ghost use Rattle.ns_jobs.specs.Made.{stopped_with};
-ghost use Rattle.ns_world.specs.World.{tenant_of, world_of};
+ghost use Rattle.ns_tables.specs.World.{tenant_of, world_of};
 
 use crate::ending::ending_passes;
 use crate::looking::allocation;
 use crate::making::{Numbers, next_numbers, stop_and_make};
 use ns_change::{Change, Prepared, prepare};
+use ns_tables::{Tables, TenantRows};
 use ns_types::allocation::Allocation;
 use ns_types::refusal::Refusal;
 use ns_types::reply::Content;
 use ns_types::text::Text;
-use ns_world::{Tables, TenantRows};
 
 /// What the stop of a live allocation answers and changes.
 fn stopped(

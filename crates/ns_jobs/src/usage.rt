@@ -5,15 +5,15 @@ ghost use Rattle.ns_types.specs.State.Names.{Name};
 ghost use Rattle.ns_types.specs.State.Resources.{IsCounted};
 ghost use Rattle.ns_types.specs.State.Sums.{quota_use};
 ghost use Rattle.ns_jobs.specs.Read.{ReadsIn};
-ghost use Rattle.ns_live.specs.Index.{IsRight};
-ghost use Rattle.ns_world.specs.World.{world_of};
+ghost use Rattle.ns_live_index.specs.Index.{IsRight};
+ghost use Rattle.ns_tables.specs.World.{world_of};
 
 use ns_admin::names_quota;
-use ns_live::Live;
+use ns_live_index::Live;
+use ns_tables::{Tables, TenantRows};
 use ns_types::refusal::Refusal;
 use ns_types::reply::Content;
 use ns_types::text::Text;
-use ns_world::{Tables, TenantRows};
 
 /// What the read of a quota's use says, by an index that is right for the tables: it keeps the total of each quota.
 /// `NotFound`: it is not the namespace's.

@@ -16,8 +16,8 @@ use Rattle.ns_types.proofs.Elements.{map_map}
 use Rattle.ns_types.proofs.Named.{names, one_name}
 use Rattle.ns_types.proofs.TableRows.{no_entries}
 use Rattle.ns_types.proofs.Tables.{each_row}
-use Rattle.ns_live.specs.Listed.{keys_in}
-use Rattle.ns_live.proofs.Listing.{flat_alike, flat_at_keys, live_set, no_losses}
+use Rattle.ns_live_index.specs.Listed.{keys_in}
+use Rattle.ns_live_index.proofs.Listing.{flat_alike, flat_at_keys, live_set, no_losses}
 use Rattle.ns_nodes.specs.Losing.{IsLiveSet, loses, losing_keys, losing_keys_at, losing_keys_in, losing_rows, job_keys_at, slot_key, slot_keys}
 use Rattle.ns_nodes.proofs.Judged.{none_held, rows_by}
 use Rattle.ns_nodes.proofs.Losses.{jobs_are, keys_at}

@@ -24,12 +24,12 @@ use Rattle.ns_types.proofs.Named.{names, numbers, one_name, one_number}
 use Rattle.ns_types.proofs.Tables.{any_row-none, each_row, entries-table_of, filter-retain, none_of_any}
 use Rattle.ns_change.specs.Changed.{change_pool}
 use Rattle.ns_nodes.specs.Losing.{is_live_at, looked, loses, loss_passes, loss_passes_at, loss_passes_in, numbers_pass, numbers_pass_at, numbers_pass_in}
-use Rattle.ns_bounds.specs.Given.{left_quota_passes}
+use Rattle.ns_counters.specs.Given.{left_quota_passes}
 use Rattle.ns_nodes.specs.Losing.{tenant_passes_at}
 use Rattle.keyed.proofs.RowsAtKeys.{entries_looked}
 use Rattle.ns_nodes.proofs.Down.{down_node}
 use Rattle.ns_nodes.proofs.LossPast.{down_past, no_jobs}
-use Rattle.ns_bounds.specs.Bounds.{is_at_bound}
+use Rattle.ns_counters.specs.Bounds.{is_at_bound}
 
 -- ---- by the keys of the node
 

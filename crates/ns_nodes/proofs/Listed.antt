@@ -13,10 +13,10 @@ use Rattle.ns_types.specs.Settling.Outcome.{Done, Refused, found}
 use Rattle.ns_types.specs.State.Names.{Name}
 use Rattle.ns_types.specs.State.Rows.{World}
 use Rattle.ns_nodes.specs.Listed.{node_shown, shown_at}
-use Rattle.ns_world.specs.declared.tables.PoolRows.{PoolRows as StoredPool}
-use Rattle.ns_world.specs.declared.tables.Tables.{Tables}
-use Rattle.ns_world.specs.World.{pool_of, world_of}
-use Rattle.ns_world.proofs.World.{pool_at}
+use Rattle.ns_tables.specs.declared.tables.PoolRows.{PoolRows as StoredPool}
+use Rattle.ns_tables.specs.declared.tables.Tables.{Tables}
+use Rattle.ns_tables.specs.World.{pool_of, world_of}
+use Rattle.ns_tables.proofs.World.{pool_at}
 
 by_slots : (w : World) (pool : Name) (slots : List (Name × Option Node)) → flat_map (shown_at w pool) slots ≡ map (node_shown w pool) (row_list slots)
 by_slots w pool [] = refl

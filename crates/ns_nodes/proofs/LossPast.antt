@@ -40,14 +40,14 @@ use Rattle.ns_nodes.proofs.AsChange.{after, change, changed_is, down_row, losses
 use Rattle.ns_nodes.proofs.AsChange.{renewed_number, tenants_then, then_world, whole}
 use Rattle.ns_nodes.proofs.Within.{places_in}
 use Rattle.ns_release.specs.Released.{does_wake}
-use Rattle.ns_bounds.specs.Bounds.{is_at_bound, is_place_past, is_waking, passes_in, places_pass, quota_passes, room_passes}
-use Rattle.ns_bounds.specs.Bounds.{shows_asleep, shows_awake, tenant_passes, waking_passes, waking_passes_in}
-use Rattle.ns_bounds.specs.Given.{given_limits_pass, given_waking_passes, given_waking_passes_in, left_quota_passes}
+use Rattle.ns_counters.specs.Bounds.{is_at_bound, is_place_past, is_waking, passes_in, places_pass, quota_passes, room_passes}
+use Rattle.ns_counters.specs.Bounds.{shows_asleep, shows_awake, tenant_passes, waking_passes, waking_passes_in}
+use Rattle.ns_counters.specs.Given.{given_limits_pass, given_waking_passes, given_waking_passes_in, left_quota_passes}
 use Rattle.ns_release.specs.Released.{ended_in, ended_of, ended_one, ended_rows, gives_itself, in_pool, quota_left, quota_relimited, quotas_left}
 use Rattle.ns_release.specs.Released.{released_quotas, released_rooms, releases_wake_at, room_left, rooms_left, rooms_of_pool}
 use Rattle.ns_release.specs.Shown.{changes_job_row}
-use Rattle.ns_bounds.proofs.Bounded.{any_row-either, any_with}
-use Rattle.ns_bounds.proofs.Indexes.{past_bound_is}
+use Rattle.ns_counters.proofs.Bounded.{any_row-either, any_with}
+use Rattle.ns_counters.proofs.Indexes.{past_bound_is}
 use Rattle.ns_release.proofs.Rooms.{any_swap, at_row}
 use Rattle.ns_release.proofs.Together.{wakes_by_quotas}
 use Rattle.ns_release.proofs.Woken.{empty_by_any}

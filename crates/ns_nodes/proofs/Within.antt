@@ -22,12 +22,12 @@ use Rattle.ns_types.proofs.Tables.{none_of_any}
 use Rattle.ns_change.specs.Changed.{change_pool, without_node}
 use Rattle.ns_nodes.specs.Registering.{gives_room}
 use Rattle.ns_release.specs.Released.{gives_itself}
-use Rattle.ns_bounds.specs.Given.{given_room_passes}
-use Rattle.ns_bounds.proofs.GivenRoom.{gone_past, put_past}
-use Rattle.ns_world.specs.declared.tables.PoolRows.{PoolRows as StoredPool}
-use Rattle.ns_world.specs.declared.tables.Tables.{Tables}
-use Rattle.ns_world.specs.World.{pool_of, world_of}
-use Rattle.ns_world.proofs.World.{pool_at}
+use Rattle.ns_counters.specs.Given.{given_room_passes}
+use Rattle.ns_counters.proofs.GivenRoom.{gone_past, put_past}
+use Rattle.ns_tables.specs.declared.tables.PoolRows.{PoolRows as StoredPool}
+use Rattle.ns_tables.specs.declared.tables.Tables.{Tables}
+use Rattle.ns_tables.specs.World.{pool_of, world_of}
+use Rattle.ns_tables.proofs.World.{pool_at}
 
 -- ---- numbers of places
 

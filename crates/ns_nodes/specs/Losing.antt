@@ -12,8 +12,8 @@ use Rattle.ns_types.specs.State.Names.{Name, Key, ByName, ByNumber, has_key, nam
 use Rattle.ns_types.specs.State.Rows.{World, Tenant, is_live_on}
 use Rattle.ns_types.specs.State.Tables.{any_row}
 use Rattle.ns_types.specs.Steps.{greatest}
-use Rattle.ns_bounds.specs.Bounds.{is_at_bound}
-use Rattle.ns_bounds.specs.Given.{left_quota_passes}
+use Rattle.ns_counters.specs.Bounds.{is_at_bound}
+use Rattle.ns_counters.specs.Given.{left_quota_passes}
 
 -- ---- what is asked
 

@@ -4,23 +4,23 @@
 ghost use Rattle.std.specs.Prelude.{◌≡◌, ◌&&◌, ◌||◌, not, option_copied};
 ghost use Rattle.std.specs.List.{list_any};
 ghost use Rattle.ns_types.specs.State.Rows.{class_of, is_free, is_ready, offered_class};
-ghost use Rattle.ns_live.specs.Index.{IsRight};
+ghost use Rattle.ns_live_index.specs.Index.{IsRight};
 ghost use Rattle.ns_nodes.specs.Losing.{is_live_at, loss_passes, loss_passes_at, numbers_pass_at};
 ghost use Rattle.ns_nodes.specs.Losing.{tenant_passes_at};
 ghost use Rattle.ns_nodes.specs.Registering.{gives_room};
-ghost use Rattle.ns_bounds.specs.Bounds.{is_at_bound};
-ghost use Rattle.ns_bounds.specs.Given.{given_room_passes, left_quota_passes};
-ghost use Rattle.ns_world.specs.World.{tenant_of, world_of};
+ghost use Rattle.ns_counters.specs.Bounds.{is_at_bound};
+ghost use Rattle.ns_counters.specs.Given.{given_room_passes, left_quota_passes};
+ghost use Rattle.ns_tables.specs.World.{tenant_of, world_of};
 
 use crate::losing::{NumberSlot, NumbersSlot, numbers_pass_at};
 use crate::removed::is_ready;
-use ns_alike::{is_free, same_offer};
-use ns_bounds::{given_room_passes, is_at_bound, left_quota_passes};
 use ns_change::is_live_on;
-use ns_live::Live;
+use ns_counters::{given_room_passes, is_at_bound, left_quota_passes};
+use ns_equality::{is_free, same_offer};
+use ns_live_index::Live;
+use ns_tables::{Tables, TenantRows};
 use ns_types::node::{Node, NodeStatus, Offer};
 use ns_types::text::Text;
-use ns_world::{Tables, TenantRows};
 
 // ---- room that is given
 

@@ -6,15 +6,15 @@ ghost use Rattle.ns_types.specs.declared.step.NodeCommand.TheVariants as NodeCom
 ghost use Rattle.ns_types.specs.Asking.Nodes.{ask_pool};
 ghost use Rattle.ns_types.specs.Steps.{is_past_bound};
 ghost use Rattle.ns_change.specs.Prepared.{Prepares, bounded};
-ghost use Rattle.ns_world.specs.World.{world_of};
+ghost use Rattle.ns_tables.specs.World.{world_of};
 
 use crate::bounds::freed_passes;
 use crate::prepared::put_alone;
 use ns_change::{Prepared, copied_node};
+use ns_tables::Tables;
 use ns_types::node::NodeStatus;
 use ns_types::refusal::Refusal;
 use ns_types::text::Text;
-use ns_world::Tables;
 
 /// The node is eligible for allocations, or is not. `NotFound`: there is no such pool, or no such node in it. `Full`: a
 /// counter would pass its bound, since the node gives room.

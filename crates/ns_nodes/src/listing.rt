@@ -5,18 +5,18 @@ ghost use Rattle.ns_types.specs.declared.step.NodeCommand.TheVariants as NodeCom
 ghost use Rattle.ns_types.specs.Asking.Nodes.{ask_pool};
 ghost use Rattle.ns_types.specs.Settling.Outcome.{Changes};
 ghost use Rattle.ns_types.specs.State.Rows.{World};
-ghost use Rattle.ns_live.specs.Index.{IsRight};
+ghost use Rattle.ns_live_index.specs.Index.{IsRight};
 ghost use Rattle.ns_nodes.specs.Listed.{LoadsFit, node_shown, shown_at};
-ghost use Rattle.ns_world.specs.World.{world_of};
+ghost use Rattle.ns_tables.specs.World.{world_of};
 
 use ns_change::copied_node;
-use ns_live::Live;
+use ns_live_index::Live;
+use ns_tables::Tables;
 use ns_types::node::Node;
 use ns_types::refusal::Refusal;
 use ns_types::reply::{Content, NodeShown};
 use ns_types::rows::Rows;
 use ns_types::text::Text;
-use ns_world::Tables;
 use std::alloc::AllocError;
 
 /// A node with its name, or a vacant slot.

@@ -5,20 +5,20 @@ ghost use Rattle.std.specs.FinMap.{empty};
 ghost use Rattle.std.specs.List.{list_any};
 ghost use Rattle.ns_types.specs.State.Names.{same_name};
 ghost use Rattle.ns_types.specs.State.Rows.{is_live_on};
-ghost use Rattle.ns_live.specs.Index.{IsRight};
+ghost use Rattle.ns_live_index.specs.Index.{IsRight};
 ghost use Rattle.ns_nodes.specs.Losing.{is_last_of_job, is_losing, key_at, losing_keys, losing_keys_at};
 ghost use Rattle.ns_nodes.specs.Losing.{looked, numbers_pass_at, with_losing};
-ghost use Rattle.ns_world.specs.World.{tenant_of, world_of};
+ghost use Rattle.ns_tables.specs.World.{tenant_of, world_of};
 
 use keyed::{NameTable, NumberTable};
-use ns_alike::same_text;
 use ns_change::is_live_on;
-use ns_live::Live;
+use ns_equality::same_text;
+use ns_live_index::Live;
+use ns_tables::{Tables, TenantRows};
 use ns_types::allocation::Allocation;
 use ns_types::key::EvalKey;
 use ns_types::rows::Rows;
 use ns_types::text::Text;
-use ns_world::{Tables, TenantRows};
 use std::alloc::{AllocError, Global};
 
 /// The number of an allocation that is live on the node, or a vacant slot.

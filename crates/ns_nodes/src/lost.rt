@@ -4,18 +4,18 @@ ghost use Rattle.std.specs.Prelude.{◌≡◌, ◌++◌, flat_map, IfOk, OnOk};
 ghost use Rattle.ns_types.specs.Asking.Nodes.{lose};
 ghost use Rattle.ns_types.specs.Settling.Gone.{rows_gone};
 ghost use Rattle.ns_change.specs.Changed.{Does, view};
-ghost use Rattle.ns_live.specs.Index.{IsRight};
+ghost use Rattle.ns_live_index.specs.Index.{IsRight};
 ghost use Rattle.ns_nodes.specs.Losing.{IsLiveSet, lost_row, slot_key, slot_keys};
-ghost use Rattle.ns_world.specs.World.{world_of};
+ghost use Rattle.ns_tables.specs.World.{world_of};
 
 use crate::losing::{NumberSlot, NumbersSlot};
 use ns_change::{Change, set_client};
-use ns_live::Live;
+use ns_live_index::Live;
+use ns_tables::Tables;
 use ns_types::allocation::ClientStatus;
 use ns_types::key::EvalKey;
 use ns_types::rows::Rows;
 use ns_types::text::Text;
-use ns_world::Tables;
 use std::alloc::AllocError;
 
 fn add_slot(keys: &mut Rows<EvalKey>, namespace: &Text, slot: &NumberSlot) -> Result<(), AllocError>

@@ -6,14 +6,14 @@ ghost use Rattle.ns_types.specs.Settling.Making.{with_node};
 ghost use Rattle.ns_types.specs.Settling.Outcome.{Done};
 ghost use Rattle.ns_change.specs.Changed.{change_pool};
 ghost use Rattle.ns_change.specs.Prepared.{Prepares};
-ghost use Rattle.ns_world.specs.World.{world_of};
+ghost use Rattle.ns_tables.specs.World.{world_of};
 
 use ns_change::{Change, Prepared, prepare, put_node};
+use ns_tables::Tables;
 use ns_types::node::Node;
 use ns_types::refusal::Refusal;
 use ns_types::reply::Content;
 use ns_types::text::Text;
-use ns_world::Tables;
 
 /// The node is put into its pool, and nothing else changes.
 pub(crate) fn put_alone(

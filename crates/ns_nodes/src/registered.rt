@@ -8,17 +8,17 @@ ghost use Rattle.ns_types.specs.Asking.Nodes.{ask_pool, most_nodes, with_offer};
 ghost use Rattle.ns_types.specs.State.Sums.{node_load};
 ghost use Rattle.ns_types.specs.Steps.{is_past_bound};
 ghost use Rattle.ns_change.specs.Prepared.{Prepares, bounded};
-ghost use Rattle.ns_world.specs.World.{world_of};
+ghost use Rattle.ns_tables.specs.World.{world_of};
 
 use crate::bounds::registering_passes;
 use crate::prepared::put_alone;
 use keyed::NameTable;
 use ns_change::{Prepared, copied_offer};
+use ns_tables::Tables;
 use ns_types::node::{Node, NodeStatus, Offer};
 use ns_types::refusal::Refusal;
 use ns_types::resources::{Resources, is_within};
 use ns_types::text::Text;
-use ns_world::Tables;
 
 /// No pool has more nodes.
 const MOST_NODES: usize = 1000;

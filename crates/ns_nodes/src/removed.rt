@@ -6,14 +6,14 @@ ghost use Rattle.ns_types.specs.Asking.Nodes.{ask_pool};
 ghost use Rattle.ns_types.specs.State.Rows.{is_ready};
 ghost use Rattle.ns_types.specs.Steps.{is_past_bound};
 ghost use Rattle.ns_change.specs.Prepared.{Prepares, bounded};
-ghost use Rattle.ns_world.specs.World.{world_of};
+ghost use Rattle.ns_tables.specs.World.{world_of};
 
 use ns_change::{Change, Prepared, prepare};
+use ns_tables::Tables;
 use ns_types::node::NodeStatus;
 use ns_types::refusal::Refusal;
 use ns_types::reply::Content;
 use ns_types::text::Text;
-use ns_world::Tables;
 
 pub(crate) fn is_ready(status: NodeStatus) -> bool
     ensures { result ≡ is_ready status }

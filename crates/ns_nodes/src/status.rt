@@ -10,22 +10,22 @@ ghost use Rattle.ns_types.specs.Settling.Outcome.{Done};
 ghost use Rattle.ns_types.specs.Steps.{is_past_bound};
 ghost use Rattle.ns_change.specs.Changed.{Does, change_pool, view};
 ghost use Rattle.ns_change.specs.Prepared.{Prepares, bounded};
-ghost use Rattle.ns_live.specs.Index.{IsRight};
+ghost use Rattle.ns_live_index.specs.Index.{IsRight};
 ghost use Rattle.ns_nodes.specs.Losing.{numbers_pass};
-ghost use Rattle.ns_world.specs.World.{world_of};
+ghost use Rattle.ns_tables.specs.World.{world_of};
 
 use crate::bounds::loss_passes;
 use crate::losing::losing_keys;
 use crate::lost::lose;
 use ns_change::{Change, Prepared, copied_node, prepare, put_node};
-use ns_live::Live;
+use ns_live_index::Live;
 use ns_renewal::renew_each;
+use ns_tables::Tables;
 use ns_types::evaluation::Trigger;
 use ns_types::node::{Node, NodeStatus};
 use ns_types::refusal::Refusal;
 use ns_types::reply::Content;
 use ns_types::text::Text;
-use ns_world::Tables;
 use std::alloc::AllocError;
 
 /// The live allocations on the node are lost, and each job that had one gets an evaluation. The premises are that no

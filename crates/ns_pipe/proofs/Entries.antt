@@ -8,7 +8,7 @@ use Rattle.ns_types.specs.State.Lists.{Each}
 use Rattle.ns_types.specs.Within.{IsGoodStep}
 use Rattle.ns_types.proofs.Elements.{each_append}
 use Rattle.ns_json.specs.Replies.{Entry}
-use Rattle.ns_log_read.specs.Lines.{answer_fits, step_fits}
+use Rattle.ns_log_reader.specs.Lines.{answer_fits, step_fits}
 use Rattle.ns_pipe.specs.Readable.{IsTyped}
 
 pub entry_typed : (e : Entry) (step : Step) (rendered : Rendered) → step ≡ e.0 → rendered ≡ e.1 → IsGoodStep step →

@@ -7,8 +7,8 @@ use Rattle.ns_types.specs.State.Rows.{State}
 use Rattle.ns_types.specs.Steps.{opening}
 use Rattle.ns_types.specs.declared.reply.Rendered.{Rendered}
 use Rattle.ns_json.specs.Replies.{Entry, IsKept}
-use Rattle.ns_log_read.specs.Lines as lines
-use Rattle.ns_log_read.specs.Lines.{IsLogOf}
+use Rattle.ns_log_reader.specs.Lines as lines
+use Rattle.ns_log_reader.specs.Lines.{IsLogOf}
 use Rattle.ns_replay.specs.declared.fault.ReplayFault.{ReplayFault}
 use Rattle.ns_replay.specs.Replay.{IsFault, RepliesAlone, own_entries, replies_of}
 use Rattle.ns_pipe.specs.Claimed.{pools_for, quotas_for}

@@ -18,18 +18,18 @@ use Rattle.ns_policy.specs.declared.fault.RuleFault.{RuleFault}
 use Rattle.ns_policy.specs.Json.{rules_of}
 use Rattle.ns_documents.specs.Members.{description_in}
 use Rattle.ns_documents.specs.Access.{or_bad_rules, policy_in, rules_text_in}
-use Rattle.ns_log_read.specs.Lines.{HasReadRules, IsAsRead}
+use Rattle.ns_log_reader.specs.Lines.{HasReadRules, IsAsRead}
 use Rattle.ns_steps.specs.Served.{served}
 use Rattle.ns_request.specs.declared.endpoint.Endpoint.{Endpoint}
 use Rattle.ns_request.specs.declared.method.Method.{Method}
 use Rattle.ns_request.specs.Finding.{found}
 use Rattle.ns_request.specs.Queries.{index_in, namespace_in, purge_in}
 use Rattle.ns_request.specs.Targets.{query_in}
-use Rattle.ns_asked.specs.Asking.{admin_by, admin_of, ask_of, asked, asked_of, by_kind, deregistration_asked, events_asked, namespace_put}
-use Rattle.ns_asked.specs.Asking.{namespace_read, policy_put, pool_put, pool_read, quota_put, registration_asked, token_asked}
-use Rattle.ns_asked.specs.Drawing.{DrawsFor}
-use Rattle.ns_asked.specs.Nodes.{node_by, node_of}
-use Rattle.ns_asked.specs.Parts.{bearer_in}
+use Rattle.ns_endpoints.specs.Asking.{admin_by, admin_of, ask_of, asked, asked_of, by_kind, deregistration_asked, events_asked, namespace_put}
+use Rattle.ns_endpoints.specs.Asking.{namespace_read, policy_put, pool_put, pool_read, quota_put, registration_asked, token_asked}
+use Rattle.ns_endpoints.specs.Drawing.{DrawsFor}
+use Rattle.ns_endpoints.specs.Nodes.{node_by, node_of}
+use Rattle.ns_endpoints.specs.Parts.{bearer_in}
 
 -- ---- the document of a policy
 

@@ -4,7 +4,7 @@ use Rattle.std.specs.Prelude.{slice_get}
 use Rattle.std.proofs.lemmas.Option.{same_Some, slice_get_within}
 use Rattle.ns_types.specs.State.Lists.{Each}
 use Rattle.ns_json.specs.Replies.{Entry}
-use Rattle.ns_log_read.specs.Lines.{IsAsRead}
+use Rattle.ns_log_reader.specs.Lines.{IsAsRead}
 use Rattle.ns_log.specs.declared.receipts.receipt.Receipt.{Receipt}
 use Rattle.ns_log.specs.Settling.{IsAt, entry_of}
 use Rattle.ns_pipe.specs.Laws.{SettledIsAsRead}

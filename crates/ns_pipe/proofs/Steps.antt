@@ -13,14 +13,14 @@ use Rattle.ns_types.specs.Wire.Responses.{Exchange}
 use Rattle.ns_types.proofs.Elements.{each_append}
 use Rattle.ns_json.specs.Replies.{Entry, rendered}
 use Rattle.ns_json.proofs.Posts.{Post}
-use Rattle.ns_log_read.specs.Lines.{IsAsRead}
-use Rattle.ns_drive.specs.declared.stopping.Stop.{Stop}
-use Rattle.ns_drive.specs.Driving.{IsDriven, MakesMany, Rounds}
-use Rattle.ns_drive.specs.Kept.{seen_of}
-use Rattle.ns_held.specs.Lacking.{HeldLacks}
-use Rattle.ns_held.specs.Logs.{AreNoted, History, IsNoted}
+use Rattle.ns_log_reader.specs.Lines.{IsAsRead}
+use Rattle.ns_driver.specs.declared.stopping.Stop.{Stop}
+use Rattle.ns_driver.specs.Driving.{IsDriven, MakesMany, Rounds}
+use Rattle.ns_driver.specs.Kept.{seen_of}
+use Rattle.ns_work_log.specs.Lacking.{HeldLacks}
+use Rattle.ns_work_log.specs.Logs.{AreNoted, History, IsNoted}
 use Rattle.ns_http.specs.Conversation.{Streams}
-use Rattle.ns_asked.specs.Asking.{asked}
+use Rattle.ns_endpoints.specs.Asking.{asked}
 use Rattle.ns_api.specs.declared.following.Driver.{Driver}
 use Rattle.ns_api.specs.Answering.{Holding, Made, MakesFirst, MakesOwn}
 use Rattle.ns_api.specs.Cores.{ServedByHeld, state_of}

@@ -12,8 +12,8 @@ use Rattle.ns_types.proofs.Elements.{each_append, each_back, each_mapped}
 use Rattle.ns_json.specs.Logs.{head_text, line_of, log_text, segment_text}
 use Rattle.ns_json.specs.Replies.{Entry}
 use Rattle.ns_log.specs.Lines.{entry_text}
-use Rattle.ns_log_read.specs.Lines.{CanStand, IsWritable, LogLine, entries_of, lines_text}
-use Rattle.ns_log_read.proofs.Lines.{opened}
+use Rattle.ns_log_reader.specs.Lines.{CanStand, IsWritable, LogLine, entries_of, lines_text}
+use Rattle.ns_log_reader.proofs.Lines.{opened}
 use Rattle.ns_log.specs.Segments.{Follows, Given, joined, text_of, whole_text}
 use Rattle.ns_pipe.specs.Laws.{SegmentsAreReadBack}
 use Rattle.ns_pipe.specs.Readable.{AreAsRead, IsReadBack, IsTyped}

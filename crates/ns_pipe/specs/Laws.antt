@@ -8,12 +8,12 @@ use Rattle.ns_types.specs.State.Names.{Name}
 use Rattle.ns_types.specs.Wire.Http.{Asked}
 use Rattle.ns_steps.specs.Served.{served}
 use Rattle.ns_json.specs.Replies.{Entry}
-use Rattle.ns_log_read.specs.Lines.{IsAsRead, IsLogOf}
+use Rattle.ns_log_reader.specs.Lines.{IsAsRead, IsLogOf}
 use Rattle.ns_log.specs.declared.receipts.receipt.Receipt.{Receipt}
 use Rattle.ns_log.specs.Settling.{IsAt, Settles}
 use Rattle.ns_log.specs.Segments.{Follows, Given, joined, whole_text}
-use Rattle.ns_asked.specs.Asking.{asked}
-use Rattle.ns_asked.specs.Drawing.{DrawsFor}
+use Rattle.ns_endpoints.specs.Asking.{asked}
+use Rattle.ns_endpoints.specs.Drawing.{DrawsFor}
 use Rattle.ns_pipe.specs.Readable.{AreAsRead, IsTyped}
 
 -- ---- rules are the reading of their text

@@ -3,7 +3,7 @@ use Rattle.std.specs.Prelude.{◌≡◌, ◌⊎◌, ℕ, List, Option}
 use Rattle.ns_types.specs.State.Names.{Name}
 use Rattle.ns_types.specs.Wire.Http.{End}
 use Rattle.ns_json.specs.Logs.{log_text}
-use Rattle.ns_held.specs.Logs.{AreNoted, History}
+use Rattle.ns_work_log.specs.Logs.{AreNoted, History}
 use Rattle.ns_http.specs.Conversation.{EndsWell, IsReadFault, streams_between}
 use Rattle.ns_http.specs.Counts.{IsWriteFault}
 use Rattle.ns_http.specs.Output.{WritesAll}

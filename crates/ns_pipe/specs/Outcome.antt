@@ -5,8 +5,8 @@ use Rattle.ns_types.specs.State.Names.{Name}
 use Rattle.ns_types.specs.State.Rows.{State}
 use Rattle.ns_types.specs.Steps.{opening}
 use Rattle.ns_json.specs.Replies.{Entry, IsKept}
-use Rattle.ns_log_read.specs.Lines as lines
-use Rattle.ns_log_read.specs.Lines.{IsLogOf}
+use Rattle.ns_log_reader.specs.Lines as lines
+use Rattle.ns_log_reader.specs.Lines.{IsLogOf}
 use Rattle.ns_replay.specs.Rerunning.{IsNoRunAt}
 use Rattle.ns_replay.specs.declared.fault.ReplayFault.{ReplayFault}
 use Rattle.ns_replay.specs.declared.fault.ReplayFault.TheVariants as Fault

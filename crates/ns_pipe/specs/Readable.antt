@@ -5,7 +5,7 @@ use Rattle.ns_types.specs.State.Names.{Name}
 use Rattle.ns_types.specs.Within.{IsGoodStep}
 use Rattle.ns_json.specs.Logs.{log_text}
 use Rattle.ns_json.specs.Replies.{Entry}
-use Rattle.ns_log_read.specs.Lines.{IsAsRead, IsLogOf, answer_fits, step_fits}
+use Rattle.ns_log_reader.specs.Lines.{IsAsRead, IsLogOf, answer_fits, step_fits}
 
 -- What the type of an entry keeps of it: its step is within the limits of every step, and its numbers are those of values
 -- that a program holds.

@@ -5,7 +5,7 @@ ghost use Rattle.ns_pipe.specs.Ending.{IsEnd, EndsServed, EndsByReader, EndsByWr
 ghost use Rattle.ns_faults.specs.Lines.{TriesToWrite, line_of, status_of};
 
 use ns_api::{Driven, close, open, serve};
-use ns_asked::Draws;
+use ns_endpoints::Draws;
 use ns_faults::print_fault;
 use ns_faults::status::{OUT_OF_MEMORY, READ_FAULT, SERVED, WRITE_FAULT};
 use ns_http::{ConnFault, Counted};

@@ -11,13 +11,13 @@ ghost use Rattle.ns_pipe.specs.Readable.{AreAsRead, IsReadBack};
 
 use crate::written::readable_text;
 use ns_api::{Api, Driven, Driver, close_held, open_held, serve};
-use ns_asked::Draws;
+use ns_endpoints::Draws;
 use ns_faults::print_fault;
 use ns_faults::status::{OUT_OF_MEMORY, READ_FAULT, SERVED, WRITE_FAULT};
-use ns_held::Held;
-use ns_held::laws::chain_is_noted;
 use ns_http::{ConnFault, Counted, write_all};
 use ns_types::name::Secret;
+use ns_work_log::Held;
+use ns_work_log::laws::chain_is_noted;
 use std::alloc::Global;
 use std::io::{Read, Write};
 

@@ -19,7 +19,7 @@ use crate::nowhere::Nowhere;
 use crate::printed::Printed;
 use crate::replay::{Replay, print_replay};
 use ns_api::Driven;
-use ns_asked::Draws;
+use ns_endpoints::Draws;
 use ns_faults::status::{BAD_WORDS, OUT_OF_MEMORY, SERVED, WRITE_FAULT};
 use ns_faults::{print_fault, print_text};
 use ns_http::{ConnFault, Counted, write_all};

@@ -4,7 +4,7 @@ ghost use Rattle.std.specs.Prelude.{◌≡◌, option_copied};
 ghost use Rattle.std.specs.List.{list_all};
 ghost use Rattle.ns_types.specs.Placing.Constraint.{attribute_of, compares, holds, is_feasible};
 
-use ns_alike::is_free;
+use ns_equality::is_free;
 use ns_types::job::{Constraint, Operand, Target};
 use ns_types::node::Node;
 use ns_types::text::Text;

@@ -10,11 +10,11 @@ use Rattle.ns_types.specs.declared.records.Namespace.{Namespace}
 use Rattle.ns_types.specs.State.Names.{Name}
 use Rattle.ns_types.specs.State.Rows.{World, PoolRows, class_of, node_at}
 use Rattle.ns_change.specs.declared.change.PoolChange.{PoolChange}
-use Rattle.ns_world.specs.declared.tables.PoolRows.{PoolRows as StoredPool}
-use Rattle.ns_world.specs.declared.tables.Tables.{Tables}
+use Rattle.ns_tables.specs.declared.tables.PoolRows.{PoolRows as StoredPool}
+use Rattle.ns_tables.specs.declared.tables.Tables.{Tables}
 use Rattle.ns_release.specs.Released.{changed_classes, gives_itself, in_pool, room_left, rooms_at, rooms_left}
-use Rattle.ns_world.specs.World.{pool_of, world_of}
-use Rattle.ns_world.proofs.World.{pool_at}
+use Rattle.ns_tables.specs.World.{pool_of, world_of}
+use Rattle.ns_tables.proofs.World.{pool_at}
 
 -- slot by slot
 rooms_in : (name : Name) (p : PoolRows) (slots : List (Name × Option Node))

@@ -14,12 +14,12 @@ use Rattle.ns_types.specs.State.Rows.{is_live}
 use Rattle.ns_types.proofs.Named.{names, numbers, one_name}
 use Rattle.ns_types.proofs.Tables.{get-table_of}
 use Rattle.ns_change.specs.declared.change.TenantChange.{TenantChange}
-use Rattle.ns_world.specs.declared.tables.QuotaRows.{QuotaRows}
-use Rattle.ns_world.specs.declared.tables.Tables.{Tables}
-use Rattle.ns_world.specs.declared.tables.TenantRows.{TenantRows}
+use Rattle.ns_tables.specs.declared.tables.QuotaRows.{QuotaRows}
+use Rattle.ns_tables.specs.declared.tables.Tables.{Tables}
+use Rattle.ns_tables.specs.declared.tables.TenantRows.{TenantRows}
 use Rattle.ns_release.specs.Released.{ended_in, ended_list, ended_of, ended_one, relimits}
-use Rattle.ns_world.specs.World.{quota_of, tenant_of, world_of}
-use Rattle.ns_world.proofs.World.{tenant_at}
+use Rattle.ns_tables.specs.World.{quota_of, tenant_of, world_of}
+use Rattle.ns_tables.proofs.World.{tenant_at}
 
 module _ (t : TenantRows) (n : ℕ) (row : Option Allocation) where
   pub ended_by : (r : Option Allocation) → row_at t.allocations.slots n ≡ r → (b : Bool) →

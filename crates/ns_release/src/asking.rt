@@ -8,16 +8,16 @@ ghost use Rattle.ns_types.specs.State.Rows.{offered_class};
 ghost use Rattle.ns_change.specs.Changed.{view};
 ghost use Rattle.ns_release.specs.Released.{quota_left, quota_relimited, quotas_ended, quotas_ended_in, released_quotas};
 ghost use Rattle.ns_release.specs.Released.{released_rooms, room_at, rooms_at, rooms_ended, rooms_ended_in, rooms_of_pool};
-ghost use Rattle.ns_world.specs.World.{pool_of, tenant_of, world_of};
+ghost use Rattle.ns_tables.specs.World.{pool_of, tenant_of, world_of};
 
 use crate::releasing::{ended, gives_itself, relimits};
-use ns_alike::is_free;
 use ns_change::{Change, PoolChange, TenantChange, node};
+use ns_equality::is_free;
+use ns_tables::{PoolRows, Tables, TenantRows};
 use ns_types::allocation::Allocation;
 use ns_types::node::{Node, Offer};
 use ns_types::records::Quota;
 use ns_types::text::Text;
-use ns_world::{PoolRows, Tables, TenantRows};
 
 /// A changed node with its name, or one that is gone.
 type NodeSlot = (Text, Option<Node>);

@@ -4,14 +4,14 @@ ghost use Rattle.std.specs.Prelude.{◌≡◌, ◌||◌, true};
 ghost use Rattle.std.specs.List.{list_any};
 ghost use Rattle.ns_release.specs.Released.{does_wake, released_quotas, released_rooms, releases_wake};
 ghost use Rattle.ns_release.specs.Released.{releases_wake_at, stays};
-ghost use Rattle.ns_world.specs.World.{world_of};
+ghost use Rattle.ns_tables.specs.World.{world_of};
 
 use crate::asking::{Anything, releases_quota, releases_room};
-use ns_alike::has_key;
 use ns_change::{Change, ListChange};
+use ns_equality::has_key;
+use ns_tables::Tables;
 use ns_types::evaluation::Evaluation;
 use ns_types::key::EvalKey;
-use ns_world::Tables;
 
 /// Whether the step releases anything.
 pub fn releases(tables: &Tables, change: &Change) -> bool

@@ -10,7 +10,7 @@ ghost use Rattle.ns_types.specs.Settling.Releases.{can_use};
 ghost use Rattle.ns_release.specs.Released.{at_room};
 
 use crate::asking::Question;
-use ns_alike::{is_unique, same_attribute, same_text};
+use ns_equality::{is_unique, same_attribute, same_text};
 use ns_types::evaluation::Evaluation;
 use ns_types::node::{Attribute, Class, Offer};
 use ns_types::text::Text;

@@ -4,14 +4,14 @@ ghost use Rattle.std.specs.Prelude.{◌≡◌, false, option_copied};
 ghost use Rattle.std.specs.Option.{option_map_or};
 ghost use Rattle.ns_types.specs.State.Rows.{is_live};
 ghost use Rattle.ns_release.specs.Released.{differs, ended_list, ended_one, gives_itself, relimits};
-ghost use Rattle.ns_world.specs.World.{pool_of, tenant_of, world_of};
+ghost use Rattle.ns_tables.specs.World.{pool_of, tenant_of, world_of};
 
-use ns_alike::{changes_limits, is_free, same_offer};
+use ns_equality::{changes_limits, is_free, same_offer};
+use ns_tables::{PoolRows, Tables, TenantRows};
 use ns_types::allocation::Allocation;
 use ns_types::node::Node;
 use ns_types::records::Quota;
 use ns_types::text::Text;
-use ns_world::{PoolRows, Tables, TenantRows};
 
 /// A changed allocation with its number, or one that is gone.
 type AllocationSlot = (u64, Option<Allocation>);

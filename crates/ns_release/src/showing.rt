@@ -8,16 +8,16 @@ ghost use Rattle.ns_types.specs.Settling.Same.{same_job};
 ghost use Rattle.ns_types.specs.Settling.Settle.{is_changed};
 ghost use Rattle.ns_release.specs.Shown.{Kind, allocations_shown, changes_job_slot, changes_row, changes_slot};
 ghost use Rattle.ns_release.specs.Shown.{evaluations_shown};
-ghost use Rattle.ns_world.specs.World.{tenant_of};
+ghost use Rattle.ns_tables.specs.World.{tenant_of};
 
 use keyed::NumberTable;
-use ns_alike::{same_allocation, same_evaluation, same_job};
+use ns_equality::{same_allocation, same_evaluation, same_job};
+use ns_tables::TenantRows;
 use ns_types::allocation::Allocation;
 use ns_types::evaluation::Evaluation;
 use ns_types::event::Topic;
 use ns_types::job::Job;
 use ns_types::text::Text;
-use ns_world::TenantRows;
 
 /// A changed job with its id, or one that is gone.
 type JobSlot = (Text, Option<Job>);

@@ -22,10 +22,10 @@ use Rattle.ns_change.specs.Waiting.{lesser}
 use Rattle.ns_renewal.specs.Losing.{is_of_job, keys_left, least, least_key, least_of, losing, losing_keys, victims_at}
 use Rattle.ns_renewal.specs.Losses.{Lowers, Puts, number_at}
 use Rattle.ns_renewal.specs.declared.losses.Losses.{Losses}
-use Rattle.ns_world.specs.declared.tables.Tables.{Tables}
-use Rattle.ns_world.specs.declared.tables.TenantRows.{TenantRows}
-use Rattle.ns_world.specs.World.{tenant_of, world_of}
-use Rattle.ns_world.proofs.World.{tenant_at}
+use Rattle.ns_tables.specs.declared.tables.Tables.{Tables}
+use Rattle.ns_tables.specs.declared.tables.TenantRows.{TenantRows}
+use Rattle.ns_tables.specs.World.{tenant_of, world_of}
+use Rattle.ns_tables.proofs.World.{tenant_at}
 
 -- ---- the lesser
 

@@ -21,10 +21,10 @@ use Rattle.ns_types.proofs.Tables.{tied}
 use Rattle.ns_types.proofs.Tests.{not_Some, same_Some}
 use Rattle.ns_change.specs.Changed.{HasEvaluationLeft}
 use Rattle.ns_renewal.specs.Renewing.{HasNumbers, SameJobs, keys_in, renewed}
-use Rattle.ns_world.specs.declared.tables.Tables.{Tables}
-use Rattle.ns_world.specs.declared.tables.TenantRows.{TenantRows}
-use Rattle.ns_world.specs.World.{tenant_of, world_of}
-use Rattle.ns_world.proofs.World.{tenant_at}
+use Rattle.ns_tables.specs.declared.tables.Tables.{Tables}
+use Rattle.ns_tables.specs.declared.tables.TenantRows.{TenantRows}
+use Rattle.ns_tables.specs.World.{tenant_of, world_of}
+use Rattle.ns_tables.proofs.World.{tenant_at}
 use Rattle.ns_change.proofs.Nothing.{queue_tenants}
 
 -- ---- one evaluation

@@ -5,14 +5,14 @@ ghost use Rattle.std.specs.Option.{option_and_then, option_copied};
 ghost use Rattle.ns_types.specs.Working.Commit.{victim_at};
 ghost use Rattle.ns_renewal.specs.Losing.{keys_left, losing_keys, victims_at};
 ghost use Rattle.ns_renewal.specs.Losses.{Lowers, Takes, job_key, number_at};
-ghost use Rattle.ns_world.specs.World.{world_of};
+ghost use Rattle.ns_tables.specs.World.{world_of};
 
 use crate::losses::Losses;
+use ns_tables::Tables;
 use ns_types::allocation::Allocation;
 use ns_types::key::EvalKey;
 use ns_types::plan::Eviction;
 use ns_types::rows::Rows;
-use ns_world::Tables;
 use std::alloc::AllocError;
 
 /// The allocation of an eviction before the step, if it is there.

@@ -5,14 +5,14 @@ ghost use Rattle.ns_types.specs.Working.Commit.{make_up};
 ghost use Rattle.ns_change.specs.Changed.{Does, view};
 ghost use Rattle.ns_renewal.specs.Losing.{CanMakeUp, victims_at};
 ghost use Rattle.ns_renewal.specs.Renewing.{SameJobs};
-ghost use Rattle.ns_world.specs.World.{world_of};
+ghost use Rattle.ns_tables.specs.World.{world_of};
 
 use crate::losing::losing_keys;
 use crate::renewing::renew_each;
 use ns_change::Change;
+use ns_tables::Tables;
 use ns_types::evaluation::Trigger;
 use ns_types::plan::Eviction;
-use ns_world::Tables;
 use std::alloc::AllocError;
 
 /// Each job that loses an allocation by one of the evictions gets an evaluation, in the order of first victim, with its

@@ -7,14 +7,14 @@ ghost use Rattle.ns_types.specs.Steps.{greatest, is_past_bound};
 ghost use Rattle.ns_types.specs.Working.Commit.{victim_at};
 ghost use Rattle.ns_renewal.specs.Losing.{is_last_of_job, is_of_job, numbers_pass, numbers_pass_at};
 ghost use Rattle.ns_renewal.specs.Losing.{numbers_pass_in, victims_at};
-ghost use Rattle.ns_world.specs.World.{tenant_of, world_of};
+ghost use Rattle.ns_tables.specs.World.{tenant_of, world_of};
 
 use crate::evictions::Evictions;
 use crate::losing::allocation;
-use ns_alike::same_text;
+use ns_equality::same_text;
+use ns_tables::{Tables, TenantRows};
 use ns_types::plan::Eviction;
 use ns_types::text::Text;
-use ns_world::{Tables, TenantRows};
 
 /// How many there are, or the greatest number where there are more.
 fn count<E: Evictions>(evictions: E) -> u64

@@ -3,12 +3,12 @@
 ghost use Rattle.std.specs.Prelude.{fold};
 ghost use Rattle.ns_change.specs.Changed.{Does, HasEvaluationLeft, view};
 ghost use Rattle.ns_renewal.specs.Renewing.{HasNumbers, renewed};
-ghost use Rattle.ns_world.specs.World.{world_of};
+ghost use Rattle.ns_tables.specs.World.{world_of};
 
 use ns_change::{Change, evaluation_for, make};
+use ns_tables::Tables;
 use ns_types::evaluation::Trigger;
 use ns_types::key::EvalKey;
-use ns_world::Tables;
 use std::alloc::AllocError;
 
 /// The job of the allocation at that key gets an evaluation, with its type, priority and pool before the step.

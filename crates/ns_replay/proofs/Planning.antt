@@ -19,8 +19,8 @@ use Rattle.ns_types.proofs.Tests.{not_Some}
 use Rattle.ns_broker.specs.Snapping.{kept_at}
 use Rattle.ns_broker.proofs.AtWork.{no_turn, no_worker}
 use Rattle.ns_broker.proofs.Submitted
-use Rattle.ns_drive.specs.Calls.{FinishesBy, HandsIn}
-use Rattle.ns_finish.proofs.Answered as Finished
+use Rattle.ns_driver.specs.Calls.{FinishesBy, HandsIn}
+use Rattle.ns_followers.proofs.Answered as Finished
 use Rattle.ns_schedule.proofs.Kept.{kept_fits}
 use Rattle.ns_schedule.specs.Fits.{fits}
 use Rattle.ns_replay.specs.Making.{MakesAny, NeedsPlan}

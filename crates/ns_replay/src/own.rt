@@ -4,7 +4,7 @@ ghost use Rattle.std.specs.Prelude.{◌≡◌};
 ghost use Rattle.ns_types.specs.Isolation.{concerns, is_own, is_own_admin, part_of};
 
 use ns_admin::confinement::names_within;
-use ns_alike::has_name;
+use ns_equality::has_name;
 use ns_types::step::{AdminCommand, NodeCommand, Step};
 use ns_types::text::{Text, same_text};
 

@@ -1,5 +1,5 @@
 // Another thread shuts a listener of the system's at which one waits.
-use ns_serve::Door;
+use ns_listener::Door;
 use std::net::SocketAddr;
 use std::rt::Clock;
 use std::sync::Wait;

@@ -5,7 +5,7 @@ ghost use Rattle.std.specs.Prelude.{◌≡◌};
 use crate::guest::{guest, look, register, seat_of};
 use crate::server::{opened, settle};
 use ns_log::receipts::SettleFault;
-use ns_shared::{PARTS, Retains, Seat, Shared};
+use ns_work_lock::{PARTS, Retains, Seat, Shared};
 use std::alloc::Global;
 use std::marker::Brand;
 use std::process::Abort;

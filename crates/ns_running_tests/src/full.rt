@@ -3,9 +3,9 @@ ghost use Rattle.std.specs.Prelude.{◌≡◌};
 
 use crate::guest::{Guest, guest, look, register, seat, seat_of, write};
 use crate::server::core;
-use ns_held::Held;
 use ns_log::segments::Segment;
-use ns_shared::{PARTS, Retains, Seat, Shared};
+use ns_work_lock::{PARTS, Retains, Seat, Shared};
+use ns_work_log::Held;
 use ns_workers::{Keep, Open, applier, worker};
 use std::alloc::Global;
 use std::marker::Brand;

@@ -1,8 +1,8 @@
 // Connections of one client with a shared server, by the secret of the first token.
-use ns_asked::Draws;
+use ns_endpoints::Draws;
 use ns_http::Counted;
-use ns_serve::clients::{Chair, Client, serve};
-use ns_shared::{Retains, Seat, Shared};
+use ns_listener::clients::{Chair, Client, serve};
+use ns_work_lock::{Retains, Seat, Shared};
 use std::alloc::Global;
 use std::process::Abort;
 use std::sync::Wait;

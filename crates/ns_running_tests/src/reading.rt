@@ -4,7 +4,7 @@ ghost use Rattle.std.specs.Prelude.{◌≡◌};
 use crate::guest::{guest, look, register, seat_of, set_up};
 use crate::server::opened;
 use ns_log::receipts::Receipt;
-use ns_shared::PARTS;
+use ns_work_lock::PARTS;
 use std::alloc::Global;
 use std::marker::Brand;
 use std::process::Abort;

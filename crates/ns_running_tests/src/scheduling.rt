@@ -8,7 +8,7 @@ use crate::guest::{Guest, guest, look, register_with, seat, seat_of, set_up, wri
 use crate::meeting::{Meeting, Plot, Watch, await_that};
 use crate::server::{opened, settle};
 use ns_log::receipts::Receipt;
-use ns_shared::{PARTS, Retains, Seat, Shared};
+use ns_work_lock::{PARTS, Retains, Seat, Shared};
 use ns_workers::{Nowhere, Point, applier, worker};
 use std::alloc::Global;
 use std::marker::Brand;

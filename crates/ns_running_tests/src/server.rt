@@ -2,10 +2,10 @@
 ghost use Rattle.std.specs.Prelude.{◌≡◌};
 
 use ns_core::Core;
-use ns_held::Held;
 use ns_log::receipts::SettleFault;
-use ns_shared::{Retains, Seat, Settled, Shared};
 use ns_types::name::Secret;
+use ns_work_lock::{Retains, Seat, Settled, Shared};
+use ns_work_log::Held;
 use std::alloc::Global;
 use std::process::Abort;
 use std::sync::ledger::{Blank, Ledger};

@@ -3,7 +3,7 @@ ghost use Rattle.std.specs.Prelude.{◌≡◌};
 
 use crate::guest::{Guest, guest, look, seat_of};
 use crate::server::opened;
-use ns_shared::{PARTS, Shared};
+use ns_work_lock::{PARTS, Shared};
 use std::alloc::Global;
 use std::marker::Brand;
 use std::process::Abort;

@@ -5,7 +5,7 @@ use crate::server::with_core;
 use crate::settling::{REGISTERED, TOOK};
 use crate::turns::is_served;
 use ns_core::Core;
-use ns_log_read::{Log, log_read};
+use ns_log_reader::{Log, log_read};
 use ns_replay::rerun::rerun;
 use ns_replay::{ReplayFault, replay_alone};
 use ns_types::records::Namespace;

@@ -4,8 +4,8 @@ ghost use Rattle.ns_blocked.specs.Blocked.{are_new, keys_of};
 ghost use Rattle.ns_types.specs.State.Names.{has_key};
 
 use crate::made::{both, only, text};
-use ns_alike::same_key;
 use ns_blocked::{BlockedList, Entry, ReleasedPool, Releases, Waiting, Waits};
+use ns_equality::same_key;
 use ns_types::key::EvalKey;
 use ns_types::node::{Attribute, Class};
 use ns_types::rows::Rows;

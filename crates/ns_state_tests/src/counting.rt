@@ -11,13 +11,13 @@ use ns_admin::opening;
 use ns_applier::view::Present;
 use ns_copies::live_of;
 use ns_plan::{live_stops, victims};
+use ns_tables::{AllocationTable, Tables};
 use ns_types::allocation::{Allocation, ClientStatus};
 use ns_types::node::{Node, NodeStatus, Offer};
 use ns_types::plan::{Eviction, Placement, Placing, Plan};
 use ns_types::rows::Rows;
 use ns_types::shared::Shared;
 use ns_types::snapshot::{PoolNode, Snapshot};
-use ns_world::{AllocationTable, Tables};
 use std::alloc::Global;
 use std::process::Abort;
 

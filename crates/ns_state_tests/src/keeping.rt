@@ -7,7 +7,6 @@ use crate::server::{registered, root};
 use crate::steps::{TEXT, job_is_registered, jobs_are_listed, pool_is_put};
 use crate::workers::{look, take};
 use ns_core::Core;
-use ns_held::Held;
 use ns_log::log_text;
 use ns_schedule::plan;
 use ns_types::refusal::Refusal;
@@ -16,6 +15,7 @@ use ns_types::shared::Shared;
 use ns_types::snapshot::Snapshot;
 use ns_types::step::Step;
 use ns_types::text::Text;
+use ns_work_log::Held;
 use std::alloc::Global;
 use std::process::Abort;
 

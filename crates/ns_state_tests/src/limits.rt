@@ -4,14 +4,14 @@ use crate::made::{copied, digits, text};
 use crate::owned::with;
 use ns_acl::Acl;
 use ns_admin::{RecordChange, opening, put_namespace, put_pool, put_quota, write};
-use ns_live::Live;
+use ns_live_index::Live;
+use ns_tables::Tables;
 use ns_types::acl::{Policy, TokenKind};
 use ns_types::records::{Namespace, Pool, Quota};
 use ns_types::refusal::Refusal;
 use ns_types::rows::Rows;
 use ns_types::step::NewToken;
 use ns_types::text::Text;
-use ns_world::Tables;
 use std::alloc::{AllocError, Global};
 use std::process::Abort;
 

@@ -7,13 +7,13 @@ use crate::made::text;
 use crate::plans::looked;
 use keyed::{NameTable, OwnerTable, Series};
 use ns_admin::opening;
-use ns_finish::missed;
+use ns_followers::missed;
+use ns_tables::{PoolRows, QuotaRows, Tables};
 use ns_types::records::{Pool, Quota};
 use ns_types::resources::{none, unlimited};
 use ns_types::rows::Rows;
 use ns_types::snapshot::{QuotaSeen, Snapshot};
 use ns_types::text::Text;
-use ns_world::{PoolRows, QuotaRows, Tables};
 use std::alloc::Global;
 use std::process::Abort;
 

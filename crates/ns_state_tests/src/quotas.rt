@@ -1,6 +1,6 @@
 // What the namespaces of a quota use together.
 use crate::made::{each, text};
-use ns_live::Live;
+use ns_live_index::Live;
 use ns_types::text::Text;
 use std::alloc::Global;
 use std::process::Abort;

@@ -1,7 +1,7 @@
 // The text of a log is read as it was written, and a line that is cut or says the same in other bytes is bad.
 use crate::steps::TEXT;
 use ns_log::log_text;
-use ns_log_read::{LogFault, log_read};
+use ns_log_reader::{LogFault, log_read};
 use std::alloc::Global;
 use std::process::Abort;
 

@@ -3,10 +3,10 @@ use crate::keeping::kept;
 use crate::made::text;
 use crate::owned::push;
 use crate::steps::{job_is_registered, pool_is_put};
-use ns_held::Held;
 use ns_log::receipts::{Receipt, SettleFault, settle};
 use ns_types::reply::Rendered;
 use ns_types::step::Step;
+use ns_work_log::Held;
 use std::alloc::Global;
 use std::process::Abort;
 

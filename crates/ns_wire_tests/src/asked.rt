@@ -1,8 +1,8 @@
 // What good words come to.
 use ns_api::Driven;
+use ns_command_line::{Wanted, read};
 use ns_pipe::{Asked, Printed};
 use ns_types::text::Text;
-use ns_words::{Wanted, read};
 use std::net::{Ipv4Addr, Ipv6Addr, SocketAddr};
 use std::rt::HostRuntime;
 

@@ -1,7 +1,7 @@
 // Readers and writers that are slow or fail.
 use crate::same_bits::SameBits;
+use ns_command_line::{Outcome, run_words};
 use ns_http::Counted;
-use ns_words::{Outcome, run_words};
 use std::alloc::Global;
 use std::io::{self, ErrorKind, Read, Write};
 use std::rt::HostRuntime;

@@ -1,5 +1,5 @@
 // Draws that are known.
-use ns_asked::Draws;
+use ns_endpoints::Draws;
 
 /// Draws the same bits again and again.
 #[derive(Clone, Copy)]

@@ -1,10 +1,10 @@
 // What words that ask for nothing are answered, and the lines of faults.
 use crate::same_bits::SameBits;
 use crate::serving;
+use ns_command_line::{Outcome, run_words};
 use ns_faults::{print_fault, print_no_random, print_no_words};
 use ns_http::{ConnFault, Counted};
 use ns_pipe::{Asked, run};
-use ns_words::{Outcome, run_words};
 use std::alloc::Global;
 use std::io::{self, ErrorKind};
 use std::rt::HostRuntime;

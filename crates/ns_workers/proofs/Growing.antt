@@ -8,7 +8,7 @@ use Rattle.ns_types.specs.declared.reply.Rendered.{Rendered}
 use Rattle.ns_types.specs.declared.step.Step.{Step}
 use Rattle.ns_types.specs.Steps.{Answer}
 use Rattle.ns_log.specs.declared.receipts.receipt.Receipt.{Receipt}
-use Rattle.ns_shared.specs.Receiving.{Receives, receipt}
+use Rattle.ns_work_lock.specs.Receiving.{Receives, receipt}
 use Rattle.ns_workers.specs.Growing.{Grows}
 
 pub grows_same : (IsOwn : Step → Type 0) (receipts : List Receipt) → Grows IsOwn receipts receipts

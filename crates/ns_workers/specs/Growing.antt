@@ -2,7 +2,7 @@
 use Rattle.std.specs.Prelude.{◌≡◌, ℕ, List, ◌++◌, All}
 use Rattle.ns_types.specs.declared.step.Step.{Step}
 use Rattle.ns_log.specs.declared.receipts.receipt.Receipt.{Receipt}
-use Rattle.ns_shared.specs.declared.changes.Planner.{Planner}
+use Rattle.ns_work_lock.specs.declared.changes.Planner.{Planner}
 
 -- a step of the worker of that number
 abbrev pub IsOfWorker : ℕ → Step → Type 0

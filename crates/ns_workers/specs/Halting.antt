@@ -2,7 +2,7 @@
 use Rattle.std.specs.Prelude.{Bool, ◌&&◌, nat_eq, Ok, Err}
 use Rattle.ns_types.specs.declared.refusal.Refusal.{Refusal}
 use Rattle.ns_types.specs.Steps.{Answer}
-use Rattle.ns_shared.specs.declared.changes.Moment.{Moment}
+use Rattle.ns_work_lock.specs.declared.changes.Moment.{Moment}
 use Rattle.ns_workers.specs.declared.halt.Halt.{Halt}
 use Rattle.ns_workers.specs.declared.applying.Course.{Course}
 

@@ -6,12 +6,12 @@ ghost use Rattle.ns_workers.specs.Growing.{Grows, IsOfWorker};
 
 use crate::gate::{Gate, Point};
 use crate::halt::Halt;
-use ns_drive::Kept;
-use ns_shared::{Busy, Moment, Retention, Seat, Shared, WORKERS_END, Waits};
+use ns_driver::Kept;
 use ns_types::key::EvalKey;
 use ns_types::planned::Planned;
 use ns_types::text::Text;
 use ns_types::worker::Phase;
+use ns_work_lock::{Busy, Moment, Retention, Seat, Shared, WORKERS_END, Waits};
 use std::alloc::Global;
 use std::sync::Wait;
 use std::sync::ledger::Ledger;

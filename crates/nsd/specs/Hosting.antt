@@ -4,8 +4,8 @@ use Rattle.ns_http.specs.declared.counting.Counted.{Counted}
 use Rattle.ns_http.specs.declared.engine.ConnFault.{ConnFault}
 use Rattle.ns_faults.specs.Lines.{line_of, mismatch_line, status_of}
 use Rattle.ns_faults.specs.declared.status.TheConstants.{SERVED, MISMATCH, WRITE_FAULT}
-use Rattle.ns_serve.specs.Ending.{EndsInPart, EndsSettled, EndsUnsettled, IsEnd, IsLastLine}
-use Rattle.ns_serve.specs.declared.service.Service.{Service}
+use Rattle.ns_listener.specs.Ending.{EndsInPart, EndsSettled, EndsUnsettled, IsEnd, IsLastLine}
+use Rattle.ns_listener.specs.declared.service.Service.{Service}
 
 -- this holds with some generators, which draw so
 abbrev pub ForSomeDrawers : {D : Type 0} → (D → List ℕ → D → Type 0) → (List D → Type 0) → Type 0

@@ -3,16 +3,16 @@
 ghost use Rattle.std.specs.Prelude.{◌≡◌, ◌≤◌};
 ghost use Rattle.ns_pipe.specs.Ending.{uncounted};
 ghost use Rattle.nsd.specs.Hosting.{EndsHosted};
-ghost use Rattle.ns_words.specs.Outcome.{IfServe, MatchOutcome};
+ghost use Rattle.ns_command_line.specs.Outcome.{IfServe, MatchOutcome};
 
-use ns_asked::Draws;
+use ns_command_line::Outcome;
+use ns_endpoints::Draws;
+use ns_entropy::{Random, generators};
 use ns_faults::print_fault;
 use ns_http::Counted;
+use ns_listener::{Service, serve};
 use ns_pipe::{Ended, Nowhere};
-use ns_random::{Random, generators};
-use ns_serve::{Service, serve};
-use ns_shared::PARTS;
-use ns_words::Outcome;
+use ns_work_lock::PARTS;
 use rand::rngs::StdRng;
 use std::alloc::Global;
 use std::io::Write;

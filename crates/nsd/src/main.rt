@@ -4,10 +4,10 @@
 mod host;
 
 use crate::host::conclude;
+use ns_command_line::run_words;
+use ns_entropy::Random;
 use ns_faults::{print_fault, print_no_random, print_no_words};
 use ns_http::{ConnFault, Counted};
-use ns_random::Random;
-use ns_words::run_words;
 use rand::make_rng;
 use rand::rngs::StdRng;
 use std::alloc::{AllocError, Global};

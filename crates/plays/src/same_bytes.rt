@@ -1,6 +1,6 @@
 //! Draws that are known beforehand.
 
-use ns_asked::Draws;
+use ns_endpoints::Draws;
 
 /// Draws sixteen times the same byte, and `step` more each time.
 #[derive(Drop)]

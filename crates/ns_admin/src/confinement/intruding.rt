@@ -9,13 +9,13 @@ ghost use Rattle.ns_admin.specs.Straying.{other_intrudes};
 ghost use Rattle.ns_types.specs.Access.Sharing.{permits};
 ghost use Rattle.ns_types.specs.State.Names.{has_name, same_name};
 ghost use Rattle.ns_types.specs.State.Tables.{any_row};
-ghost use Rattle.ns_world.specs.World.{world_of};
+ghost use Rattle.ns_tables.specs.World.{world_of};
 
 use crate::permits;
-use ns_alike::{has_name, same_text};
+use ns_equality::{has_name, same_text};
+use ns_tables::{Tables, TenantRows};
 use ns_types::records::Namespace;
 use ns_types::text::Text;
-use ns_world::{Tables, TenantRows};
 
 /// A slot of the table of namespaces: its key, and its row unless it is vacant.
 type Slot = (Text, Option<TenantRows>);

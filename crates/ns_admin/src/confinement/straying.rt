@@ -4,16 +4,16 @@ ghost use Rattle.std.specs.Prelude.{◌≡◌};
 ghost use Rattle.std.specs.List.{list_any};
 ghost use Rattle.keyed.specs.Table.{at_slot};
 ghost use Rattle.ns_types.specs.State.Rows.{is_held, is_open};
-ghost use Rattle.ns_world.specs.World.{tenant_of};
+ghost use Rattle.ns_tables.specs.World.{tenant_of};
 ghost use Rattle.ns_admin.specs.Straying.{allocation_strays, evaluation_strays, worker_strays};
 ghost use Rattle.ns_admin.specs.Straying.{has_allocation_astray, has_evaluation_astray, has_worker_astray};
 
-use ns_alike::has_name;
+use ns_equality::has_name;
+use ns_tables::TenantRows;
 use ns_types::allocation::{Allocation, ClientStatus};
 use ns_types::evaluation::{Evaluation, Status};
 use ns_types::text::Text;
 use ns_types::worker::Worker;
-use ns_world::TenantRows;
 
 type EvaluationSlot = (u64, Option<Evaluation>);
 

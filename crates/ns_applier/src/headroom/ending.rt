@@ -4,20 +4,22 @@ ghost use Rattle.std.specs.Prelude.{◌≡◌, ◌+◌, [], false, nat_lt};
 ghost use Rattle.ns_types.specs.declared.node.Class.{Class};
 ghost use Rattle.ns_types.specs.State.Rows.{offered_class};
 ghost use Rattle.ns_types.specs.Steps.{greatest};
-ghost use Rattle.ns_bounds.specs.Bounds.{is_last_index, quota_passes, room_passes};
-ghost use Rattle.ns_bounds.specs.Given.{given_limits_pass, given_room_passes};
+ghost use Rattle.ns_counters.specs.Bounds.{is_last_index, quota_passes, room_passes};
+ghost use Rattle.ns_counters.specs.Given.{given_limits_pass, given_room_passes};
 ghost use Rattle.ns_applier.specs.Judging.{allocations_pass, eviction_passes, node_passes};
 ghost use Rattle.ns_applier.specs.Passing.{end_passes, left_quota_passes, left_room_passes};
 ghost use Rattle.ns_types.specs.Working.Parts.{lives_at};
-ghost use Rattle.ns_world.specs.World.{world_of};
+ghost use Rattle.ns_tables.specs.World.{world_of};
 
-use ns_alike::is_free;
-use ns_bounds::{given_limits_pass, given_room_passes, is_at_bound, is_last_index, wakes_may_pass};
+use ns_counters::{
+    given_limits_pass, given_room_passes, is_at_bound, is_last_index, wakes_may_pass,
+};
+use ns_equality::is_free;
+use ns_tables::Tables;
 use ns_types::allocation::Allocation;
 use ns_types::node::Offer;
 use ns_types::plan::{Eviction, Placement, Plan};
 use ns_types::text::Text;
-use ns_world::Tables;
 use std::marker::Model;
 
 /// Whether a counter passes its bound by so much more.
@@ -80,9 +82,9 @@ impl<'a> Model for Headroom<'a> {
     ghost use Rattle.std.specs.Prelude.{◌≡◌, false};
     ghost use Rattle.std.specs.Coded.{codes};
     ghost use Rattle.std.specs.FinMap.{code};
-    ghost use Rattle.ns_bounds.specs.Bounds.{any_last_index};
+    ghost use Rattle.ns_counters.specs.Bounds.{any_last_index};
     ghost use Rattle.ns_types.specs.State.Rows.{World};
-    ghost use Rattle.ns_world.specs.World.{world_of};
+    ghost use Rattle.ns_tables.specs.World.{world_of};
 
     ghost Value = { World };
 

@@ -1,15 +1,15 @@
 //! A plan is checked against the present state.
 
-ghost use Rattle.ns_live.specs.Index.{IsRight};
+ghost use Rattle.ns_live_index.specs.Index.{IsRight};
 ghost use Rattle.ns_plan.specs.Looks.{AreCounted, IsChecked, IsOnFewNodes};
-ghost use Rattle.ns_world.specs.World.{world_of};
+ghost use Rattle.ns_tables.specs.World.{world_of};
 
 use crate::view::present::Present;
-use ns_live::Live;
+use ns_live_index::Live;
 use ns_plan::Outcome;
+use ns_tables::Tables;
 use ns_types::plan::Plan;
 use ns_types::snapshot::Snapshot;
-use ns_world::Tables;
 
 /// Which nodes do their part of the snapshot's plan in the world that the tables hold. It takes no memory, and nothing
 /// is written. That loads and uses are counted holds of each valid world (`ns_plan::laws::sound_is_counted`), and that

@@ -2,13 +2,13 @@
 
 ghost use Rattle.std.specs.Prelude.{◌≡◌, option_copied};
 ghost use Rattle.ns_plan.specs.Looks.{job_at, limits_of};
-ghost use Rattle.ns_world.specs.World.{world_of};
+ghost use Rattle.ns_tables.specs.World.{world_of};
 
-use ns_alike::limits_in;
+use ns_equality::limits_in;
+use ns_tables::Tables;
 use ns_types::job::Job;
 use ns_types::resources::{Limit, Limits};
 use ns_types::text::Text;
-use ns_world::Tables;
 
 /// What a quota that is not there allows.
 const ALL: Limits = Limits {

@@ -1,18 +1,18 @@
 //! The present state as one value, which contracts see as its world.
 
 ghost use Rattle.std.specs.Prelude.{◌≡◌};
-ghost use Rattle.ns_live.specs.Index.{IsRight};
-ghost use Rattle.ns_world.specs.World.{world_of};
+ghost use Rattle.ns_live_index.specs.Index.{IsRight};
+ghost use Rattle.ns_tables.specs.World.{world_of};
 
 use crate::view::looking;
-use ns_live::Live;
+use ns_live_index::Live;
 use ns_plan::View;
+use ns_tables::Tables;
 use ns_types::allocation::Allocation;
 use ns_types::job::Job;
 use ns_types::node::Node;
 use ns_types::resources::{Limits, Resources};
 use ns_types::text::Text;
-use ns_world::Tables;
 use std::marker::Model;
 
 /// The tables of the world with an index of live allocations that is right for them. Contracts see the world.
@@ -27,9 +27,9 @@ pub struct Present<'a> {
 impl<'a> Model for Present<'a> {
     ghost use Rattle.std.specs.Coded.{codes};
     ghost use Rattle.std.specs.FinMap.{code};
-    ghost use Rattle.ns_live.specs.Index.{IsRight};
+    ghost use Rattle.ns_live_index.specs.Index.{IsRight};
     ghost use Rattle.ns_types.specs.State.Rows.{World};
-    ghost use Rattle.ns_world.specs.World.{world_of};
+    ghost use Rattle.ns_tables.specs.World.{world_of};
 
     ghost Value = { World };
 

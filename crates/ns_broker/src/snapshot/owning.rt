@@ -4,18 +4,18 @@ ghost use Rattle.std.specs.Prelude.{◌≡◌, ◌++◌, IfOk, OnOk, flat_map, o
 ghost use Rattle.ns_types.specs.State.Rows.{is_done};
 ghost use Rattle.ns_types.specs.Working.Snapshot.{is_done_for, own_allocations};
 ghost use Rattle.ns_broker.specs.Seen.{is_own, own_at};
-ghost use Rattle.ns_world.specs.Filing.{slots_at};
-ghost use Rattle.ns_world.specs.World.{tenant_of};
+ghost use Rattle.ns_tables.specs.Filing.{slots_at};
+ghost use Rattle.ns_tables.specs.World.{tenant_of};
 
 use keyed::NumberTable;
-use ns_alike::{same_number, same_text};
 use ns_change::copied_allocation;
+use ns_equality::{same_number, same_text};
+use ns_tables::TenantRows;
 use ns_types::allocation::{Allocation, ClientStatus, DesiredStatus};
 use ns_types::job::{Job, JobKind};
 use ns_types::rows::Rows;
 use ns_types::snapshot::OwnAllocation;
 use ns_types::text::Text;
-use ns_world::TenantRows;
 use std::alloc::{AllocError, Global};
 
 fn is_done(row: &Allocation) -> bool

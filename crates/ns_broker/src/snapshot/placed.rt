@@ -4,18 +4,18 @@ ghost use Rattle.std.specs.Prelude.{◌≡◌, IfOk, OnOk, fold, map};
 ghost use Rattle.std.specs.FinMap.{contains_key, empty, entries};
 ghost use Rattle.keyed.specs.Table.{row_list, rows};
 ghost use Rattle.ns_types.specs.Working.Snapshot.{live_on, seen_live};
-ghost use Rattle.ns_live.specs.Index.{IsRight};
+ghost use Rattle.ns_live_index.specs.Index.{IsRight};
 ghost use Rattle.ns_broker.specs.Seen.{add_namespace, add_number, add_seen, seen_row};
-ghost use Rattle.ns_world.specs.World.{world_of};
+ghost use Rattle.ns_tables.specs.World.{world_of};
 
 use keyed::{KeySet, NumberTable};
-use ns_live::Live;
+use ns_live_index::Live;
+use ns_tables::Tables;
 use ns_types::allocation::Allocation;
 use ns_types::rows::Rows;
 use ns_types::shared::Shared;
 use ns_types::snapshot::LiveAllocation;
 use ns_types::text::Text;
-use ns_world::Tables;
 use std::alloc::{AllocError, Global};
 
 /// Live allocations by their place on the node.

@@ -3,19 +3,19 @@
 ghost use Rattle.std.specs.Prelude.{◌≡◌, ◌++◌, IfOk, OnOk, Some, flat_map};
 ghost use Rattle.ns_types.specs.State.Rows.{node_at};
 ghost use Rattle.ns_types.specs.Working.Snapshot.{live_on, nodes_of};
-ghost use Rattle.ns_live.specs.Index.{IsRight};
+ghost use Rattle.ns_live_index.specs.Index.{IsRight};
 ghost use Rattle.ns_broker.specs.Seen.{AreNodesOf, IsNodeOf, node_at_slot};
-ghost use Rattle.ns_world.specs.World.{world_of};
+ghost use Rattle.ns_tables.specs.World.{world_of};
 
 use crate::snapshot::placed::live_on;
 use ns_change::copied_node;
-use ns_live::Live;
+use ns_live_index::Live;
+use ns_tables::Tables;
 use ns_types::node::Node;
 use ns_types::rows::Rows;
 use ns_types::shared::Shared;
 use ns_types::snapshot::PoolNode;
 use ns_types::text::Text;
-use ns_world::Tables;
 use std::alloc::AllocError;
 
 /// A node with its name, or a vacant slot.

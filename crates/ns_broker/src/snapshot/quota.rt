@@ -5,15 +5,15 @@ ghost use Rattle.std.specs.Option.{option_and_then};
 ghost use Rattle.ns_types.specs.State.Resources.{IsCounted, limits_in};
 ghost use Rattle.ns_types.specs.State.Sums.{quota_use};
 ghost use Rattle.ns_types.specs.Working.Snapshot.{namespaces_naming, quota_seen};
-ghost use Rattle.ns_live.specs.Index.{IsRight};
+ghost use Rattle.ns_live_index.specs.Index.{IsRight};
 ghost use Rattle.ns_broker.specs.Seen.{UseOfFits};
-ghost use Rattle.ns_world.specs.World.{tenant_of, world_of};
+ghost use Rattle.ns_tables.specs.World.{tenant_of, world_of};
 
-use ns_alike::limits_in;
-use ns_live::Live;
+use ns_equality::limits_in;
+use ns_live_index::Live;
+use ns_tables::{QuotaRows, Tables, TenantRows};
 use ns_types::snapshot::QuotaSeen;
 use ns_types::text::Text;
-use ns_world::{QuotaRows, Tables, TenantRows};
 use std::alloc::AllocError;
 
 fn seen(tables: &Tables, live: &Live, name: &Text, row: &QuotaRows) -> Result<QuotaSeen, AllocError>

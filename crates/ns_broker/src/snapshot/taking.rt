@@ -4,19 +4,19 @@ ghost use Rattle.std.specs.Prelude.{◌≡◌, IfOk, option_copied};
 ghost use Rattle.std.specs.FinMap.{get};
 ghost use Rattle.std.specs.Option.{option_map_or};
 ghost use Rattle.ns_types.specs.Working.Snapshot.{pool_for, snapshot_of};
-ghost use Rattle.ns_live.specs.Index.{IsRight};
+ghost use Rattle.ns_live_index.specs.Index.{IsRight};
 ghost use Rattle.ns_broker.specs.Seen.{UseOfFits};
-ghost use Rattle.ns_world.specs.World.{tenant_of, world_of};
+ghost use Rattle.ns_tables.specs.World.{tenant_of, world_of};
 
 use crate::snapshot::owning::own_allocations;
 use crate::snapshot::pool::nodes_of;
 use crate::snapshot::quota::quota_for;
-use ns_live::Live;
+use ns_live_index::Live;
+use ns_tables::{Tables, TenantRows};
 use ns_types::evaluation::Evaluation;
 use ns_types::job::Job;
 use ns_types::snapshot::Snapshot;
 use ns_types::text::Text;
-use ns_world::{Tables, TenantRows};
 use std::alloc::AllocError;
 
 /// The job's pool, or its evaluation's where the job is gone.

@@ -3,13 +3,13 @@
 
 ghost use Rattle.std.specs.Prelude.{◌≡◌};
 ghost use Rattle.ns_jobs.specs.Reporting.{number_passes, release_passes, report_passes};
-ghost use Rattle.ns_world.specs.World.{tenant_of, world_of};
+ghost use Rattle.ns_tables.specs.World.{tenant_of, world_of};
 
 use crate::ending_passes;
 use crate::report::statuses::{calls_for_one, ends};
-use ns_bounds::is_at_bound;
+use ns_counters::is_at_bound;
+use ns_tables::{Tables, TenantRows};
 use ns_types::allocation::{Allocation, ClientStatus};
-use ns_world::{Tables, TenantRows};
 
 fn number_passes(tenant: &TenantRows, row: &Allocation, client: ClientStatus) -> bool
     ensures { result ≡ number_passes (tenant_of tenant.now) row.now client }

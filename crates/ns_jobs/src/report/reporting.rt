@@ -8,19 +8,19 @@ ghost use Rattle.ns_types.specs.Asking.Nodes.{ask_pool, report_of};
 ghost use Rattle.ns_types.specs.State.Rows.{node_at};
 ghost use Rattle.ns_types.specs.Steps.{is_past_bound};
 ghost use Rattle.ns_change.specs.Prepared.{Prepares, bounded};
-ghost use Rattle.ns_world.specs.World.{tenant_of, world_of};
+ghost use Rattle.ns_tables.specs.World.{tenant_of, world_of};
 
 use crate::allocation;
 use crate::report::bounds::report_passes;
 use crate::report::statuses::{is_on, may_become, same_client};
 use crate::report::writing::reported;
 use ns_change::{Change, Prepared};
+use ns_tables::{Tables, TenantRows};
 use ns_types::allocation::Allocation;
 use ns_types::refusal::Refusal;
 use ns_types::reply::Content;
 use ns_types::step::Report;
 use ns_types::text::Text;
-use ns_world::{Tables, TenantRows};
 
 fn has_node(tables: &Tables, pool: &Text, name: &Text) -> bool
     ensures { result ≡ is_some (node_at (world_of tables.now) pool.now name.now) }

@@ -4,13 +4,13 @@ ghost use Rattle.std.specs.Prelude.{◌≡◌, ◌&&◌, not};
 ghost use Rattle.ns_types.specs.Asking.Nodes.{calls_for_one, is_of_batch, is_on, may_become, same_client};
 ghost use Rattle.ns_types.specs.State.Rows.{is_held};
 ghost use Rattle.ns_jobs.specs.Reporting.{ends};
-ghost use Rattle.ns_world.specs.World.{tenant_of};
+ghost use Rattle.ns_tables.specs.World.{tenant_of};
 
 use crate::job;
+use ns_tables::TenantRows;
 use ns_types::allocation::{Allocation, ClientStatus, DesiredStatus};
 use ns_types::job::JobKind;
 use ns_types::text::{Text, same_text};
-use ns_world::TenantRows;
 
 /// Whether the allocation is on that node of that pool.
 pub(crate) fn is_on(pool: &Text, node: &Text, row: &Allocation) -> bool

@@ -8,17 +8,17 @@ ghost use Rattle.ns_types.specs.Settling.Outcome.{Done};
 ghost use Rattle.ns_change.specs.Changed.{Does, view};
 ghost use Rattle.ns_change.specs.Prepared.{Prepares};
 ghost use Rattle.ns_jobs.specs.Reporting.{number_passes};
-ghost use Rattle.ns_world.specs.World.{tenant_of, world_of};
+ghost use Rattle.ns_tables.specs.World.{tenant_of, world_of};
 
 use crate::report::statuses::calls_for_one;
 use ns_change::{Change, Prepared, evaluation_for, make, prepare, set_client};
+use ns_tables::{Tables, TenantRows};
 use ns_types::allocation::Allocation;
 use ns_types::evaluation::Trigger;
 use ns_types::key::EvalKey;
 use ns_types::refusal::Refusal;
 use ns_types::reply::Content;
 use ns_types::step::Report;
-use ns_world::{Tables, TenantRows};
 use std::alloc::AllocError;
 
 /// The allocation gets the client's status, and where that calls for one an evaluation of its job is made. The premises

@@ -10,7 +10,7 @@ ghost use Rattle.ns_log.specs.Settling.{Settles, IsFault};
 use crate::Entry;
 use crate::receipts::fault::SettleFault;
 use crate::receipts::receipt::Receipt;
-use ns_alike::steps::{same_rendered, same_step};
+use ns_equality::steps::{same_rendered, same_step};
 use std::alloc::Global;
 
 /// Whether the receipt tells of the entry at its place, and the place is not marked.

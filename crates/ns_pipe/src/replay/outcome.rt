@@ -11,7 +11,7 @@ use crate::replay::lines::own_lines;
 use crate::replay::replay::Replay;
 use ns_core::Core;
 use ns_log::Entry;
-use ns_log_read::{LogFault, log_read};
+use ns_log_reader::{LogFault, log_read};
 use ns_replay::{ReplayFault, replay_alone};
 use ns_types::text::Text;
 use std::alloc::{AllocError, Global};

@@ -2,7 +2,7 @@
 
 ghost use Rattle.ns_pipe.specs.Laws.{RequestedIsAsRead, SegmentsAreReadBack, SettledIsAsRead, WorkedIsAsRead};
 
-use ns_asked::Draws;
+use ns_endpoints::Draws;
 
 /// Where a request asks to put a policy, its rules are those that its text says.
 pub fn requested_is_as_read<D: Draws>()

@@ -3,7 +3,7 @@
 ghost use Rattle.std.specs.Prelude.{◌^◌, ◌<◌, IsTrue, length};
 ghost use Rattle.ns_types.specs.State.Lists.{Each};
 ghost use Rattle.ns_types.specs.Within.{IsGoodStep};
-ghost use Rattle.ns_log_read.specs.Lines.{answer_fits, ask_fits, fits, fits_if_any, node_command_fits, step_fits};
+ghost use Rattle.ns_log_reader.specs.Lines.{answer_fits, ask_fits, fits, fits_if_any, node_command_fits, step_fits};
 ghost use Rattle.ns_pipe.specs.Readable.{IsTyped};
 
 use ns_log::Entry;

@@ -5,8 +5,8 @@ ghost use Rattle.ns_replay.specs.Running.{is_no_step};
 ghost use Rattle.ns_replay.specs.Replying.{Fits, FitsIn, Replies, Shows};
 
 use crate::model_run::step;
-use ns_alike::steps::same_rendered;
 use ns_core::Core;
+use ns_equality::steps::same_rendered;
 use ns_log::Entry;
 use ns_replies::answers::{refused, render};
 use ns_types::refusal::Refusal;

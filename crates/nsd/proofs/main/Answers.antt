@@ -1,4 +1,4 @@
-use Rattle.ns_words.proofs.Serving.{few_connections}
+use Rattle.ns_command_line.proofs.Serving.{few_connections}
 use Rattle.nsd.proofs.main.Goals as goal
 
 pub conclude-ended-requires-after_bounds : goal.conclude-ended-requires-after_bounds

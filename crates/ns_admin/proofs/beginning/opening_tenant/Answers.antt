@@ -1,7 +1,7 @@
 use Rattle.std.proofs.Common.{◌≡◌, subst}
 use Rattle.std.specs.Prelude.{IfOk, None}
 use Rattle.ns_types.specs.Asking.Admins.{new_tenant}
-use Rattle.ns_world.specs.World.{tenant_of}
+use Rattle.ns_tables.specs.World.{tenant_of}
 use Rattle.ns_admin.proofs.beginning.opening_tenant.Goals as goal
 
 pub returns : goal.returns

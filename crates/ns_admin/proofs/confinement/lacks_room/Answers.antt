@@ -4,7 +4,7 @@ use Rattle.ns_admin.proofs.World.{pools_full, quotas_full, tenants_full}
 use Rattle.ns_types.specs.Asking.Admins.{is_full}
 use Rattle.ns_types.specs.Isolation.{lacks_room}
 use Rattle.ns_types.specs.declared.step.Step.{Step}
-use Rattle.ns_world.specs.World.{world_of}
+use Rattle.ns_tables.specs.World.{world_of}
 use Rattle.ns_admin.proofs.confinement.lacks_room.Goals as goal
 
 pub returns-in-PutNamespace : goal.returns-in-PutNamespace

@@ -1,8 +1,8 @@
 use Rattle.std.proofs.Common.{ap, sym, ◌∙◌}
 use Rattle.std.specs.Prelude.{option_copied, option_map}
 use Rattle.ns_types.specs.State.Rows.{Tenant}
-use Rattle.ns_world.specs.World.{tenant_of}
-use Rattle.ns_world.proofs.World.{tenant_at}
+use Rattle.ns_tables.specs.World.{tenant_of}
+use Rattle.ns_tables.proofs.World.{tenant_at}
 use Rattle.ns_admin.proofs.confinement.namespace_at.Goals as goal
 
 pub returns-in-Some : goal.returns-in-Some

@@ -3,7 +3,7 @@ use Rattle.std.proofs.Common.{refl, sym, ◌∙◌}
 use Rattle.std.specs.FinMap.{get}
 use Rattle.std.specs.Option.{option_map_or}
 use Rattle.ns_types.specs.Access.Sharing.{permits}
-use Rattle.ns_world.specs.World.{world_of}
+use Rattle.ns_tables.specs.World.{world_of}
 use Rattle.ns_admin.proofs.confinement.permits.Goals as goal
 
 mapped : {A B : Type 0} (f : B → Bool) (g : A → B) (o : Option A) (b : Bool) → option_map_or f (option_map g o) b ≡ option_map_or (λ x. f (g x)) o b

@@ -7,7 +7,7 @@ use Rattle.ns_types.specs.Access.Sharing.{shares, shares_with_any}
 use Rattle.ns_admin.specs.Viewed.{overlaps_other}
 use Rattle.ns_admin.proofs.World.{tenant_is}
 use Rattle.ns_admin.proofs.Sharers.{others, others_are}
-use Rattle.ns_world.specs.World.{world_of}
+use Rattle.ns_tables.specs.World.{world_of}
 use Rattle.ns_admin.proofs.looking.shares.Goals as goal
 
 pub returns-in_default : goal.returns-in_default

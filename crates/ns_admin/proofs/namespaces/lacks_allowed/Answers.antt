@@ -1,7 +1,7 @@
 use Rattle.std.proofs.Common.{not, ap, ◌∙◌}
 use Rattle.std.specs.List.{list_all}
 use Rattle.std.specs.FinMap.{contains_key}
-use Rattle.ns_world.specs.World.{world_of}
+use Rattle.ns_tables.specs.World.{world_of}
 use Rattle.ns_admin.proofs.namespaces.lacks_allowed.Goals as goal
 
 pub returns-in-Some : goal.returns-in-Some

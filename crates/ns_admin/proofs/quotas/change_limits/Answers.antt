@@ -3,8 +3,8 @@ use Rattle.ns_types.specs.declared.reply.Content.TheVariants as Content
 use Rattle.ns_change.specs.Changed.{with_record}
 use Rattle.ns_change.proofs.Bounded.{done_still, refused_full}
 use Rattle.ns_change.proofs.Prepares.{prepares_as}
-use Rattle.ns_bounds.proofs.GivenLimits.{limits_past}
-use Rattle.ns_world.specs.World.{world_of}
+use Rattle.ns_counters.proofs.GivenLimits.{limits_past}
+use Rattle.ns_tables.specs.World.{world_of}
 use Rattle.ns_admin.proofs.Limits.{puts_record}
 use Rattle.ns_admin.proofs.quotas.change_limits.Goals as goal
 

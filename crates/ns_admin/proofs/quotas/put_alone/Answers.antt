@@ -1,7 +1,7 @@
 use Rattle.std.proofs.Common.{ap}
 use Rattle.ns_change.specs.Changed.{with_record}
 use Rattle.ns_change.proofs.Prepares.{done_as}
-use Rattle.ns_world.specs.World.{world_of}
+use Rattle.ns_tables.specs.World.{world_of}
 use Rattle.ns_admin.proofs.quotas.put_alone.Goals as goal
 
 pub returns : goal.returns

@@ -3,7 +3,7 @@ use Rattle.ns_types.specs.declared.reply.Content.TheVariants as Content
 use Rattle.ns_types.specs.Asking.Admins.{put_quota}
 use Rattle.ns_types.specs.Settling.Outcome.{Done, is_done}
 use Rattle.ns_types.proofs.Outcomes.{unless_not, unless_so}
-use Rattle.ns_world.specs.World.{world_of}
+use Rattle.ns_tables.specs.World.{world_of}
 use Rattle.ns_admin.specs.declared.record.RecordChange.TheVariants as RecordChange
 use Rattle.ns_admin.specs.Recorded.{recorded}
 use Rattle.ns_admin.proofs.Recording.{out_of_memory}

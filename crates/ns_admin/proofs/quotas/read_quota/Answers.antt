@@ -2,7 +2,7 @@ use Rattle.std.specs.Prelude.{Some, None}
 use Rattle.std.proofs.Common.{refl, sym, ap, ◌∙◌}
 use Rattle.std.specs.Option.{option_copied}
 use Rattle.ns_types.specs.Settling.Outcome.{Done, is_done}
-use Rattle.ns_world.specs.World.{world_of}
+use Rattle.ns_tables.specs.World.{world_of}
 use Rattle.ns_types.proofs.Outcomes.{found_none, found_some, memory_last}
 use Rattle.ns_admin.proofs.World.{quota_is}
 use Rattle.ns_admin.proofs.quotas.read_quota.Goals as goal

@@ -3,7 +3,7 @@ use Rattle.std.proofs.Common.{refl, sym}
 use Rattle.std.specs.Option.{option_copied}
 use Rattle.ns_admin.proofs.Naming.{removed_named}
 use Rattle.ns_admin.proofs.World.{tenant_removed}
-use Rattle.ns_world.specs.World.{world_of}
+use Rattle.ns_tables.specs.World.{world_of}
 use Rattle.ns_admin.proofs.writing.remove_namespace.Goals as goal
 
 pub returns-clause-written : goal.returns-clause-written

@@ -6,8 +6,8 @@ use Rattle.keyed.specs.Table.{has_slot}
 use Rattle.keyed.proofs.Tables.{has_slot-row, insert-emptied}
 use Rattle.ns_types.proofs.Named.{names, one_name}
 use Rattle.ns_change.proofs.Opening.{emptied_keeps}
-use Rattle.ns_live.specs.Naming.{HasNameRoom}
-use Rattle.ns_world.specs.World.{world_of}
+use Rattle.ns_live_index.specs.Naming.{HasNameRoom}
+use Rattle.ns_tables.specs.World.{world_of}
 use Rattle.ns_admin.proofs.Naming.{named_there, used_there, written_named}
 use Rattle.ns_admin.proofs.World.{tenant_over}
 use Rattle.ns_admin.proofs.writing.replace_namespace.Goals as goal

@@ -3,8 +3,8 @@ use Rattle.std.specs.Option.{option_copied}
 use Rattle.std.specs.Prelude.{IsTrue, None, is_some}
 use Rattle.ns_admin.proofs.Naming.{named_nowhere, same_named, used_nowhere, written_named}
 use Rattle.ns_admin.proofs.World.{tenant_new}
-use Rattle.ns_live.specs.Naming.{AreNamed, HasNameRoom}
-use Rattle.ns_world.specs.World.{world_of}
+use Rattle.ns_live_index.specs.Naming.{AreNamed, HasNameRoom}
+use Rattle.ns_tables.specs.World.{world_of}
 use Rattle.keyed.proofs.Tables.{slot_made}
 use Rattle.ns_types.specs.State.Rows.{Tenant}
 use Rattle.ns_types.proofs.Named.{names}

@@ -11,8 +11,8 @@ use Rattle.ns_change.proofs.Prepares.{prepares_as}
 use Rattle.ns_change.specs.Prepared.{bounded}
 use Rattle.ns_plan.specs.Looks.{IsOnFewNodes}
 use Rattle.ns_plan.proofs.Looks.{sound_is_counted}
-use Rattle.ns_world.proofs.World.{tenant_at}
-use Rattle.ns_world.specs.World.{tenant_of, world_of}
+use Rattle.ns_tables.proofs.World.{tenant_at}
+use Rattle.ns_tables.specs.World.{tenant_of, world_of}
 use Rattle.ns_applier.proofs.applying.apply.Goals as goal
 
 pub returns-in_default : goal.returns-in_default

@@ -2,13 +2,13 @@ use Rattle.std.proofs.Common.{ap, sym, subst, ◌∙◌, Some}
 use Rattle.std.specs.FinMap.{get}
 use Rattle.std.specs.Prelude.{◌≡◌, option_map, List, ℕ}
 use Rattle.ns_types.specs.Steps.{is_past_bound}
-use Rattle.ns_apply.specs.Whole.{CanWrite}
+use Rattle.ns_plan_result.specs.Whole.{CanWrite}
 use Rattle.ns_applier.proofs.Coming.{all_dropped, can_write, comes_done, comes_full, comes_refused, dropped_is}
 use Rattle.ns_change.proofs.Prepares.{prepares_as}
 use Rattle.ns_applier.specs.HeadroomApplying.{apply_passes}
 use Rattle.ns_applier.specs.Judging.{doing}
-use Rattle.ns_world.proofs.World.{tenant_at}
-use Rattle.ns_world.specs.World.{tenant_of, world_of}
+use Rattle.ns_tables.proofs.World.{tenant_at}
+use Rattle.ns_tables.specs.World.{tenant_of, world_of}
 use Rattle.ns_applier.proofs.applying.come_to.Goals as goal
 
 pub returns-then-is_refused : goal.returns-then-is_refused

@@ -3,7 +3,7 @@ use Rattle.ns_applier.specs.Losing.{is_victim}
 use Rattle.ns_plan.specs.After.{after_stops}
 use Rattle.ns_renewal.specs.Counted.{counted_of}
 use Rattle.ns_renewal.specs.Losing.{numbers_pass, victims_at}
-use Rattle.ns_world.specs.World.{world_of}
+use Rattle.ns_tables.specs.World.{world_of}
 use Rattle.ns_applier.proofs.judging.evaluations_pass.Goals as goal
 
 pub returns : goal.returns

@@ -1,7 +1,7 @@
 use Rattle.std.proofs.Common.{ap, sym, ◌∙◌, ◌||◌}
 use Rattle.ns_applier.proofs.Victims.{passes_are}
 use Rattle.ns_applier.specs.Judging.{lost_part_passes, own_part_passes}
-use Rattle.ns_world.specs.World.{world_of}
+use Rattle.ns_tables.specs.World.{world_of}
 use Rattle.ns_applier.proofs.judging.passes.Goals as goal
 
 pub returns-then-evaluations_pass : goal.returns-then-evaluations_pass

@@ -1,7 +1,7 @@
 use Rattle.std.proofs.Common.{ap, ◌∙◌}
 use Rattle.ns_types.specs.Working.Queue.{served}
 use Rattle.ns_broker.proofs.looking.first_plan.Goals as goal
-use Rattle.ns_world.specs.World.{world_of}
+use Rattle.ns_tables.specs.World.{world_of}
 
 pub returns : goal.returns
 unfolding world_of

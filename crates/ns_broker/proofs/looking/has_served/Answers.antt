@@ -2,7 +2,7 @@ use Rattle.std.proofs.Common.{ap, not, ◌∙◌}
 use Rattle.ns_types.specs.Working.Queue.{priority_at}
 use Rattle.ns_broker.proofs.Preferred.{some_is_served}
 use Rattle.ns_broker.proofs.looking.has_served.Goals as goal
-use Rattle.ns_world.specs.World.{world_of}
+use Rattle.ns_tables.specs.World.{world_of}
 
 pub returns : goal.returns
 unfolding world_of

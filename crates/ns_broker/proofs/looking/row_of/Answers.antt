@@ -1,13 +1,13 @@
 use Rattle.std.specs.Prelude.{ℕ, Option, option_map}
 use Rattle.std.proofs.Common.{ap, sym, ◌∙◌}
 use Rattle.std.specs.Option.{option_and_then, option_copied}
-use Rattle.ns_turns.proofs.Holding.{row_again}
+use Rattle.ns_queues.proofs.Holding.{row_again}
 use Rattle.ns_types.specs.State.Names.{Name}
 use Rattle.ns_types.specs.State.Rows.{World}
 use Rattle.ns_types.specs.Working.Looks.{worker_at}
 use Rattle.ns_types.specs.Working.Worker.{Worker}
 use Rattle.ns_broker.proofs.looking.row_of.Goals as goal
-use Rattle.ns_world.specs.World.{world_of}
+use Rattle.ns_tables.specs.World.{world_of}
 
 -- the worker's row in the namespace, where there is one
 abbrev row_by : World → ℕ → Option Name → Option (Name × Worker)

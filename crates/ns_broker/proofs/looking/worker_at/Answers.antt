@@ -6,8 +6,8 @@ use Rattle.keyed.proofs.Tables.{get-rows}
 use Rattle.ns_types.proofs.Named.{numbers}
 use Rattle.ns_types.specs.State.Rows.{Tenant}
 use Rattle.ns_broker.proofs.looking.worker_at.Goals as goal
-use Rattle.ns_world.proofs.World.{tenant_at}
-use Rattle.ns_world.specs.World.{tenant_of}
+use Rattle.ns_tables.proofs.World.{tenant_at}
+use Rattle.ns_tables.specs.World.{tenant_of}
 
 pub returns-in-Some : goal.returns-in-Some
 returns-in-Some c = c.get-in-Some.ensures ∙ sym (ap (option_and_then (λ (t : Tenant). get t.workers c.args.number))

@@ -4,8 +4,8 @@ use Rattle.std.proofs.lemmas.Bool.Decides.{leb_tells}
 use Rattle.std.specs.Option.{option_copied, option_map_or}
 use Rattle.ns_types.specs.Steps.{greatest}
 use Rattle.ns_broker.proofs.nacking.is_last_index.Goals as goal
-use Rattle.ns_world.proofs.World.{tenant_at}
-use Rattle.ns_world.specs.World.{tenant_of}
+use Rattle.ns_tables.proofs.World.{tenant_at}
+use Rattle.ns_tables.specs.World.{tenant_of}
 
 -- the last number is the greatest
 last_index : (n : ℕ) → nat_le (2 ^ 64 - 1) n ≡ nat_lt greatest (n + 1)

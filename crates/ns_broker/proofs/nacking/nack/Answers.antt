@@ -8,7 +8,7 @@ use Rattle.ns_broker.proofs.Nacked.{comes_back, is_put_away, none_to_nack, nothi
 use Rattle.ns_broker.proofs.nacking.nack.Goals as goal
 use Rattle.ns_change.specs.Prepared.{bounded}
 use Rattle.ns_change.proofs.Prepares.{prepares_as}
-use Rattle.ns_world.specs.World.{world_of}
+use Rattle.ns_tables.specs.World.{world_of}
 
 pub returns-in_default : goal.returns-in_default
 returns-in_default c = let w = world_of c.args.tables.now in ap (bounded w) (none_to_nack c.args.number c.args.namespace.now w

@@ -6,7 +6,7 @@ use Rattle.ns_broker.proofs.Preferred.{along_slots, first_is_served}
 use Rattle.std.proofs.lemmas.List.{drop_all}
 use Rattle.ns_broker.proofs.serving.served.Goals as goal
 use Rattle.keyed.specs.Queue.{keys_in}
-use Rattle.ns_world.specs.World.{world_of}
+use Rattle.ns_tables.specs.World.{world_of}
 
 pub returns : goal.returns
 returns c = let p = priority_at (world_of c.args.tables.now) in

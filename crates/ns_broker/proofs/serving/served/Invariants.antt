@@ -3,7 +3,7 @@ use Rattle.std.specs.Prelude.{option_copied}
 use Rattle.ns_types.specs.Working.Queue.{priority_at}
 use Rattle.ns_broker.specs.Serving.{preferred_at}
 use Rattle.ns_broker.proofs.serving.served.Given as goal
-use Rattle.ns_world.specs.World.{world_of}
+use Rattle.ns_tables.specs.World.{world_of}
 
 -- the one that is preferred so far
 abbrev pub invariant-loop-slot : goal.invariant-loop-slot

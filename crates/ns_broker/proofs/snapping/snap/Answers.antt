@@ -14,8 +14,8 @@ use Rattle.ns_types.proofs.Named.{numbers}
 use Rattle.ns_broker.specs.Snapping.{kept_at}
 use Rattle.ns_broker.proofs.Snaps.{gone, idle, keeps, no_memory, nowhere, out_of_turn, snaps}
 use Rattle.ns_broker.proofs.snapping.snap.Goals as goal
-use Rattle.ns_world.proofs.World.{tenant_at}
-use Rattle.ns_world.specs.World.{tenant_of, world_of}
+use Rattle.ns_tables.proofs.World.{tenant_at}
+use Rattle.ns_tables.specs.World.{tenant_of, world_of}
 
 pub returns-in_default-clause-snaps : goal.returns-in_default-clause-snaps
 returns-in_default-clause-snaps c = nowhere c.args.number c.args.namespace.now (world_of c.args.tables.now)

@@ -4,7 +4,7 @@ use Rattle.ns_types.specs.Settling.Outcome.{Done}
 use Rattle.ns_broker.proofs.Submitted.{refused, submits}
 use Rattle.ns_broker.specs.Submitting.{handed_in}
 use Rattle.ns_change.proofs.Prepares.{done_as, prepares_as}
-use Rattle.ns_world.specs.World.{world_of}
+use Rattle.ns_tables.specs.World.{world_of}
 use Rattle.ns_broker.proofs.submitting.submit.Goals as goal
 
 pub hand_in-made-requires : goal.hand_in-made-requires

@@ -6,7 +6,7 @@ use Rattle.ns_broker.proofs.taking.dequeue.Goals as goal
 use Rattle.ns_broker.specs.Serving.{may_dequeue, take}
 use Rattle.ns_change.proofs.Prepares.{done_as, prepares_as}
 use Rattle.ns_change.specs.Changed.{Does}
-use Rattle.ns_world.specs.World.{world_of}
+use Rattle.ns_tables.specs.World.{world_of}
 
 pub returns-in_default : goal.returns-in_default
 returns-in_default c =

@@ -3,7 +3,7 @@ use Rattle.std.specs.Option.{option_copied}
 use Rattle.std.specs.Prelude.{is_some}
 use Rattle.ns_broker.proofs.Dequeued.{idle_by}
 use Rattle.ns_broker.proofs.taking.is_idle.Goals as goal
-use Rattle.ns_world.specs.World.{world_of}
+use Rattle.ns_tables.specs.World.{world_of}
 
 pub returns-in-Some : goal.returns-in-Some
 returns-in-Some c = ap (λ ns. not (is_some ns)) (sym (ap option_copied c.in-Some.is) ∙ c.namespace_of.ensures)

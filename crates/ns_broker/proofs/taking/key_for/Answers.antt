@@ -2,7 +2,7 @@ use Rattle.std.specs.Prelude.{Some, None, cond}
 use Rattle.std.proofs.Common.{sym, ◌∙◌, ◌&&◌}
 use Rattle.ns_broker.proofs.taking.key_for.Goals as goal
 use Rattle.ns_types.specs.Working.Queue.{is_served}
-use Rattle.ns_world.specs.World.{world_of}
+use Rattle.ns_tables.specs.World.{world_of}
 
 pub returns : goal.returns
 returns c = c.served_as.ensures

@@ -2,7 +2,7 @@ use Rattle.std.proofs.Common.{ap, sym, ◌∙◌}
 use Rattle.std.specs.Option.{option_copied}
 use Rattle.ns_broker.proofs.Dequeued.{served_it, served_none, served_other}
 use Rattle.ns_broker.proofs.taking.served_as.Goals as goal
-use Rattle.ns_world.specs.World.{world_of}
+use Rattle.ns_tables.specs.World.{world_of}
 
 pub returns-in_default : goal.returns-in_default
 returns-in_default c = served_none (world_of c.args.tables.now) (world_of c.args.tables.now).ready (c.args.namespace.now, c.args.number)

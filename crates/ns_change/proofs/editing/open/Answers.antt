@@ -5,7 +5,7 @@ use Rattle.keyed.specs.Table.{has_slot, row_at}
 use Rattle.keyed.proofs.Tables.{has_slot-row, has_slot-with_slot_here}
 use Rattle.ns_types.proofs.Named.{names, one_name}
 use Rattle.ns_change.specs.Changed.{changed_tenant, perhaps}
-use Rattle.ns_world.specs.World.{tenant_of}
+use Rattle.ns_tables.specs.World.{tenant_of}
 use Rattle.ns_change.proofs.Opening.{emptied_keeps, opened, row_emptied, row_with_slot, unchanged_is}
 use Rattle.ns_change.proofs.Seen.{none_seen}
 use Rattle.ns_change.proofs.editing.open.Goals as goal

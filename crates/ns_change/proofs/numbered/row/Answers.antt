@@ -5,7 +5,7 @@ use Rattle.keyed.proofs.Tables.{get-rows}
 use Rattle.keyed.specs.Over.{over}
 use Rattle.ns_types.proofs.Named.{numbers}
 use Rattle.ns_types.specs.State.Rows.{Tenant}
-use Rattle.ns_world.specs.World.{tenant_of}
+use Rattle.ns_tables.specs.World.{tenant_of}
 use Rattle.ns_change.proofs.Seen.{changed_seen, kept_seen, none_seen}
 use Rattle.ns_change.proofs.numbered.row.Goals as goal
 

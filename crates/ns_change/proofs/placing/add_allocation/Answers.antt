@@ -8,7 +8,7 @@ use Rattle.ns_types.specs.Working.Commit.{with_allocation}
 use Rattle.ns_types.proofs.Named.{names, one_name}
 use Rattle.ns_types.proofs.Results.{on_ok}
 use Rattle.ns_change.specs.declared.change.TenantChange.{TenantChange}
-use Rattle.ns_world.specs.World.{tenant_of}
+use Rattle.ns_tables.specs.World.{tenant_of}
 use Rattle.ns_change.specs.Changed.{changed_tenant, perhaps, view}
 use Rattle.ns_change.proofs.Opening.{opened, put_open, row_with_slot, unchanged_is}
 use Rattle.ns_change.proofs.Seen.{changed_seen, kept_seen, none_seen}

@@ -5,7 +5,7 @@ use Rattle.keyed.specs.Table.{has_slot, row_at}
 use Rattle.keyed.proofs.Tables.{has_slot-row, has_slot-with_slot_here}
 use Rattle.ns_types.proofs.Named.{names, one_name}
 use Rattle.ns_change.specs.Changed.{changed_pool, perhaps}
-use Rattle.ns_world.specs.World.{pool_of}
+use Rattle.ns_tables.specs.World.{pool_of}
 use Rattle.ns_change.proofs.Opening.{emptied_keeps, row_emptied, row_with_slot}
 use Rattle.ns_change.proofs.Seen.{no_pool}
 use Rattle.ns_change.proofs.Pools.{opened_pool}

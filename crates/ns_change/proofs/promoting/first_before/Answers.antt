@@ -3,7 +3,7 @@ use Rattle.std.specs.Option.{option_copied}
 use Rattle.keyed.specs.Table.{rows}
 use Rattle.ns_change.specs.Waiting.{of_job, row_passes, stands}
 use Rattle.ns_change.proofs.Waiting.{led_by, led_by_none}
-use Rattle.ns_world.specs.Filing.{AreNumbersUnder, job_where}
+use Rattle.ns_tables.specs.Filing.{AreNumbersUnder, job_where}
 use Rattle.ns_change.proofs.promoting.first_before.Goals as goal
 
 pub returns-in-Some : goal.returns-in-Some

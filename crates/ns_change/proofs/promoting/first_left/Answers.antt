@@ -4,7 +4,7 @@ use Rattle.keyed.specs.Table.{rows}
 use Rattle.ns_types.proofs.Named.{second_of_both}
 use Rattle.ns_change.specs.Waiting.{of_job, unheld_passes, stands}
 use Rattle.ns_change.proofs.Waiting.{led_by, led_by_none}
-use Rattle.ns_world.specs.Filing.{AreNumbersUnder, job_where}
+use Rattle.ns_tables.specs.Filing.{AreNumbersUnder, job_where}
 use Rattle.ns_change.proofs.promoting.first_left.Goals as goal
 
 pub returns-in-Some : goal.returns-in-Some

@@ -3,7 +3,7 @@ use Rattle.keyed.specs.Table.{row_at}
 use Rattle.ns_change.specs.Waiting.{stands}
 use Rattle.ns_types.specs.declared.evaluation.Evaluation.{Evaluation}
 use Rattle.ns_types.specs.declared.evaluation.Status.TheVariants as Status
-use Rattle.ns_world.specs.Filing.{job_where, stands_under}
+use Rattle.ns_tables.specs.Filing.{job_where, stands_under}
 use Rattle.ns_change.proofs.promoting.stored_numbers.Goals as goal
 
 pub returns-in-Pending : goal.returns-in-Pending

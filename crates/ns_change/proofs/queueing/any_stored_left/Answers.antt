@@ -7,7 +7,7 @@ use Rattle.std.specs.Prelude.{is_some}
 use Rattle.keyed.specs.Levels.{holds_number}
 use Rattle.ns_types.proofs.Named.{first_of_both, same_name_refl}
 use Rattle.ns_types.specs.State.Names.{has_key, same_name}
-use Rattle.ns_world.specs.Filing.{evaluation_job, stands_under}
+use Rattle.ns_tables.specs.Filing.{evaluation_job, stands_under}
 use Rattle.ns_change.proofs.Candidates.{in_slots, number_left, out_slots}
 use Rattle.ns_change.proofs.Waiting.{has_slot_of}
 use Rattle.ns_change.specs.Queued.{is_left_in}

@@ -2,7 +2,7 @@ use Rattle.std.proofs.Common.{subst, sym}
 use Rattle.ns_copies.specs.Copied.{EachRow}
 use Rattle.ns_copies.specs.Whole.{IsWholeTenant}
 use Rattle.ns_copies.proofs.Parted.{whole_tenants}
-use Rattle.ns_world.specs.World.{tenant_of}
+use Rattle.ns_tables.specs.World.{tenant_of}
 use Rattle.ns_copies.proofs.copying.copied_owners.Goals as goal
 
 pub copied_names-requires-3 : goal.copied_names-requires-3

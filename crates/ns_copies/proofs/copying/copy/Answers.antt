@@ -1,6 +1,6 @@
 use Rattle.std.proofs.Common.{◌≡◌, subst}
 use Rattle.std.specs.Prelude.{IfOk}
-use Rattle.ns_world.specs.World.{world_of}
+use Rattle.ns_tables.specs.World.{world_of}
 use Rattle.ns_copies.proofs.Parted.{all_is_whole}
 use Rattle.ns_copies.proofs.copying.copy.Goals as goal
 

@@ -4,8 +4,8 @@ use Rattle.std.specs.FinMap.{entries_sorted}
 use Rattle.std.specs.FinMap.Entries.{is_sorted}
 use Rattle.std.specs.Option.{option_copied}
 use Rattle.keyed.proofs.Queues.{from_here}
-use Rattle.ns_live.specs.Index.{Indexes, with_changes}
-use Rattle.ns_live.specs.Shown.{ShowsUnmoved}
+use Rattle.ns_live_index.specs.Index.{Indexes, with_changes}
+use Rattle.ns_live_index.specs.Shown.{ShowsUnmoved}
 use Rattle.ns_types.specs.State.Names.{name_cmp}
 use Rattle.ns_copies.proofs.Indexed.{all_indexed, none_indexed, slot_indexed, slot_passed, nothing_before, rows_but}
 use Rattle.ns_copies.proofs.indexing.live_of.Goals as goal

@@ -3,7 +3,7 @@ use Rattle.ns_types.specs.declared.reply.Content.TheVariants as Content
 use Rattle.ns_types.specs.Settling.Outcome.{Done, is_done}
 use Rattle.ns_types.proofs.Outcomes.{memory_last}
 use Rattle.ns_admin.specs.Recorded.{PreparesRecord}
-use Rattle.ns_world.specs.World.{world_of}
+use Rattle.ns_tables.specs.World.{world_of}
 use Rattle.ns_core.proofs.administration.record.Goals as goal
 
 pub returns-clause-written : goal.returns-clause-written

@@ -4,7 +4,7 @@ use Rattle.ns_types.specs.declared.reply.Content.TheVariants as Content
 use Rattle.ns_types.specs.Settling.Making.{evaluation_of, make_in}
 use Rattle.ns_types.specs.Settling.Outcome.{Done}
 use Rattle.ns_change.specs.Changed.{HasEvaluationLeft, without_job}
-use Rattle.ns_world.specs.World.{tenant_of, world_of}
+use Rattle.ns_tables.specs.World.{tenant_of, world_of}
 use Rattle.ns_change.proofs.Prepares.{done_as, prepares_as}
 use Rattle.ns_jobs.proofs.Prepared.{left_here, made_over, there}
 use Rattle.ns_jobs.proofs.deregistration.removed.Goals as goal

@@ -6,8 +6,8 @@ use Rattle.keyed.specs.Table.{row_at}
 use Rattle.ns_types.proofs.Named.{first_of_both}
 use Rattle.ns_types.specs.State.Names.{same_name}
 use Rattle.ns_types.specs.State.Rows.{is_live}
-use Rattle.ns_world.proofs.Under.{any_at, none_at}
-use Rattle.ns_world.specs.Filing.{AreNumbersUnder, allocation_job}
+use Rattle.ns_tables.proofs.Under.{any_at, none_at}
+use Rattle.ns_tables.specs.Filing.{AreNumbersUnder, allocation_job}
 use Rattle.ns_jobs.proofs.jobs.any_live_of.Goals as goal
 
 pub returns-in-Some : goal.returns-in-Some

@@ -1,5 +1,5 @@
 use Rattle.std.proofs.Common.{◌≡◌, ◌++◌, length}
-use Rattle.ns_world.specs.World.{tenant_of}
+use Rattle.ns_tables.specs.World.{tenant_of}
 use Rattle.ns_jobs.specs.Read.{jobs_shown}
 use Rattle.ns_jobs.proofs.jobs.jobs_shown.Given as goal
 

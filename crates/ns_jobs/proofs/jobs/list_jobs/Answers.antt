@@ -5,7 +5,7 @@ use Rattle.ns_types.specs.declared.reply.Content.TheVariants as Content
 use Rattle.ns_types.specs.Asking.Reads.{job_shown}
 use Rattle.ns_types.specs.Settling.Outcome.{Done}
 use Rattle.ns_types.specs.State.Names.{begins_with}
-use Rattle.ns_world.specs.World.{tenant_of}
+use Rattle.ns_tables.specs.World.{tenant_of}
 use Rattle.ns_jobs.specs.Read.{jobs_shown}
 use Rattle.ns_jobs.proofs.jobs.list_jobs.Goals as goal
 

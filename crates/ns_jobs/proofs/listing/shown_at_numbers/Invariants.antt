@@ -1,7 +1,7 @@
 use Rattle.std.proofs.Common.{◌≡◌, ◌++◌, drop}
 use Rattle.ns_jobs.specs.Read.{rows_shown}
 use Rattle.ns_jobs.proofs.listing.shown_at_numbers.Given as goal
-use Rattle.ns_world.specs.Filing.{slots_at}
+use Rattle.ns_tables.specs.Filing.{slots_at}
 
 abbrev pub invariant-loop-slot : goal.invariant-loop-slot
 invariant-loop-slot g l =

@@ -4,7 +4,7 @@ use Rattle.std.proofs.Common.{ap, subst, sym, ◌∙◌}
 use Rattle.ns_jobs.proofs.Listed.{listed_at, listed_none}
 use Rattle.ns_jobs.specs.Read.{rows_shown}
 use Rattle.ns_jobs.proofs.listing.shown_of_job.Goals as goal
-use Rattle.ns_world.specs.Filing.{AreNumbersUnder, slots_at}
+use Rattle.ns_tables.specs.Filing.{AreNumbersUnder, slots_at}
 
 pub returns-in-Some : goal.returns-in-Some
 returns-in-Some g c =

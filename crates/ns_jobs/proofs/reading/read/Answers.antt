@@ -1,7 +1,7 @@
 use Rattle.std.proofs.Common.{refl, ap, sym, subst, ◌∙◌}
 use Rattle.std.specs.Option.{option_copied}
 use Rattle.ns_types.specs.Settling.Outcome.{Changes}
-use Rattle.ns_world.specs.World.{tenant_of, world_of}
+use Rattle.ns_tables.specs.World.{tenant_of, world_of}
 use Rattle.ns_jobs.proofs.Asked.{ask_nowhere, asks}
 use Rattle.ns_jobs.proofs.Prepared.{absent, there}
 use Rattle.ns_jobs.proofs.reading.read.Goals as goal

@@ -1,5 +1,5 @@
 use Rattle.std.proofs.Common.{subst}
-use Rattle.ns_world.specs.World.{world_of}
+use Rattle.ns_tables.specs.World.{world_of}
 use Rattle.ns_jobs.specs.Read.{UsageFits}
 use Rattle.ns_jobs.proofs.reading.read_in.Goals as goal
 

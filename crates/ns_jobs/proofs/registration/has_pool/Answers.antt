@@ -1,8 +1,8 @@
 use Rattle.std.proofs.Common.{ap, sym, ◌∙◌}
 use Rattle.std.specs.Option.{option_copied}
 use Rattle.std.specs.Prelude.{is_some, option_map}
-use Rattle.ns_world.specs.World.{pool_of}
-use Rattle.ns_world.proofs.World.{pool_at}
+use Rattle.ns_tables.specs.World.{pool_of}
+use Rattle.ns_tables.proofs.World.{pool_at}
 use Rattle.ns_jobs.proofs.registration.has_pool.Goals as goal
 
 pub returns-in-Some : goal.returns-in-Some

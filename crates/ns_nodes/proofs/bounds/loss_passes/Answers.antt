@@ -3,7 +3,7 @@ use Rattle.std.specs.List.{list_any}
 use Rattle.ns_nodes.specs.Losing.{loss_passes_at}
 use Rattle.ns_nodes.proofs.Judged.{judged, none_judged}
 use Rattle.ns_nodes.proofs.bounds.loss_passes.Goals as goal
-use Rattle.ns_world.specs.World.{world_of}
+use Rattle.ns_tables.specs.World.{world_of}
 
 pub returns-in-Some : goal.returns-in-Some
 returns-in-Some c =

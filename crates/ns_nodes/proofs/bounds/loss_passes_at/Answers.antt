@@ -4,8 +4,8 @@ use Rattle.std.specs.Option.{option_copied, option_map_or}
 use Rattle.std.specs.Prelude.{option_map}
 use Rattle.ns_nodes.specs.Losing.{loss_passes_at, tenant_passes_at}
 use Rattle.ns_nodes.proofs.bounds.loss_passes_at.Goals as goal
-use Rattle.ns_world.specs.World.{tenant_of, world_of}
-use Rattle.ns_world.proofs.World.{tenant_at}
+use Rattle.ns_tables.specs.World.{tenant_of, world_of}
+use Rattle.ns_tables.proofs.World.{tenant_at}
 
 pub returns-in-Some-get : goal.returns-in-Some-get
 returns-in-Some-get c =

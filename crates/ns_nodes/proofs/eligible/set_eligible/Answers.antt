@@ -12,7 +12,7 @@ use Rattle.ns_nodes.proofs.Asked.{not_there, there}
 use Rattle.ns_change.proofs.Bounded.{done_still, refused_full, still_refused}
 use Rattle.ns_nodes.proofs.Within.{freed_past}
 use Rattle.ns_nodes.proofs.eligible.set_eligible.Goals as goal
-use Rattle.ns_world.specs.World.{world_of}
+use Rattle.ns_tables.specs.World.{world_of}
 
 pub returns-in_default : goal.returns-in_default
 returns-in_default c = still_refused (world_of c.args.tables.now) _ Refusal.NotFound

@@ -1,6 +1,6 @@
 use Rattle.std.proofs.Common.{◌≡◌, ◌++◌, drop}
 use Rattle.std.specs.Prelude.{flat_map}
-use Rattle.ns_live.specs.Index.{IsRight}
+use Rattle.ns_live_index.specs.Index.{IsRight}
 use Rattle.ns_nodes.specs.Listed.{LoadsFit, shown_at}
 use Rattle.ns_types.specs.State.Rows.{World}
 use Rattle.ns_nodes.proofs.listing.add_all_shown.Given as goal

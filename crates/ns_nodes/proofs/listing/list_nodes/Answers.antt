@@ -7,7 +7,7 @@ use Rattle.ns_types.specs.Settling.Outcome.{Done, is_done}
 use Rattle.ns_nodes.proofs.Listed.{list_nowhere, listed}
 use Rattle.ns_nodes.proofs.listing.list_nodes.Goals as goal
 use Rattle.ns_nodes.specs.Listed.{shown_at}
-use Rattle.ns_world.specs.World.{world_of}
+use Rattle.ns_tables.specs.World.{world_of}
 
 pub returns-in_default : goal.returns-in_default
 returns-in_default c = (list_nowhere c.args.tables.now c.args.pool.now (sym c.get.ensures ∙ ap option_copied c.in_default.is), refl)

@@ -4,8 +4,8 @@ use Rattle.std.specs.Option.{option_copied, option_map_or}
 use Rattle.std.specs.Prelude.{[], OnOk, flat_map, option_map}
 use Rattle.ns_nodes.specs.Losing.{job_keys_at, key_at, losing_keys_at}
 use Rattle.ns_nodes.proofs.losing.add_keys_at.Goals as goal
-use Rattle.ns_world.specs.World.{tenant_of, world_of}
-use Rattle.ns_world.proofs.World.{tenant_at}
+use Rattle.ns_tables.specs.World.{tenant_of, world_of}
+use Rattle.ns_tables.proofs.World.{tenant_at}
 
 pub returns-in_default-get : goal.returns-in_default-get
 returns-in_default-get c =

@@ -7,7 +7,7 @@ use Rattle.ns_types.proofs.Elements.{any_map}
 use Rattle.ns_types.proofs.Named.{numbers}
 use Rattle.ns_nodes.specs.Losing.{is_last_of_job, is_losing, looked}
 use Rattle.ns_nodes.proofs.losing.is_last_of_job.Goals as goal
-use Rattle.ns_world.specs.World.{tenant_of}
+use Rattle.ns_tables.specs.World.{tenant_of}
 
 pub returns-in-Some : goal.returns-in-Some
 returns-in-Some c =

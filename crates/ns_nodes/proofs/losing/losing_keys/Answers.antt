@@ -5,7 +5,7 @@ use Rattle.keyed.specs.Levels.{holds_key}
 use Rattle.ns_nodes.specs.Losing.{losing_keys_at}
 use Rattle.ns_nodes.proofs.Indexed.{losing_are, none_losing}
 use Rattle.ns_nodes.proofs.losing.losing_keys.Goals as goal
-use Rattle.ns_world.specs.World.{world_of}
+use Rattle.ns_tables.specs.World.{world_of}
 
 pub returns-in_default : goal.returns-in_default
 returns-in_default c = c.new-keys.ensures

@@ -2,7 +2,7 @@ use Rattle.std.proofs.Common.{sym, arith, ◌∙◌}
 use Rattle.ns_types.proofs.TableRows.{no_entries}
 use Rattle.ns_nodes.proofs.Losses.{all_numbers, next_number, no_number, same_number}
 use Rattle.ns_nodes.proofs.losing.numbers_pass_at.Goals as goal
-use Rattle.ns_world.specs.World.{tenant_of}
+use Rattle.ns_tables.specs.World.{tenant_of}
 
 pub returns-then-number : goal.returns-then-number
 returns-then-number c = no_number c.args.pool.now c.args.node.now (tenant_of c.args.tenant.now) c.args.slots.now c.loop-slot.number

@@ -3,7 +3,7 @@ use Rattle.std.specs.Prelude.{map}
 use Rattle.ns_nodes.specs.Losing.{looked}
 use Rattle.ns_nodes.proofs.Losses.{count}
 use Rattle.ns_nodes.proofs.losing.numbers_pass_at.Given as goal
-use Rattle.ns_world.specs.World.{tenant_of}
+use Rattle.ns_tables.specs.World.{tenant_of}
 
 abbrev pub invariant-loop-slot : goal.invariant-loop-slot
 invariant-loop-slot l = l.number + count l.fn.pool l.fn.node (map (looked (tenant_of l.fn.tenant)) l.rest)

@@ -5,7 +5,7 @@ use Rattle.keyed.specs.Levels.{holds_key}
 use Rattle.ns_nodes.specs.Losing.{IsLiveSet, slot_keys}
 use Rattle.ns_nodes.proofs.Indexed.{live_keys_are, none_live}
 use Rattle.ns_nodes.proofs.lost.live_keys.Goals as goal
-use Rattle.ns_world.specs.World.{world_of}
+use Rattle.ns_tables.specs.World.{world_of}
 
 pub returns-in_default : goal.returns-in_default
 returns-in_default c =

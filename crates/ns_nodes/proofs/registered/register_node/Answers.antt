@@ -23,10 +23,10 @@ use Rattle.ns_change.specs.Changed.{change_pool}
 use Rattle.ns_nodes.proofs.Asked.{pool_full, pool_missing, registered, too_small}
 use Rattle.ns_nodes.proofs.Within.{registering_past}
 use Rattle.ns_nodes.proofs.registered.register_node.Goals as goal
-use Rattle.ns_world.specs.declared.tables.PoolRows.{PoolRows as StoredPool}
-use Rattle.ns_world.specs.declared.tables.Tables.{Tables}
-use Rattle.ns_world.proofs.World.{pool_at}
-use Rattle.ns_world.specs.World.{pool_of, world_of}
+use Rattle.ns_tables.specs.declared.tables.PoolRows.{PoolRows as StoredPool}
+use Rattle.ns_tables.specs.declared.tables.Tables.{Tables}
+use Rattle.ns_tables.proofs.World.{pool_at}
+use Rattle.ns_tables.specs.World.{pool_of, world_of}
 
 -- what it comes to, where neither the load nor the pool's size refuses it
 comes : (t : Tables) (pool name : Name) (offer : Offer) (x : StoredPool) → row_at t.pools pool ≡ Some x → (old : Option Node)

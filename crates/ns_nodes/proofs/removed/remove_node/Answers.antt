@@ -8,7 +8,7 @@ use Rattle.ns_nodes.proofs.Asked.{none_removed, removed, still_ready}
 use Rattle.ns_change.proofs.Bounded.{done_still, still_refused}
 use Rattle.ns_nodes.proofs.Within.{removed_within}
 use Rattle.ns_nodes.proofs.removed.remove_node.Goals as goal
-use Rattle.ns_world.specs.World.{world_of}
+use Rattle.ns_tables.specs.World.{world_of}
 
 pub returns-in_default : goal.returns-in_default
 returns-in_default c = still_refused (world_of c.args.tables.now) _ Refusal.NotFound

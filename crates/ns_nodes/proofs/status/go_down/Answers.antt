@@ -7,7 +7,7 @@ use Rattle.ns_change.specs.Changed.{view}
 use Rattle.ns_renewal.specs.Renewing.{HasNumbers, renewed}
 use Rattle.ns_nodes.proofs.Renewed.{goes_down, numbers_left}
 use Rattle.ns_nodes.proofs.status.go_down.Goals as goal
-use Rattle.ns_world.specs.World.{world_of}
+use Rattle.ns_tables.specs.World.{world_of}
 
 pub renew_each-requires : goal.renew_each-requires
 renew_each-requires c =

@@ -14,7 +14,7 @@ use Rattle.ns_change.specs.Changed.{change_pool}
 use Rattle.ns_nodes.proofs.Down.{down_node, goes, not_there}
 use Rattle.ns_nodes.proofs.Judged.{numbers_within, settled_past}
 use Rattle.ns_nodes.proofs.status.set_down.Goals as goal
-use Rattle.ns_world.specs.World.{world_of}
+use Rattle.ns_tables.specs.World.{world_of}
 
 pub returns-in_default : goal.returns-in_default
 returns-in_default c = still_refused (world_of c.args.tables.now) _ Refusal.NotFound

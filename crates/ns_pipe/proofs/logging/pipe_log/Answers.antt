@@ -1,6 +1,6 @@
 use Rattle.std.proofs.Common.{◌≡◌, ◌⊎◌, ℕ, List, Option, Err, inl, inr, ap, ◌∙◌, sym, subst}
 use Rattle.ns_types.specs.State.Names.{Name}
-use Rattle.ns_held.specs.Logs.{History}
+use Rattle.ns_work_log.specs.Logs.{History}
 use Rattle.ns_http.specs.declared.counting.Counted.{Counted}
 use Rattle.ns_http.specs.declared.engine.ConnFault.{ConnFault}
 use Rattle.ns_api.specs.declared.following.Driver.{Driver}

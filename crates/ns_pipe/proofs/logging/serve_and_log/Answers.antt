@@ -5,7 +5,7 @@ use Rattle.ns_types.specs.Wire.Http.{End}
 use Rattle.ns_types.specs.declared.step.Step.{Step}
 use Rattle.ns_json.specs.Logs.{log_text}
 use Rattle.ns_steps.specs.Chains.{Chain}
-use Rattle.ns_held.specs.Logs.{AreNoted, History, IsNoted}
+use Rattle.ns_work_log.specs.Logs.{AreNoted, History, IsNoted}
 use Rattle.ns_http.specs.Conversation.{streams_between}
 use Rattle.ns_http.specs.Output.{WritesAll}
 use Rattle.ns_http.specs.declared.counting.Counted.{Counted}

@@ -4,7 +4,7 @@ use Rattle.std.specs.Option.{option_copied}
 use Rattle.std.specs.FinMap.{entries}
 use Rattle.ns_types.proofs.Elements.{any_flat}
 use Rattle.ns_release.specs.Released.{changed_classes, in_pool, rooms_at}
-use Rattle.ns_world.specs.World.{pool_of, world_of}
+use Rattle.ns_tables.specs.World.{pool_of, world_of}
 use Rattle.ns_release.proofs.Offered.{changed_nowhere, changed_there}
 use Rattle.ns_release.proofs.asking.pool_gives.Goals as goal
 

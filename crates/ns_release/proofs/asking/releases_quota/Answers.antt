@@ -2,7 +2,7 @@ use Rattle.std.proofs.Common.{ap, ◌∙◌}
 use Rattle.std.specs.List.{list_any}
 use Rattle.ns_change.proofs.Any.{or_else, or_then}
 use Rattle.ns_release.specs.Released.{quota_relimited, quotas_ended_in}
-use Rattle.ns_world.specs.World.{world_of}
+use Rattle.ns_tables.specs.World.{world_of}
 use Rattle.ns_release.proofs.Asked.{quotas_asked}
 use Rattle.ns_release.proofs.asking.releases_quota.Goals as goal
 

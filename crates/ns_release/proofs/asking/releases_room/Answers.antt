@@ -3,7 +3,7 @@ use Rattle.std.specs.List.{list_any}
 use Rattle.ns_change.proofs.Any.{or_else, or_then}
 use Rattle.ns_change.specs.Changed.{view}
 use Rattle.ns_release.specs.Released.{rooms_ended_in, rooms_of_pool}
-use Rattle.ns_world.specs.World.{world_of}
+use Rattle.ns_tables.specs.World.{world_of}
 use Rattle.ns_release.proofs.Asked.{rooms_asked}
 use Rattle.ns_release.proofs.asking.releases_room.Goals as goal
 

@@ -7,7 +7,7 @@ use Rattle.ns_types.specs.declared.allocation.Allocation.{Allocation}
 use Rattle.ns_types.specs.declared.records.Namespace.{Namespace}
 use Rattle.ns_types.proofs.Elements.{any_flat}
 use Rattle.ns_release.specs.Released.{ended_of, ended_one, quota_left, quotas_ended}
-use Rattle.ns_world.specs.World.{tenant_of, world_of}
+use Rattle.ns_tables.specs.World.{tenant_of, world_of}
 use Rattle.ns_release.proofs.Released.{ended_nowhere, ended_there, flat_flat}
 use Rattle.ns_release.proofs.asking.tenant_frees.Goals as goal
 

@@ -6,7 +6,7 @@ use Rattle.std.specs.FinMap.{entries}
 use Rattle.ns_types.proofs.Elements.{any_flat}
 use Rattle.ns_change.specs.Changed.{view}
 use Rattle.ns_release.specs.Released.{ended_of, ended_one, rooms_ended, rooms_left}
-use Rattle.ns_world.specs.World.{tenant_of, world_of}
+use Rattle.ns_tables.specs.World.{tenant_of, world_of}
 use Rattle.ns_release.proofs.Released.{ended_nowhere, ended_there, flat_flat}
 use Rattle.ns_release.proofs.asking.tenant_leaves.Goals as goal
 

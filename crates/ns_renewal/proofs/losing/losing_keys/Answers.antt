@@ -6,7 +6,7 @@ use Rattle.ns_renewal.specs.Losing.{keys_left, least_of, victims_at}
 use Rattle.ns_renewal.specs.Losses.{number_at}
 use Rattle.ns_renewal.proofs.Least.{keys_are}
 use Rattle.ns_renewal.proofs.losing.losing_keys.Goals as goal
-use Rattle.ns_world.specs.World.{world_of}
+use Rattle.ns_tables.specs.World.{world_of}
 
 pub returns : goal.returns
 returns c =

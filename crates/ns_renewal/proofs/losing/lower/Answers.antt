@@ -7,7 +7,7 @@ use Rattle.ns_types.specs.Working.Commit.{Victim, victim_at}
 use Rattle.ns_renewal.specs.Losses.{Lowers}
 use Rattle.ns_renewal.proofs.Least.{lower_one}
 use Rattle.ns_renewal.proofs.losing.lower.Goals as goal
-use Rattle.ns_world.specs.World.{world_of}
+use Rattle.ns_tables.specs.World.{world_of}
 
 pub returns : goal.returns
 returns c =

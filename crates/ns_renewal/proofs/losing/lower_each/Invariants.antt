@@ -4,7 +4,7 @@ use Rattle.ns_change.specs.Waiting.{lesser}
 use Rattle.ns_renewal.specs.Losing.{least_of, victims_at}
 use Rattle.ns_renewal.specs.Losses.{number_at}
 use Rattle.ns_renewal.proofs.losing.lower_each.Given as goal
-use Rattle.ns_world.specs.World.{world_of}
+use Rattle.ns_tables.specs.World.{world_of}
 
 abbrev pub invariant-loop-eviction : goal.invariant-loop-eviction
 invariant-loop-eviction l = (ns job : Name) →

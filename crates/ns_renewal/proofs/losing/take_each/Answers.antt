@@ -11,7 +11,7 @@ use Rattle.ns_renewal.specs.Losses.{job_key, number_at}
 use Rattle.ns_renewal.proofs.Least.{next_key}
 use Rattle.ns_renewal.proofs.losing.take_each.Goals as goal
 use Rattle.ns_renewal.proofs.losing.take_each.Goals.{in-Some+in_ok-push, in_default}
-use Rattle.ns_world.specs.World.{world_of}
+use Rattle.ns_tables.specs.World.{world_of}
 
 pub loop-victim-preserved : goal.loop-victim-preserved
 loop-victim-preserved c =

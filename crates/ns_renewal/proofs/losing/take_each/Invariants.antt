@@ -2,7 +2,7 @@ use Rattle.std.proofs.Common.{◌≡◌, ◌++◌, drop, map}
 use Rattle.ns_renewal.specs.Losing.{keys_left, victims_at}
 use Rattle.ns_renewal.specs.Losses.{number_at}
 use Rattle.ns_renewal.proofs.losing.take_each.Given as goal
-use Rattle.ns_world.specs.World.{world_of}
+use Rattle.ns_tables.specs.World.{world_of}
 
 abbrev pub invariant-loop-victim : goal.invariant-loop-victim
 invariant-loop-victim l =

@@ -7,7 +7,7 @@ use Rattle.ns_renewal.specs.Losing.{victims_at}
 use Rattle.ns_renewal.specs.Renewing.{HasNumbers, renewed}
 use Rattle.ns_renewal.proofs.MadeUp.{has_numbers, made_up, victims_there}
 use Rattle.ns_renewal.proofs.making.make_up.Goals as goal
-use Rattle.ns_world.specs.World.{world_of}
+use Rattle.ns_tables.specs.World.{world_of}
 
 pub renew_each-requires : goal.renew_each-requires
 renew_each-requires c =

@@ -2,7 +2,7 @@ use Rattle.std.proofs.Common.{◌≡◌, length}
 use Rattle.std.specs.List.{list_any}
 use Rattle.ns_renewal.specs.Losing.{is_of_job, victims_at}
 use Rattle.ns_renewal.proofs.numbers.any_is_of_job.Given as goal
-use Rattle.ns_world.specs.World.{world_of}
+use Rattle.ns_tables.specs.World.{world_of}
 
 abbrev pub invariant-loop-eviction : goal.invariant-loop-eviction
 invariant-loop-eviction g l =

@@ -5,7 +5,7 @@ use Rattle.ns_types.specs.Working.Commit.{Victim, victim_at}
 use Rattle.ns_renewal.specs.Losing.{is_last_of_job, victims_at}
 use Rattle.ns_renewal.proofs.Counting.{last_here}
 use Rattle.ns_renewal.proofs.numbers.is_last_of_job.Goals as goal
-use Rattle.ns_world.specs.World.{world_of}
+use Rattle.ns_tables.specs.World.{world_of}
 
 pub returns-in-Some : goal.returns-in-Some
 returns-in-Some g c =

@@ -5,7 +5,7 @@ use Rattle.ns_types.specs.declared.plan.Eviction.{Eviction}
 use Rattle.ns_renewal.specs.Losing.{numbers_pass_at, victims_at}
 use Rattle.ns_renewal.proofs.Counting.{anywhere}
 use Rattle.ns_renewal.proofs.numbers.numbers_pass.Goals as goal
-use Rattle.ns_world.specs.World.{world_of}
+use Rattle.ns_tables.specs.World.{world_of}
 
 pub returns-then-numbers_pass_at : goal.returns-then-numbers_pass_at
 returns-then-numbers_pass_at g c =

@@ -3,7 +3,7 @@ use Rattle.std.specs.List.{list_any}
 use Rattle.ns_types.specs.declared.plan.Eviction.{Eviction}
 use Rattle.ns_renewal.specs.Losing.{numbers_pass_at, victims_at}
 use Rattle.ns_renewal.proofs.numbers.numbers_pass.Given as goal
-use Rattle.ns_world.specs.World.{world_of}
+use Rattle.ns_tables.specs.World.{world_of}
 
 abbrev pub invariant-loop-eviction : goal.invariant-loop-eviction
 invariant-loop-eviction g l =

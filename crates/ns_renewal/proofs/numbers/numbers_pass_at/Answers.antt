@@ -3,8 +3,8 @@ use Rattle.std.specs.Option.{option_copied, option_map, option_map_or}
 use Rattle.ns_renewal.specs.Losing.{numbers_pass_in, victims_at}
 use Rattle.ns_renewal.proofs.Counting.{enough}
 use Rattle.ns_renewal.proofs.numbers.numbers_pass_at.Goals as goal
-use Rattle.ns_world.proofs.World.{tenant_at}
-use Rattle.ns_world.specs.World.{tenant_of, world_of}
+use Rattle.ns_tables.proofs.World.{tenant_at}
+use Rattle.ns_tables.specs.World.{tenant_of, world_of}
 
 pub returns-in_default : goal.returns-in_default
 returns-in_default g c =

@@ -2,7 +2,7 @@ use Rattle.std.proofs.Common.{sym, ◌+◌, ◌∙◌, rules}
 use Rattle.ns_renewal.specs.Losing.{losing_in, victims_at}
 use Rattle.ns_renewal.proofs.Counting.{next_number, same_number}
 use Rattle.ns_renewal.proofs.numbers.numbers_pass_in.Goals as goal
-use Rattle.ns_world.specs.World.{world_of}
+use Rattle.ns_tables.specs.World.{world_of}
 
 pub loop-eviction-preserved-else-number : goal.loop-eviction-preserved-else-number
 loop-eviction-preserved-else-number g c =

@@ -1,7 +1,7 @@
 use Rattle.std.proofs.Common.{◌≡◌, ◌+◌, length}
 use Rattle.ns_renewal.specs.Losing.{losing_in, victims_at}
 use Rattle.ns_renewal.proofs.numbers.numbers_pass_in.Given as goal
-use Rattle.ns_world.specs.World.{world_of}
+use Rattle.ns_tables.specs.World.{world_of}
 
 abbrev pub invariant-loop-eviction : goal.invariant-loop-eviction
 invariant-loop-eviction g l =

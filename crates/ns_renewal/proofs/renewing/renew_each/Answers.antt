@@ -5,7 +5,7 @@ use Rattle.ns_types.specs.State.Names.{Key}
 use Rattle.ns_types.specs.State.Rows.{World}
 use Rattle.ns_renewal.specs.Renewing.{HasNumbers, renewed}
 use Rattle.ns_renewal.proofs.Made.{first_left, others_left}
-use Rattle.ns_world.specs.World.{world_of}
+use Rattle.ns_tables.specs.World.{world_of}
 use Rattle.ns_renewal.proofs.renewing.renew_each.Goals as goal
 
 pub renew-requires : goal.renew-requires

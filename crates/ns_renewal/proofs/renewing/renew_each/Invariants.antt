@@ -1,7 +1,7 @@
 use Rattle.std.proofs.Common.{◌≡◌, fold, drop}
 use Rattle.ns_change.specs.Changed.{view}
 use Rattle.ns_renewal.specs.Renewing.{HasNumbers, renewed}
-use Rattle.ns_world.specs.World.{world_of}
+use Rattle.ns_tables.specs.World.{world_of}
 use Rattle.ns_renewal.proofs.renewing.renew_each.Given as goal
 
 abbrev pub invariant-loop-key : goal.invariant-loop-key

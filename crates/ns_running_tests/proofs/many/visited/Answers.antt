@@ -4,8 +4,8 @@ use denote.Param.Send.{arg_sync, param_sync, sendable}
 use Rattle.std.proofs.Crossing.{sync}
 use Rattle.std.specs.contracts.alloc.Global as Global
 use Rattle.std.specs.contracts.sync.Barrier as Barrier
-use Rattle.ns_shared.specs.contracts.shared.Shared as Shared
-use Rattle.ns_shared.proofs.Crossing.{Shared-sync}
+use Rattle.ns_work_lock.specs.contracts.shared.Shared as Shared
+use Rattle.ns_work_lock.proofs.Crossing.{Shared-sync}
 use Rattle.ns_running_tests.proofs.Crossing.{Barrier-sync, four-sync}
 use Rattle.ns_running_tests.proofs.many.visited.Goals as goal
 

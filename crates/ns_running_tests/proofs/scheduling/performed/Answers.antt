@@ -4,8 +4,8 @@ use denote.Param.Send.{IsSync, arg_sync, param_sync, sendable}
 use Rattle.std.proofs.Crossing.{crosses, sync}
 use Rattle.std.specs.contracts.alloc.Global as Global
 use Rattle.ns_running_tests.specs.contracts.meeting.Meeting as Meeting
-use Rattle.ns_shared.specs.contracts.shared.Shared as Shared
-use Rattle.ns_shared.proofs.Crossing.{Shared-sync}
+use Rattle.ns_work_lock.specs.contracts.shared.Shared as Shared
+use Rattle.ns_work_lock.proofs.Crossing.{Shared-sync}
 use Rattle.ns_running_tests.proofs.Crossing.{four-sync}
 use Rattle.ns_running_tests.proofs.scheduling.performed.Goals as goal
 

@@ -1,10 +1,10 @@
 use Rattle.std.proofs.Common.{◌≡◌, ℕ, List, Option, sym, subst}
 use Rattle.ns_http.specs.declared.counting.Counted.{Counted}
 use Rattle.ns_pipe.specs.declared.running.Ended.{Ended}
-use Rattle.ns_serve.specs.declared.service.Service.{Service}
+use Rattle.ns_listener.specs.declared.service.Service.{Service}
 use Rattle.nsd.specs.Hosting.{EndsHosted}
-use Rattle.ns_words.specs.Outcome.{MatchOutcome}
-use Rattle.ns_words.specs.declared.outcome.Outcome.{Outcome}
+use Rattle.ns_command_line.specs.Outcome.{MatchOutcome}
+use Rattle.ns_command_line.specs.declared.outcome.Outcome.{Outcome}
 use Rattle.nsd.proofs.host.conclude.Goals as goal
 use Rattle.ns_pipe.proofs.Uncounted.{uncounted_by}
 

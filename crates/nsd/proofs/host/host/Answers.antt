@@ -3,8 +3,8 @@ use Rattle.ns_faults.specs.Lines.{TriesToWrite, line_of, status_of}
 use Rattle.ns_faults.proofs.Faults.{same_fault}
 use Rattle.ns_http.specs.declared.counting.Counted.{Counted}
 use Rattle.ns_http.specs.declared.engine.ConnFault.{ConnFault}
-use Rattle.ns_serve.specs.Ending.{IsEnd, IsLastLine}
-use Rattle.ns_serve.specs.declared.service.Service.{Service}
+use Rattle.ns_listener.specs.Ending.{IsEnd, IsLastLine}
+use Rattle.ns_listener.specs.declared.service.Service.{Service}
 use Rattle.nsd.proofs.host.host.Goals as goal
 
 -- a fault by its status

@@ -6,7 +6,7 @@ use Rattle.keyed.specs.Table.{at_slot}
 use Rattle.ns_types.specs.Access.Sharing.{intrudes}
 use Rattle.ns_types.specs.State.Names.{same_name}
 use Rattle.ns_types.specs.State.Rows.{Tenant}
-use Rattle.ns_world.specs.World.{tenant_of, world_of}
+use Rattle.ns_tables.specs.World.{tenant_of, world_of}
 use Rattle.ns_admin.specs.Straying.{other_intrudes}
 use Rattle.ns_admin.proofs.confinement.intruding.any_intrudes.Goals as goal
 

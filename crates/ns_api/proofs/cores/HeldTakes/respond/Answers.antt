@@ -1,5 +1,5 @@
 use Rattle.std.proofs.Common.{Global, subst}
-use Rattle.ns_held.specs.Rendered.{LogsRendered}
+use Rattle.ns_work_log.specs.Rendered.{LogsRendered}
 use Rattle.ns_api.proofs.Taken.{held_answers, held_wants}
 use Rattle.ns_api.proofs.cores.HeldTakes.respond.Goals as goal
 

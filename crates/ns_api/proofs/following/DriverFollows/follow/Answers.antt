@@ -4,7 +4,7 @@ use Rattle.ns_types.specs.declared.step.Step.{Step}
 use Rattle.ns_types.specs.State.Rows.{State}
 use Rattle.ns_types.specs.Steps.{Answer}
 use Rattle.ns_steps.specs.Chains.{Chain}
-use Rattle.ns_drive.specs.declared.kept.Kept.{Kept}
+use Rattle.ns_driver.specs.declared.kept.Kept.{Kept}
 use Rattle.ns_api.specs.declared.following.Driver.{Driver}
 use Rattle.ns_api.specs.Following.{FollowsBy}
 use Rattle.ns_api.proofs.following.DriverFollows.follow.Goals as goal

@@ -2,7 +2,7 @@ use Rattle.std.proofs.Common.{ap, sym, ◌∙◌, ◌+◌, Some, None, nat_lt}
 use Rattle.std.specs.Option.{option_copied}
 use Rattle.ns_types.specs.State.Rows.{Tenant}
 use Rattle.ns_types.specs.Steps.{greatest}
-use Rattle.ns_bounds.proofs.Passing.{at_tenant}
+use Rattle.ns_counters.proofs.Passing.{at_tenant}
 use Rattle.ns_applier.proofs.headroom.ending.allocations_pass.Goals as goal
 
 pub returns-in-Some : goal.returns-in-Some

@@ -1,6 +1,6 @@
 use Rattle.std.proofs.Common.{ap, sym, ◌∙◌, Some, None}
 use Rattle.std.specs.Option.{option_copied}
-use Rattle.ns_bounds.proofs.Passing.{pool_bound}
+use Rattle.ns_counters.proofs.Passing.{pool_bound}
 use Rattle.ns_applier.proofs.headroom.ending.is_last_release.Goals as goal
 
 pub returns-in-Some : goal.returns-in-Some

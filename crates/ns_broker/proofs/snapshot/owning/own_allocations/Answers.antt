@@ -4,7 +4,7 @@ use Rattle.std.proofs.Common.{ap, subst, sym, ◌∙◌}
 use Rattle.ns_broker.specs.Seen.{own_at}
 use Rattle.ns_broker.proofs.Seen.{ok_as, own_is, own_none}
 use Rattle.ns_broker.proofs.snapshot.owning.own_allocations.Goals as goal
-use Rattle.ns_world.specs.Filing.{AreNumbersUnder, allocation_job, slots_at}
+use Rattle.ns_tables.specs.Filing.{AreNumbersUnder, allocation_job, slots_at}
 
 pub returns-in-Some : goal.returns-in-Some
 returns-in-Some c =

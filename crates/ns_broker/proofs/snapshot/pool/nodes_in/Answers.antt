@@ -5,7 +5,7 @@ use Rattle.keyed.proofs.Queues.{from_here}
 use Rattle.ns_broker.proofs.Seen.{all_listed, listed_next, node_next}
 use Rattle.ns_broker.specs.Seen.{node_at_slot}
 use Rattle.ns_broker.proofs.snapshot.pool.nodes_in.Goals as goal
-use Rattle.ns_world.specs.World.{world_of}
+use Rattle.ns_tables.specs.World.{world_of}
 
 pub loop-slot-init : goal.loop-slot-init
 loop-slot-init c = record {

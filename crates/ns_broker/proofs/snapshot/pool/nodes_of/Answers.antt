@@ -4,7 +4,7 @@ use Rattle.std.specs.Option.{option_copied}
 use Rattle.ns_broker.specs.Seen.{node_at_slot}
 use Rattle.ns_broker.proofs.Seen.{are_nodes, no_pool, nodes_are, ok_as}
 use Rattle.ns_broker.proofs.snapshot.pool.nodes_of.Goals as goal
-use Rattle.ns_world.specs.World.{world_of}
+use Rattle.ns_tables.specs.World.{world_of}
 
 pub nodes_in-requires-clause-there : goal.nodes_in-requires-clause-there
 nodes_in-requires-clause-there c = are_nodes c.args.tables.now c.args.pool.now c.in-Some.rows.now (sym c.get.ensures ∙ ap option_copied c.in-Some.is) _

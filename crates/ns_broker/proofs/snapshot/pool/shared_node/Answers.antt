@@ -1,9 +1,9 @@
 use Rattle.std.proofs.Common.{ap, sym, ◌∙◌}
 use Rattle.std.specs.Option.{option_copied}
-use Rattle.ns_live.proofs.Unmoved.{shown_right, still_right}
+use Rattle.ns_live_index.proofs.Unmoved.{shown_right, still_right}
 use Rattle.ns_broker.proofs.Seen.{ok_as, seen_there, shown_is}
 use Rattle.ns_broker.proofs.snapshot.pool.shared_node.Goals as goal
-use Rattle.ns_world.specs.World.{world_of}
+use Rattle.ns_tables.specs.World.{world_of}
 
 pub returns-in-Some-clause-node : goal.returns-in-Some-clause-node
 returns-in-Some-clause-node c =

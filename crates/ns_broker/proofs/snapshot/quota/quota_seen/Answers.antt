@@ -8,8 +8,8 @@ use Rattle.ns_types.specs.State.Rows.{QuotaRows}
 use Rattle.ns_types.specs.State.Sums.{quota_use}
 use Rattle.ns_types.specs.Working.Snapshot.{namespaces_naming}
 use Rattle.ns_broker.proofs.snapshot.quota.quota_seen.Goals as goal
-use Rattle.ns_world.specs.declared.tables.Tables.{Tables}
-use Rattle.ns_world.specs.World.{world_of}
+use Rattle.ns_tables.specs.declared.tables.Tables.{Tables}
+use Rattle.ns_tables.specs.World.{world_of}
 use Rattle.ns_types.specs.State.Names.{Name}
 
 abbrev shown : Tables → Name → QuotaRows → QuotaSeen

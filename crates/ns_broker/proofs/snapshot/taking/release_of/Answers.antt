@@ -2,8 +2,8 @@ use Rattle.std.specs.Prelude.{option_map}
 use Rattle.std.proofs.Common.{ap, sym, ◌∙◌}
 use Rattle.std.specs.Option.{option_copied, option_map_or}
 use Rattle.ns_broker.proofs.snapshot.taking.release_of.Goals as goal
-use Rattle.ns_world.proofs.World.{pool_at}
-use Rattle.ns_world.specs.World.{pool_of}
+use Rattle.ns_tables.proofs.World.{pool_at}
+use Rattle.ns_tables.specs.World.{pool_of}
 
 pub returns-in-Some : goal.returns-in-Some
 returns-in-Some c = sym (ap (λ o. option_map_or (λ p. p.release) o 0)

@@ -5,7 +5,7 @@ use Rattle.keyed.proofs.Tables.{get-rows}
 use Rattle.ns_types.proofs.Named.{names}
 use Rattle.ns_types.specs.Working.Snapshot.{nodes_of, own_allocations, pool_for}
 use Rattle.ns_broker.proofs.snapshot.taking.snapshot.Goals as goal
-use Rattle.ns_world.specs.World.{tenant_of, world_of}
+use Rattle.ns_tables.specs.World.{tenant_of, world_of}
 
 pub returns-clause-seen : goal.returns-clause-seen
 returns-clause-seen c =

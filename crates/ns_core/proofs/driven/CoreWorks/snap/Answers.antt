@@ -1,5 +1,5 @@
 use Rattle.ns_types.specs.declared.step.Step.TheVariants as Step
-use Rattle.ns_drive.specs.Calls.{snapped}
+use Rattle.ns_driver.specs.Calls.{snapped}
 use Rattle.ns_core.proofs.Attempts.{attempts}
 use Rattle.ns_core.proofs.driven.CoreWorks.snap.Goals as goal
 

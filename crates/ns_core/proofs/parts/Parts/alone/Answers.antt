@@ -1,5 +1,5 @@
 use Rattle.ns_core.proofs.Copying.{alone_kept, state_alone}
-use Rattle.ns_turns.proofs.Together.{unknown_is_right}
+use Rattle.ns_queues.proofs.Together.{unknown_is_right}
 use Rattle.ns_core.proofs.parts.Parts.alone.Goals as goal
 
 pub alone-requires : goal.alone-requires

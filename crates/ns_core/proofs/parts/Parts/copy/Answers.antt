@@ -1,5 +1,5 @@
 use Rattle.ns_core.proofs.Copying.{copy_kept, same_state}
-use Rattle.ns_turns.proofs.Together.{unknown_is_right}
+use Rattle.ns_queues.proofs.Together.{unknown_is_right}
 use Rattle.ns_core.proofs.parts.Parts.copy.Goals as goal
 
 pub copy-requires-2 : goal.copy-requires-2

@@ -1,7 +1,7 @@
 use Rattle.std.specs.Prelude.{Ok, Err}
 use Rattle.std.proofs.Common.{subst}
 use Rattle.ns_change.specs.Changed.{view}
-use Rattle.ns_settle.proofs.Concluding.{makes}
+use Rattle.ns_settlement.proofs.Concluding.{makes}
 use Rattle.ns_core.specs.Answering.{PreparesStep}
 use Rattle.ns_core.specs.Viewed.{state_of, world_of}
 use Rattle.ns_core.proofs.Keeping.{within}

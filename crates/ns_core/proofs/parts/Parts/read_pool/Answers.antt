@@ -4,7 +4,7 @@ use Rattle.ns_types.specs.Asking.Nodes.{ask_pool}
 use Rattle.ns_types.specs.Settling.Outcome.{Done}
 use Rattle.ns_types.proofs.Outcomes.{found_none, found_some, memory_last}
 use Rattle.ns_admin.proofs.World.{pool_is}
-use Rattle.ns_world.specs.World.{pool_of}
+use Rattle.ns_tables.specs.World.{pool_of}
 use Rattle.ns_core.specs.Viewed.{world_of}
 use Rattle.ns_core.proofs.parts.Parts.read_pool.Goals as goal
 

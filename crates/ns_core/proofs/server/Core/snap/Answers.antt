@@ -1,7 +1,7 @@
 use Rattle.std.proofs.Common.{}
 use Rattle.ns_types.specs.declared.step.Step.TheVariants as Step
 use Rattle.ns_core.specs.Viewed.{state_of}
-use Rattle.ns_drive.specs.Calls.{snapped}
+use Rattle.ns_driver.specs.Calls.{snapped}
 use Rattle.ns_core.proofs.Keeping.{keeps}
 use Rattle.ns_core.proofs.server.Core.snap.Goals as goal
 

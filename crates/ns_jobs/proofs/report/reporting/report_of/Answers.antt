@@ -1,7 +1,7 @@
 use Rattle.std.proofs.Common.{ap, sym, ◌∙◌}
 use Rattle.ns_types.specs.declared.reply.Content.TheVariants as Content
 use Rattle.ns_types.specs.Settling.Outcome.{Done}
-use Rattle.ns_world.specs.World.{tenant_of, world_of}
+use Rattle.ns_tables.specs.World.{tenant_of, world_of}
 use Rattle.ns_change.proofs.Prepares.{prepares_as}
 use Rattle.ns_jobs.proofs.Prepared.{there}
 use Rattle.ns_jobs.proofs.ReportAsked.{again, full, never, written}

@@ -1,6 +1,6 @@
 use Rattle.std.proofs.Common.{ap}
 use Rattle.ns_types.specs.Asking.Nodes.{reported}
-use Rattle.ns_world.specs.World.{world_of}
+use Rattle.ns_tables.specs.World.{world_of}
 use Rattle.ns_change.proofs.Prepares.{done_as}
 use Rattle.ns_jobs.proofs.report.writing.reported.Goals as goal
 

@@ -2,7 +2,7 @@ use Rattle.std.specs.Prelude.{◌≡◌}
 use Rattle.std.proofs.Common.{ap, sym, subst, ◌∙◌}
 use Rattle.ns_types.specs.Asking.Nodes.{reported}
 use Rattle.ns_types.specs.Settling.Making.{change_tenant, make, with_client}
-use Rattle.ns_world.specs.World.{tenant_of, world_of}
+use Rattle.ns_tables.specs.World.{tenant_of, world_of}
 use Rattle.ns_change.specs.Changed.{HasEvaluationLeft}
 use Rattle.ns_change.proofs.Prepares.{done_as}
 use Rattle.ns_jobs.proofs.Prepared.{there}

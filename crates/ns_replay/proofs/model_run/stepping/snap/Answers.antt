@@ -3,7 +3,7 @@ use Rattle.std.proofs.Common.{ap, sym, subst, ◌∙◌}
 use Rattle.ns_types.specs.declared.snapshot.Snapshot.{Snapshot}
 use Rattle.ns_types.specs.declared.step.Step.{Step}
 use Rattle.ns_types.specs.Steps.{Makes, said}
-use Rattle.ns_drive.specs.Calls.{snapped}
+use Rattle.ns_driver.specs.Calls.{snapped}
 use Rattle.ns_replay.proofs.model_run.stepping.snap.Goals as goal
 
 pub returns-in-Ok : goal.returns-in-Ok

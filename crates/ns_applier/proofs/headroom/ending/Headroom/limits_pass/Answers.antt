@@ -1,6 +1,6 @@
 use Rattle.std.proofs.Common.{ap, ◌∙◌}
-use Rattle.ns_bounds.specs.Given.{given_limits_pass}
-use Rattle.ns_world.specs.World.{world_of}
+use Rattle.ns_counters.specs.Given.{given_limits_pass}
+use Rattle.ns_tables.specs.World.{world_of}
 use Rattle.ns_applier.proofs.Sleeping.{quota_alone}
 use Rattle.ns_applier.proofs.headroom.ending.Headroom.limits_pass.Goals as goal
 

@@ -1,7 +1,7 @@
 use Rattle.std.proofs.Common.{ap, ◌∙◌}
 use Rattle.ns_types.specs.State.Rows.{offered_class}
-use Rattle.ns_bounds.specs.Given.{given_room_passes}
-use Rattle.ns_world.specs.World.{world_of}
+use Rattle.ns_counters.specs.Given.{given_room_passes}
+use Rattle.ns_tables.specs.World.{world_of}
 use Rattle.ns_applier.proofs.Sleeping.{room_alone}
 use Rattle.ns_applier.proofs.headroom.ending.Headroom.room_passes.Goals as goal
 

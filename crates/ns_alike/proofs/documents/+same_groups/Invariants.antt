@@ -1,5 +1,0 @@
-use Rattle.std.proofs.Common.{length}
-use Rattle.ns_alike.proofs.documents.+same_groups.Given as goal
-
-abbrev pub decreases-same_groups : goal.decreases-same_groups
-decreases-same_groups l = length l.a.now

@@ -1,5 +1,0 @@
-use Rattle.std.proofs.Common.{length}
-use Rattle.ns_alike.proofs.documents.+same_tasks.Given as goal
-
-abbrev pub decreases-same_tasks : goal.decreases-same_tasks
-decreases-same_tasks l = length l.a.now

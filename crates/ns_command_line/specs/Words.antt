@@ -1,0 +1,169 @@
+-- The words that the program takes, as `clap` reads them.
+use Rattle.std.specs.Prelude.{◌≡◌, ◌⊎◌, List, [], ◌∷◌, Option, Some, None, codes, true, if◌then◌else◌}
+use Rattle.std.specs.Str.{bytes_eq}
+use Rattle.clap.specs.Simple.{on_top}
+use Rattle.clap.specs.Words.{App, Rule, Text}
+use Rattle.clap.specs.Words.{IsAmong, fault_of, kind_of, new_app, new_rule, subcommand_of, with_rule, with_subcommand}
+use Rattle.clap.specs.declared.builder.action.ArgAction.TheVariants.{Append, SetTrue}
+use Rattle.clap.specs.declared.error.Error.{Error}
+use Rattle.clap.specs.declared.error.kind.ErrorKind.{ErrorKind}
+use Rattle.ns_api.specs.declared.following.Driven.{Driven}
+use Rattle.ns_pipe.specs.declared.asked.Asked.{Asked}
+use Rattle.ns_pipe.specs.declared.printed.Printed.{Printed}
+use Rattle.ns_pipe.specs.declared.replay.replay.Replay.{Replay}
+use Rattle.ns_listener.specs.declared.service.Service.{Service}
+use Rattle.ns_types.specs.declared.name.NameKind.TheVariants as NameKind
+use Rattle.ns_types.specs.State.Name.{is_name}
+use Rattle.ns_command_line.specs.declared.wanted.Wanted.{Wanted}
+use Rattle.ns_arguments.specs.Values.{count_by, names_by}
+use Rattle.ns_command_line.specs.Given.{Named, all_given_for, given_for}
+use Rattle.ns_command_line.specs.Serve.{IsServe, serve_words}
+
+-- `--bootstrap SECRET`, which has to be there
+abbrev pub bootstrap_rule : Rule
+bootstrap_rule =
+    record (new_rule (codes "bootstrap")) { long = Some (codes "bootstrap"); value_names = 1; required = true }
+
+-- `--drive`, which has no value
+abbrev pub drive_rule : Rule
+drive_rule = record (new_rule (codes "drive")) { long = Some (codes "drive"); action = Some SetTrue }
+
+-- `--print WHAT`
+abbrev pub print_rule : Rule
+print_rule = record (new_rule (codes "print")) { long = Some (codes "print"); value_names = 1 }
+
+abbrev pub pipe_words : App
+pipe_words = with_rule (with_rule (with_rule (new_app (codes "pipe")) bootstrap_rule) drive_rule) print_rule
+
+-- the namespace, which has to be there
+abbrev pub namespace_rule : Rule
+namespace_rule = record (new_rule (codes "namespace")) { value_names = 1; required = true }
+
+-- `--from COUNT`
+abbrev pub from_rule : Rule
+from_rule = record (new_rule (codes "from")) { long = Some (codes "from"); value_names = 1 }
+
+-- `--pool NAME`, any number of times
+abbrev pub pool_rule : Rule
+pool_rule = record (new_rule (codes "pool")) { long = Some (codes "pool"); value_names = 1; action = Some Append }
+
+-- `--quota NAME`, any number of times
+abbrev pub quota_rule : Rule
+quota_rule = record (new_rule (codes "quota")) { long = Some (codes "quota"); value_names = 1; action = Some Append }
+
+abbrev pub alone_words : App
+alone_words =
+    with_rule (with_rule (with_rule (with_rule (new_app (codes "alone")) namespace_rule) from_rule) pool_rule) quota_rule
+
+-- without its subcommands, of which one has to be there
+abbrev pub bare_words : App
+bare_words = on_top (λ top. record top { subcommand_required = true }) (new_app (codes "nsd"))
+
+abbrev pub program_words : App
+program_words =
+    with_subcommand (with_subcommand (with_subcommand bare_words pipe_words.top) serve_words.top) alone_words.top
+
+-- ---- what `clap` finds in the words
+
+-- no fault
+abbrev pub AreTaken : List Text → Type 0
+AreTaken words = fault_of program_words words ≡ []
+
+-- the fault is that help, or the version, is asked for
+abbrev pub IsWish : ErrorKind → Type 0
+IsWish kind = (kind ≡ ErrorKind.DisplayHelp) ⊎ (kind ≡ ErrorKind.DisplayVersion)
+
+-- that help is asked for, and nothing else
+abbrev pub AskHelp : List Text → Type 0
+AskHelp words = fault_of program_words words ≡ ErrorKind.DisplayHelp ∷ []
+
+-- a fault, and none that is a wish
+pub record AreRefused (words : List Text) : Type 0 where
+  pub faulty : AreTaken words → ⊥
+  pub no_wish : (kind : ErrorKind) → IsAmong kind (fault_of program_words words) → IsWish kind → ⊥
+
+-- ---- `pipe`
+
+-- a flag that is there is given as `true`
+abbrev pub driven_by : Option Text → Driven
+driven_by None = Driven.Nobody
+driven_by (Some text) = if bytes_eq text (codes "true") then Driven.Worker else Driven.Nobody
+
+-- the replies, where nothing is said
+abbrev pub printed_by : Option Text → Option Printed
+printed_by None = Some Printed.Replies
+printed_by (Some text) =
+    if bytes_eq text (codes "replies") then Some Printed.Replies
+    else if bytes_eq text (codes "log") then Some Printed.Log else None
+
+-- `pipe` is given this secret, which is one by its rule, and with whom to drive and what to print
+pub record IsPipe (named : Named) (secret : Text) (driven : Driven) (printed : Printed) : Type 0 where
+  pub given : given_for (codes "pipe") (codes "bootstrap") named ≡ Some secret
+  pub is_secret : is_name NameKind.Secret secret ≡ true
+  pub drives : driven_by (given_for (codes "pipe") (codes "drive") named) ≡ driven
+  pub prints : printed_by (given_for (codes "pipe") (codes "print") named) ≡ Some printed
+
+abbrev pub Gives : List Text → Text → Driven → Printed → Type 0
+Gives words = IsPipe (subcommand_of program_words words)
+
+-- good words: `clap` takes them, and they give this secret and say whom to drive and what to print
+pub record Asks (words : List Text) (secret : Text) (driven : Driven) (printed : Printed) : Type 0 where
+  pub taken : AreTaken words
+  pub gives : Gives words secret driven printed
+
+-- ---- `alone`
+
+-- `alone` is given what this replay is to be: the namespace, the count, and all pools and all quotas in order; each name
+-- is one by its rule
+pub record IsAlone (named : Named) (replay : Replay) : Type 0 where
+  pub given : given_for (codes "alone") (codes "namespace") named ≡ Some replay.namespace
+  pub is_namespace : is_name NameKind.Namespace replay.namespace ≡ true
+  pub begins : count_by (given_for (codes "alone") (codes "from") named) ≡ Some replay.from
+  pub its_pools : names_by NameKind.Pool (all_given_for (codes "alone") (codes "pool") named) ≡ Some replay.pools
+  pub its_quotas : names_by NameKind.Quota (all_given_for (codes "alone") (codes "quota") named) ≡ Some replay.quotas
+
+abbrev pub GivesAlone : List Text → Replay → Type 0
+GivesAlone words = IsAlone (subcommand_of program_words words)
+
+-- good words: `clap` takes them, and they give what this replay is to be
+pub record AsksAlone (words : List Text) (replay : Replay) : Type 0 where
+  pub taken : AreTaken words
+  pub gives : GivesAlone words replay
+
+-- ---- `serve`
+
+abbrev pub GivesServe : List Text → Service → Type 0
+GivesServe words = IsServe (subcommand_of program_words words)
+
+-- good words: `clap` takes them, and they give what this server is to be
+pub record AsksServe (words : List Text) (service : Service) : Type 0 where
+  pub taken : AreTaken words
+  pub gives : GivesServe words service
+
+-- ---- all of them
+
+-- this is what the subcommand that is named is given to do
+abbrev pub IsWanted : Named → Wanted → Type 0
+IsWanted named (Wanted.Serve service) = IsServe named service
+IsWanted named (Wanted.Run (Asked.Pipe secret driven printed)) = IsPipe named secret driven printed
+IsWanted named (Wanted.Run (Asked.Alone replay)) = IsAlone named replay
+IsWanted named (Wanted.Run (Asked.Help help)) = ⊥
+IsWanted named (Wanted.Run (Asked.Mistake reason)) = ⊥
+IsWanted named (Wanted.Run Asked.NoMemory) = ⊥
+
+-- ---- bad words
+
+-- `clap` takes the words, and a value among them is not what it has to be
+pub record IsMisgiven (words : List Text) : Type 0 where
+  pub taken : AreTaken words
+  pub no_pipe : (secret : Text) (driven : Driven) (printed : Printed) → Gives words secret driven printed → ⊥
+  pub no_alone : (replay : Replay) → GivesAlone words replay → ⊥
+  pub no_serve : (service : Service) → GivesServe words service → ⊥
+
+-- `clap` refuses the words, or a value among them is bad
+abbrev pub AreBad : List Text → Type 0
+AreBad words = AreRefused words ⊎ IsMisgiven words
+
+-- a value is refused, or there was no memory to say so
+abbrev pub IsRefusal : Error → Type 0
+IsRefusal error = (kind_of error ≡ ErrorKind.ValueValidation) ⊎ (kind_of error ≡ ErrorKind.OutOfMemory)

@@ -1,0 +1,200 @@
+//! The words that the program takes, for `clap`.
+
+mod serve;
+
+ghost use Rattle.std.specs.Prelude.{◌≡◌, IfOk, codes, false};
+ghost use Rattle.clap.specs.Words.{app_of, new_app, rule_of};
+ghost use Rattle.clap.specs.declared.builder.command.Command.TheViews.{out-Command};
+ghost use Rattle.ns_command_line.specs.Words.{alone_words, bare_words, pipe_words, program_words};
+ghost use Rattle.ns_command_line.specs.Words.{bootstrap_rule, drive_rule, from_rule, namespace_rule};
+ghost use Rattle.ns_command_line.specs.Words.{pool_rule, print_rule, quota_rule};
+
+use clap::{Arg, ArgAction, Command};
+use std::alloc::{AllocError, Global};
+
+const EXAMPLE: &str = "Example:
+  nsd pipe --bootstrap root < examples/one-job.http";
+
+const STATUSES: &str = "Exit statuses:
+  0  pipe: served to the end; serve: served and settled; alone: same
+  1  serve: mismatch; alone: differs, a premise fails, or not a run
+  2  bad arguments; alone: or a bad log
+  3  the input failed; pipe: or it ended inside a request; serve: no address or no connection
+  4  the output failed
+  5  out of memory; serve: or a thread could not be started";
+
+const ALONE: &str = "\
+Standard input is a log, as `serve` and `pipe --print log` print it. The first COUNT entries set up the
+server; from there on the namespace's own steps are repeated by a server that holds nobody else.
+
+--pool and --quota name the pools and quotas that the namespace has to itself. Its own steps are the
+requests in the namespace or for its pools, with any token; what workers did for it; and requests of
+administrators for its record (within these pools and quotas), its pools, its quotas, or for policies
+and tokens.
+
+Promised: a namespace that has these pools and quotas to itself gets the same replies alone.
+What must hold, from COUNT on:
+  no other namespace may use one of the pools or names one of the quotas
+  the namespace is confined to these pools and names no other quota
+  none of its jobs runs or waits in another pool
+  no put of its record, pools or quotas is refused because a table of the server is full
+Administrators may change its record, its quotas, its pools, policies and tokens meanwhile.
+Not promised: how long a step takes, replies to steps that are not its own, anything once one fails.
+
+Printed: place in the log, status and body of each repeated step, and at the end
+  same                each reply is the one in the log
+  differs at P        alone, the reply at place P is a different one
+  premise fails at P  one of the conditions above does not hold before or after place P
+  not a run at P      no server gives the reply that stands at place P
+  bad log line L      line L is no line of a log; nothing else is printed
+
+Exit statuses:
+  0  same
+  1  differs at P, premise fails at P or not a run at P
+  2  bad arguments, or bad log line L
+  3  the input failed
+  4  the output failed
+  5  out of memory";
+
+fn bootstrap<'a>(alloc: Global) -> Arg<'a>
+    ensures rule { rule_of result ≡ bootstrap_rule }
+    ensures local { result.global ≡ false }
+{
+    Arg::new(alloc, "bootstrap")
+        .long("bootstrap")
+        .value_name("SECRET")
+        .required(true)
+        .help("The secret of the first management token: 1 to 64 printable bytes without a space")
+}
+
+fn drive<'a>(alloc: Global) -> Arg<'a>
+    ensures rule { rule_of result ≡ drive_rule }
+    ensures local { result.global ≡ false }
+{
+    Arg::new(alloc, "drive")
+        .long("drive")
+        .action(ArgAction::SetTrue)
+        .help(
+            "After each request a worker places what is ready, has its plans applied, and finishes",
+        )
+}
+
+fn print<'a>(alloc: Global) -> Arg<'a>
+    ensures rule { rule_of result ≡ print_rule }
+    ensures local { result.global ≡ false }
+{
+    Arg::new(alloc, "print")
+        .long("print")
+        .value_name("WHAT")
+        .help("What standard output gets: `replies` or `log` (default: replies)")
+}
+
+fn namespace<'a>(alloc: Global) -> Arg<'a>
+    ensures rule { rule_of result ≡ namespace_rule }
+    ensures local { result.global ≡ false }
+{
+    Arg::new(alloc, "namespace")
+        .value_name("NAMESPACE")
+        .required(true)
+        .help("The namespace: 1 to 128 letters, digits and hyphens")
+}
+
+fn from<'a>(alloc: Global) -> Arg<'a>
+    ensures rule { rule_of result ≡ from_rule }
+    ensures local { result.global ≡ false }
+{
+    Arg::new(alloc, "from")
+        .long("from")
+        .value_name("COUNT")
+        .help("Number of entries of the log that set up the server first (default: 0)")
+}
+
+fn pool<'a>(alloc: Global) -> Arg<'a>
+    ensures rule { rule_of result ≡ pool_rule }
+    ensures local { result.global ≡ false }
+{
+    Arg::new(alloc, "pool")
+        .long("pool")
+        .value_name("NAME")
+        .action(ArgAction::Append)
+        .help(
+            "A pool that the namespace has to itself; repeat it for each (default without --quota: \
+             the pools that it may use after COUNT entries)",
+        )
+}
+
+fn quota<'a>(alloc: Global) -> Arg<'a>
+    ensures rule { rule_of result ≡ quota_rule }
+    ensures local { result.global ≡ false }
+{
+    Arg::new(alloc, "quota")
+        .long("quota")
+        .value_name("NAME")
+        .action(ArgAction::Append)
+        .help(
+            "A quota that it has to itself; repeat it for each (default without --pool: the one that \
+             it names after COUNT entries)",
+        )
+}
+
+/// `pipe` without its arguments.
+fn bare_pipe<'a>(alloc: Global) -> Command<'a>
+    ensures shape { app_of result ≡ new_app (codes "pipe") }
+    ensures local { (out-Command result).has_globals ≡ false }
+{
+    Command::new(alloc, "pipe")
+        .about(
+            "Answers standard input as one HTTP/1.1 connection, with the replies on standard output",
+        )
+        .after_help(EXAMPLE)
+}
+
+fn pipe<'a>(alloc: Global) -> Result<Command<'a>, AllocError>
+    ensures shape { IfOk result (λ command. app_of command ≡ pipe_words) }
+    ensures local { IfOk result (λ command. (out-Command command).has_globals ≡ false) }
+{
+    let command = bare_pipe(alloc).arg(bootstrap(alloc))?;
+    let command = command.arg(drive(alloc))?;
+    command.arg(print(alloc))
+}
+
+/// `alone` without its arguments.
+fn bare_alone<'a>(alloc: Global) -> Command<'a>
+    ensures shape { app_of result ≡ new_app (codes "alone") }
+    ensures local { (out-Command result).has_globals ≡ false }
+{
+    Command::new(alloc, "alone")
+        .about(
+            "Replays a namespace's own steps of a log alone, and says whether each reply is the same",
+        )
+        .after_help(ALONE)
+}
+
+fn alone<'a>(alloc: Global) -> Result<Command<'a>, AllocError>
+    ensures shape { IfOk result (λ command. app_of command ≡ alone_words) }
+    ensures local { IfOk result (λ command. (out-Command command).has_globals ≡ false) }
+{
+    let command = bare_alone(alloc).arg(namespace(alloc))?;
+    let command = command.arg(from(alloc))?;
+    let command = command.arg(pool(alloc))?;
+    command.arg(quota(alloc))
+}
+
+/// The program without its subcommands.
+fn bare<'a>(alloc: Global) -> Command<'a>
+    ensures { app_of result ≡ bare_words }
+{
+    Command::new(alloc, "nsd")
+        .about("A scheduling server for many tenants")
+        .after_help(STATUSES)
+        .subcommand_required(true)
+}
+
+/// The words that the program takes.
+pub fn command<'a>(alloc: Global) -> Result<Command<'a>, AllocError>
+    ensures { IfOk result (λ command. app_of command ≡ program_words) }
+{
+    let command = bare(alloc).subcommand(pipe(alloc)?)?;
+    let command = command.subcommand(serve::serve(alloc)?)?;
+    command.subcommand(alone(alloc)?)
+}

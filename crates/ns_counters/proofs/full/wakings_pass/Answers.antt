@@ -1,0 +1,14 @@
+use Rattle.std.proofs.Common.{sym, ◌∙◌}
+use Rattle.ns_types.proofs.Lists.{left_none, right_none}
+use Rattle.ns_release.specs.Released.{released_quotas, released_rooms}
+use Rattle.ns_tables.specs.World.{world_of}
+use Rattle.ns_release.proofs.Woken.{empty_by_any}
+use Rattle.ns_counters.proofs.Passing.{none_wakes}
+use Rattle.ns_counters.proofs.full.wakings_pass.Goals as goal
+
+pub returns-else-releases : goal.returns-else-releases
+returns-else-releases c =
+    let w = world_of c.args.tables.now in
+    let none = sym c.releases.ensures ∙ c.if-releases.false in
+    c.if-releases.false ∙ sym (none_wakes w c.args.change.now (empty_by_any (released_rooms w c.args.change.now) (left_none _ _ none))
+    (empty_by_any (released_quotas w c.args.change.now) (right_none _ _ none)))

@@ -1,0 +1,370 @@
+//! Whether a step passes the bound of a counter. It takes no memory, so that this is judged before anything that does.
+
+ghost use Rattle.std.specs.Prelude.{◌≡◌, ◌&&◌, ◌||◌, false, nat_lt};
+ghost use Rattle.std.specs.List.{list_any};
+ghost use Rattle.keyed.specs.Table.{at_slot};
+ghost use Rattle.ns_types.specs.State.Names.{same_key};
+ghost use Rattle.ns_types.specs.State.Rows.{evaluation_at};
+ghost use Rattle.ns_types.specs.Settling.Settle.{settle};
+ghost use Rattle.ns_types.specs.Steps.{greatest, is_past_bound};
+ghost use Rattle.ns_change.specs.Changed.{view};
+ghost use Rattle.ns_release.specs.Released.{does_wake};
+ghost use Rattle.ns_counters.specs.Bounds.{is_number_past, is_place_past, is_waking};
+ghost use Rattle.ns_counters.specs.Bounds.{passes_in, places_pass, pools_pass, quota_passes, quotas_pass, room_passes};
+ghost use Rattle.ns_counters.specs.Bounds.{shows_asleep, shows_awake, tenant_passes, tenants_pass, touches_asleep};
+ghost use Rattle.ns_counters.specs.Bounds.{waking_passes, waking_passes_in};
+ghost use Rattle.ns_tables.specs.World.{tenant_of, world_of};
+
+use crate::at_bound::wakes_may_pass;
+use crate::awake::changes_awake;
+use ns_change::{Change, PoolChange, TenantChange, evaluation};
+use ns_equality::{same_number, same_text};
+use ns_release::{
+    Question, any_job, any_row, changes_row, does_wake, releases, releases_quota, releases_room,
+};
+use ns_tables::{Tables, TenantRows, is_at_bound};
+use ns_types::evaluation::Evaluation;
+use ns_types::key::EvalKey;
+use ns_types::node::{Node, Offer};
+use ns_types::text::Text;
+
+/// A changed node with its name, or one that is gone.
+type NodeSlot = (Text, Option<Node>);
+
+/// A changed pool with its name.
+type PoolSlot = (Text, Option<PoolChange>);
+
+/// A changed evaluation with its number, or one that is gone.
+type EvaluationSlot = (u64, Option<Evaluation>);
+
+/// An entry of `blocked` with its place, or a vacant slot.
+type EntrySlot = (u64, Option<EvalKey>);
+
+/// A changed namespace with its name.
+type TenantSlot = (Text, Option<TenantChange>);
+
+/// Whether a number has passed the bound. None has that fits its type.
+fn is_past(number: u64) -> bool
+    ensures { result ≡ nat_lt greatest number }
+{
+    number > u64::MAX
+}
+
+/// The release numbers of pools and quotas.
+#[derive(Drop)]
+pub(crate) struct Counters<'a> {
+    pub(crate) tables: &'a Tables,
+}
+
+/// Whether the release number of that pool, or of that quota, can not rise any more.
+impl Question for Counters<'_> {
+    ghost of_room = { λ c room. room_passes (world_of c.tables.now) room };
+
+    ghost of_quota = { λ c quota. quota_passes (world_of c.tables.now) quota };
+
+    fn is_room(&self, pool: &Text, _offer: &Offer) -> bool {
+        match self.tables.pools.get(pool) {
+            Some(rows) => is_at_bound(rows.release),
+            None => false,
+        }
+    }
+
+    fn is_quota(&self, quota: &Text) -> bool {
+        match self.tables.quotas.get(quota) {
+            Some(rows) => is_at_bound(rows.release),
+            None => false,
+        }
+    }
+}
+
+// ---- evaluations that wake
+
+/// Whether the evaluation of an entry, once it has woken, is shown otherwise than before.
+fn shows_awake(tables: &Tables, change: &Change, tenant: &TenantRows, key: &EvalKey) -> bool
+    ensures { result ≡ shows_awake (tenant_of tenant.now) key.now.1
+        (evaluation_at (view tables.now change.now) key.now) }
+{
+    match evaluation(tables, change, key.namespace(), key.number()) {
+        Some(row) => changes_awake(tenant, key.number(), row),
+        None => false,
+    }
+}
+
+fn wakes_shown(tables: &Tables, change: &Change, tenant: &TenantRows, key: &EvalKey) -> bool
+    ensures { result ≡ (does_wake (world_of tables.now) change.now key.now
+        && shows_awake (tenant_of tenant.now) key.now.1
+        (evaluation_at (view tables.now change.now) key.now)) }
+{
+    does_wake(tables, change, key) && shows_awake(tables, change, tenant, key)
+}
+
+fn waking_passes_in(tables: &Tables, change: &Change, tenant: &TenantRows, key: &EvalKey) -> bool
+    ensures { result
+        ≡ waking_passes_in (world_of tables.now) change.now key.now (tenant_of tenant.now) }
+{
+    is_at_bound(tenant.index) && wakes_shown(tables, change, tenant, key)
+}
+
+/// Whether the entry wakes, and its namespace's index passes by that.
+fn waking_passes(tables: &Tables, change: &Change, key: &EvalKey) -> bool
+    ensures { result ≡ waking_passes (world_of tables.now) change.now key.now }
+{
+    match tables.tenants.get(key.namespace()) {
+        Some(tenant) => waking_passes_in(tables, change, tenant, key),
+        None => false,
+    }
+}
+
+fn slot_passes(tables: &Tables, change: &Change, slot: &EntrySlot) -> bool
+    ensures { result ≡ at_slot (λ e. waking_passes (world_of tables.now) change.now e.1) slot.now }
+{
+    match &slot.1 {
+        Some(key) => waking_passes(tables, change, key),
+        None => false,
+    }
+}
+
+fn any_waking_passes(tables: &Tables, change: &Change, slots: &[EntrySlot]) -> bool
+    ensures { result
+        ≡ list_any (at_slot (λ e. waking_passes (world_of tables.now) change.now e.1)) slots.now }
+{
+    slots.iter().any(|slot| slot_passes(tables, change, slot))
+}
+
+/// Whether an index passes by an evaluation that wakes, where something is released.
+fn released_wakings_pass(tables: &Tables, change: &Change) -> bool
+    ensures { result ≡ list_any (waking_passes (world_of tables.now) change.now)
+        (world_of tables.now).blocked }
+{
+    wakes_may_pass(tables) && any_waking_passes(tables, change, tables.blocked.slots())
+}
+
+/// Whether an index passes by an evaluation that wakes.
+fn wakings_pass(tables: &Tables, change: &Change) -> bool
+    ensures { result ≡ list_any (waking_passes (world_of tables.now) change.now)
+        (world_of tables.now).blocked }
+{
+    releases(tables, change) && released_wakings_pass(tables, change)
+}
+
+// ---- changed rows of namespaces
+
+fn is_waking_key(
+    tables: &Tables,
+    change: &Change,
+    namespace: &Text,
+    number: u64,
+    key: &EvalKey,
+) -> bool
+    ensures { result ≡ (same_key (namespace.now, number) key.now
+        && does_wake (world_of tables.now) change.now key.now) }
+{
+    same_text(namespace, key.namespace())
+        && same_number(number, key.number())
+        && does_wake(tables, change, key)
+}
+
+fn is_waking_slot(
+    tables: &Tables,
+    change: &Change,
+    namespace: &Text,
+    number: u64,
+    slot: &EntrySlot,
+) -> bool
+    ensures { result ≡ at_slot (λ e. same_key (namespace.now, number) e.1
+        && does_wake (world_of tables.now) change.now e.1) slot.now }
+{
+    match &slot.1 {
+        Some(key) => is_waking_key(tables, change, namespace, number, key),
+        None => false,
+    }
+}
+
+fn any_waking_slot(
+    tables: &Tables,
+    change: &Change,
+    namespace: &Text,
+    number: u64,
+    slots: &[EntrySlot],
+) -> bool
+    ensures { result ≡ list_any (at_slot (λ e. same_key (namespace.now, number) e.1
+        && does_wake (world_of tables.now) change.now e.1)) slots.now }
+{
+    slots.iter().any(|slot| is_waking_slot(tables, change, namespace, number, slot))
+}
+
+/// Whether the evaluation wakes. One that is not blocked is not looked for.
+fn is_waking(tables: &Tables, change: &Change, namespace: &Text, number: u64) -> bool
+    ensures { result ≡ is_waking (world_of tables.now) change.now (namespace.now, number) }
+{
+    tables.blocked.has(namespace, number)
+        && any_waking_slot(tables, change, namespace, number, tables.blocked.slots())
+}
+
+/// Whether a changed evaluation does not wake, and is shown otherwise than before.
+fn shows_asleep(
+    tables: &Tables,
+    change: &Change,
+    namespace: &Text,
+    tenant: &TenantRows,
+    slot: &EvaluationSlot,
+) -> bool
+    ensures { result ≡ shows_asleep (world_of tables.now) change.now namespace.now
+        (tenant_of tenant.now) slot.now }
+{
+    match &slot.1 {
+        Some(row) => !is_waking(tables, change, namespace, slot.0)
+            && changes_row(tenant.evaluations.rows(), slot.0, row),
+        None => false,
+    }
+}
+
+fn any_shows_asleep(
+    tables: &Tables,
+    change: &Change,
+    namespace: &Text,
+    tenant: &TenantRows,
+    slots: &[EvaluationSlot],
+) -> bool
+    ensures { result ≡ list_any (shows_asleep (world_of tables.now) change.now namespace.now
+        (tenant_of tenant.now)) slots.now }
+{
+    slots.iter().any(|slot| shows_asleep(tables, change, namespace, tenant, slot))
+}
+
+/// Whether a row of the namespace that replies show changed, evaluations that wake apart.
+fn touches_asleep(
+    tables: &Tables,
+    change: &Change,
+    namespace: &Text,
+    tenant: &TenantRows,
+    changed: &TenantChange,
+) -> bool
+    ensures { result ≡ touches_asleep (world_of tables.now) change.now namespace.now
+        (tenant_of tenant.now) changed.now }
+{
+    any_job(tenant, changed.jobs.as_slice())
+        || any_shows_asleep(
+            tables,
+            change,
+            namespace,
+            tenant,
+            changed.evaluations.as_slice(),
+        )
+        || any_row(tenant.allocations.rows(), changed.allocations.as_slice())
+}
+
+fn is_number_past(changed: &TenantChange) -> bool
+    ensures { result ≡ is_number_past changed.now }
+{
+    is_past(changed.evaluation_number) || is_past(changed.allocation_number)
+}
+
+fn passes_in(
+    tables: &Tables,
+    change: &Change,
+    namespace: &Text,
+    tenant: &TenantRows,
+    changed: &TenantChange,
+) -> bool
+    ensures { result ≡ passes_in (world_of tables.now) change.now namespace.now changed.now
+        (tenant_of tenant.now) }
+{
+    is_number_past(changed)
+        || is_at_bound(tenant.index) && touches_asleep(tables, change, namespace, tenant, changed)
+}
+
+fn tenant_passes(tables: &Tables, change: &Change, slot: &TenantSlot) -> bool
+    ensures { result ≡ tenant_passes (world_of tables.now) change.now slot.now }
+{
+    let Some(changed) = &slot.1 else {
+        return false;
+    };
+    match tables.tenants.get(&slot.0) {
+        Some(tenant) => passes_in(tables, change, &slot.0, tenant, changed),
+        None => false,
+    }
+}
+
+fn any_tenant_passes(tables: &Tables, change: &Change, slots: &[TenantSlot]) -> bool
+    ensures { result ≡ list_any (tenant_passes (world_of tables.now) change.now) slots.now }
+{
+    slots.iter().any(|slot| tenant_passes(tables, change, slot))
+}
+
+/// Whether an index or a number of a namespace passes.
+fn tenants_pass(tables: &Tables, change: &Change) -> bool
+    ensures { result ≡ tenants_pass (world_of tables.now) change.now }
+{
+    any_tenant_passes(tables, change, change.tenants.as_slice()) || wakings_pass(tables, change)
+}
+
+// ---- pools
+
+fn is_place_past(slot: &NodeSlot) -> bool
+    ensures { result ≡ is_place_past slot.now }
+{
+    match &slot.1 {
+        Some(node) => is_past(node.places),
+        None => false,
+    }
+}
+
+fn any_place_past(slots: &[NodeSlot]) -> bool
+    ensures { result ≡ list_any is_place_past slots.now }
+{
+    slots.iter().any(|slot| is_place_past(slot))
+}
+
+fn places_pass(tables: &Tables, slot: &PoolSlot) -> bool
+    ensures { result ≡ places_pass (world_of tables.now) slot.now }
+{
+    let Some(changed) = &slot.1 else {
+        return false;
+    };
+    match tables.pools.get(&slot.0) {
+        Some(_) => any_place_past(changed.nodes.as_slice()),
+        None => false,
+    }
+}
+
+fn any_places_pass(tables: &Tables, slots: &[PoolSlot]) -> bool
+    ensures { result ≡ list_any (places_pass (world_of tables.now)) slots.now }
+{
+    slots.iter().any(|slot| places_pass(tables, slot))
+}
+
+/// Whether a release number of a pool passes, or the number of places of a node.
+fn pools_pass(tables: &Tables, change: &Change) -> bool
+    ensures { result ≡ pools_pass (world_of tables.now) change.now }
+{
+    releases_room(&Counters { tables }, tables, change)
+        || any_places_pass(tables, change.pools.as_slice())
+}
+
+// ---- all counters
+
+/// Whether a release number of a quota passes.
+fn quotas_pass(tables: &Tables, change: &Change) -> bool
+    ensures { result ≡ quotas_pass (world_of tables.now) change.now }
+{
+    releases_quota(&Counters { tables }, tables, change)
+}
+
+fn any_passes(tables: &Tables, change: &Change) -> bool
+    ensures { result ≡ (tenants_pass (world_of tables.now) change.now
+        || pools_pass (world_of tables.now) change.now
+        || quotas_pass (world_of tables.now) change.now) }
+{
+    tenants_pass(tables, change) || pools_pass(tables, change) || quotas_pass(tables, change)
+}
+
+/// Whether some counter passes its bound by the step, once it has settled. It takes no memory. Its work grows with what
+/// the step changes alone, unless an index ever was at its bound: then with the number of blocked evaluations too.
+pub fn is_past_bound(tables: &Tables, change: &Change) -> bool
+    requires { is_past_bound (world_of tables.now) ≡ false }
+    ensures { result
+        ≡ is_past_bound (settle (world_of tables.now) (view tables.now change.now)) }
+{
+    any_passes(tables, change)
+}

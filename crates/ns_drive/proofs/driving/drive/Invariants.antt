@@ -1,7 +1,0 @@
-use Rattle.ns_drive.proofs.Rounds.{HasMade}
-use Rattle.ns_drive.proofs.driving.drive.Given as goal
-use Rattle.ns_drive.specs.Kept.{seen_of}
-
-abbrev pub invariant-loop : goal.invariant-loop
-invariant-loop g l = HasMade g.W.Server.state g.W.Server.notes g.W.Works.lacks
-    l.fn.works (seen_of l.fn.kept) l.counter l.works (seen_of l.kept)

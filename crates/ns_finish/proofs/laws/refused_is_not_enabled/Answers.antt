@@ -1,5 +1,0 @@
-use Rattle.ns_finish.proofs.Answered.{not_enabled}
-use Rattle.ns_finish.proofs.laws.refused_is_not_enabled.Goals as goal
-
-pub returns : goal.returns
-returns c = not_enabled

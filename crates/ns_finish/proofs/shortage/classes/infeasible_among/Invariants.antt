@@ -1,6 +1,0 @@
-use Rattle.std.proofs.Common.{◌≡◌, drop}
-use Rattle.ns_finish.specs.Remembered.{infeasible_among}
-use Rattle.ns_finish.proofs.shortage.classes.infeasible_among.Given as goal
-
-abbrev pub invariant-loop-i : goal.invariant-loop-i
-invariant-loop-i l = l.classes.items ≡ infeasible_among l.constraints (drop l.i l.nodes)

@@ -1,8 +1,0 @@
-use Rattle.ns_types.specs.declared.step.Step.TheVariants as Step
-use Rattle.ns_drive.specs.Calls.{snapped}
-use Rattle.ns_held.proofs.Attempts.{attempts}
-use Rattle.ns_held.proofs.driven.HeldWorks.snap.Goals as goal
-
-pub returns-clause-made : goal.returns-clause-made
-returns-clause-made c =
-    attempts (Step.Snap c.args.worker c.args.namespace.now) c.args.self.now (snapped c.snap.result) c.snap.new.self c.snap.ensures.logged

@@ -1,5 +1,0 @@
-use Rattle.ns_held.proofs.Attempts.{are_noted}
-use Rattle.ns_held.proofs.laws.chain_is_noted.Goals as goal
-
-pub returns : goal.returns
-returns c = are_noted

@@ -1,0 +1,53 @@
+//! One connection, answered over what gains the receipts.
+
+ghost use Rattle.std.specs.Prelude.{◌≡◌, ◌+◌, ◌≤◌, min, length, IfOk, IsErrOf, IsTrue, false, Err};
+ghost use Rattle.ns_types.specs.Wire.Http.{End};
+ghost use Rattle.ns_http.specs.Conversation.{streams_between, EndsWell, IsReadFault};
+ghost use Rattle.ns_http.specs.Counts.{IsOpen, IsWriteFault};
+ghost use Rattle.ns_listener.specs.Serving.{held, Served, ServedInPart};
+
+use crate::clients::client::Client;
+use crate::clients::seated::Seated;
+use ns_endpoints::Draws;
+use ns_http::{ConnFault, Counted, READ_LIMIT, READ_ROOM};
+use std::alloc::Allocator;
+use std::io::{Read, Write};
+
+/// Answers the requests of a connection, one after the other, and says how many there were. The receipts that are gained are
+/// those of the steps which the requests made, in their order.
+pub fn serve<A: Allocator + Copy, R: Read, W: Write, S: Seated, D: Draws>(
+    alloc: A,
+    reader: &mut Counted<R>,
+    writer: &mut Counted<W>,
+    client: &mut Client<S, D>,
+) -> Result<u64, ConnFault>
+    ensures ok { IfOk result (λ count. (end : End)
+        × (c : Served D.draws (held S.receipts client.old) (held S.receipts client.new)
+        (streams_between R.remaining W.contents reader.old reader.new writer.old writer.new) end)
+        × EndsWell end (R.remaining reader.new.inner) reader.new.counts
+        × (count ≡ length c.conversation.exchanges)) }
+    ensures read { IsErrOf result ConnFault.Read → (end : End)
+        × Served D.draws (held S.receipts client.old) (held S.receipts client.new)
+        (streams_between R.remaining W.contents reader.old reader.new writer.old writer.new) end
+        × IsReadFault end (R.remaining reader.new.inner) reader.old.counts reader.new.counts }
+    ensures write { IsErrOf result ConnFault.Write
+        → ServedInPart D.draws (held S.receipts client.old) (held S.receipts client.new)
+        (streams_between R.remaining W.contents reader.old reader.new writer.old writer.new)
+        × IsWriteFault writer.old.counts writer.new.counts }
+    ensures memory { IsErrOf result ConnFault.Memory
+        → (reader.new ≡ reader.old) × (writer.new ≡ writer.old) × (client.new ≡ client.old) }
+    // No read follows one that found the end, or that failed otherwise than by interruption, and
+    // no write one that failed so.
+    ensures stops { IsOpen reader.old.counts → reader.new.counts.went_on ≡ false }
+    ensures write_stops { IsOpen writer.old.counts → writer.new.counts.went_on ≡ false }
+    // And such a failure is the fault that is named.
+    ensures broken { IsOpen reader.old.counts → IsTrue reader.new.counts.broken
+        → result ≡ Err ConnFault.Read }
+    ensures write_broken { IsOpen writer.old.counts → IsTrue writer.new.counts.broken
+        → result ≡ Err ConnFault.Write }
+    ensures reads { reader.new.counts.calls ≤ reader.old.counts.calls + READ_LIMIT }
+    // Each read has room for so many bytes.
+    ensures room { min reader.old.counts.least_room READ_ROOM ≤ reader.new.counts.least_room }
+{
+    ns_http::serve(alloc, reader, writer, client)
+}

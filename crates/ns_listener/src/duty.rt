@@ -1,0 +1,76 @@
+//! What each thread does.
+
+ghost use Rattle.std.specs.Prelude.{IfOk};
+ghost use Rattle.ns_workers.specs.Growing.{Grows};
+ghost use Rattle.ns_listener.specs.Duties.{IsDue, IsRequested};
+
+use crate::clients::{Chair, Client};
+use crate::connections::{Guest, serve_connections};
+use crate::fault::HostFault;
+use crate::house::House;
+use ns_endpoints::Draws;
+use ns_work_lock::{Retention, Seat};
+use ns_workers::{Open, worker};
+use std::alloc::Global;
+use std::rt::Clock;
+use std::sync::Wait;
+use std::sync::ledger::Ledger;
+
+/// What a thread does.
+#[derive(Drop)]
+pub enum Duty<D> {
+    /// It serves connections, and draws from here.
+    Connections(D),
+    /// It is the worker of that number.
+    Worker(u64),
+}
+
+/// Serves connections, and gives the seat back.
+fn attend<L: Ledger, R: Wait + Clock, D: Draws + Drop, M: Retention>(
+    rt: &R,
+    alloc: Global,
+    house: &House<L>,
+    drawer: D,
+    seat: Seat<L, M>,
+) -> Result<Seat<L, M>, HostFault>
+    ensures { IfOk result (Grows (IsRequested D.draws) seat) }
+{
+    let shared = house.shared;
+    let mut guest = Client::new(alloc, Chair { rt, shared, seat }, drawer)?;
+    match serve_connections(rt, alloc, house, &mut guest) {
+        Ok(()) => Ok(guest.into_seated().seat),
+        Err(_) => Err(HostFault::Accept),
+    }
+}
+
+/// Does a thread's duty, once all threads are there, and gives its seat back. At a fault no thread accepts a connection any
+/// more. The last thread of connections closes the server, so that the others end too.
+pub fn perform<L: Ledger, R: Wait + Clock, D: Draws + Drop, M: Retention>(
+    rt: &R,
+    alloc: Global,
+    house: &House<L>,
+    duty: Duty<D>,
+    mut seat: Seat<L, M>,
+) -> Result<Seat<L, M>, HostFault>
+    ensures { IfOk result (Grows (IsDue D.draws duty) seat) }
+{
+    if !house.start.wait(rt) {
+        return Ok(seat);
+    }
+    match duty {
+        Duty::Connections(drawer) => {
+            let ended = attend(rt, alloc, house, drawer, seat);
+            if ended.is_err() {
+                house.door.shut();
+            }
+            if house.guests.leave() {
+                house.shared.close(rt);
+            }
+            ended
+        }
+        Duty::Worker(number) => {
+            worker(rt, alloc, house.shared, &Open, number, &mut seat);
+            Ok(seat)
+        }
+    }
+}

@@ -1,0 +1,234 @@
+//! A server on a TCP port.
+
+ghost use Rattle.std.specs.Prelude.{◌≡◌, ◌≢◌, ◌+◌, ◌&&◌, Err, IsNone, None, Some, is_none, is_some, not};
+ghost use Rattle.std.specs.Prelude.{vec_len};
+ghost use Rattle.ns_http.specs.declared.engine.ConnFault.{ConnFault};
+ghost use Rattle.ns_http.specs.declared.engine.ConnFault.TheVariants as ConnFaults;
+ghost use Rattle.ns_faults.specs.Lines.{line_of, mismatch_line, status_of};
+ghost use Rattle.ns_listener.specs.Closing.{IsClosing};
+ghost use Rattle.ns_listener.specs.Opening.{begun_by};
+ghost use Rattle.ns_listener.specs.Ending.{EndsInPart, EndsSettled, EndsUnsettled, IsEnd, IsLastLine};
+ghost use Rattle.ns_listener.specs.declared.fault.ServeFault.TheVariants as ServeFault;
+
+use crate::closing::{Closing, conclude, settle};
+use crate::fault::ServeFault;
+use crate::keeper::Keeper;
+use crate::opening::{Opened, open};
+use crate::service::Service;
+use crate::threads::host;
+use ns_endpoints::Draws;
+use ns_faults::status::{MISMATCH, SERVED, WRITE_FAULT};
+use ns_faults::{print_fault, print_text};
+use ns_http::{ConnFault, Counted};
+use ns_work_lock::{Forgets, Retains, Shared};
+use std::alloc::Global;
+use std::io::Write;
+use std::net::{Net, TcpListener, TcpStream};
+use std::rt::Clock;
+use std::sync::Wait;
+use std::sync::ledger::{Blank, Ledger};
+use std::thread::Threads;
+
+/// Whether the log is settled at the end: not of a server that is to run for ever, whose log is rotated.
+fn is_settled(service: &Service) -> bool
+    ensures { let s = service.now in result ≡ not (is_none s.accept && is_some s.rotate) }
+{
+    service.accept.is_some() || service.rotate.is_none()
+}
+
+/// Serves connections and writes the segments that are given out meanwhile, until the threads have ended; then the log is settled
+/// with what all of them were answered.
+fn serve_settled<
+    L: Ledger + Send + Sync,
+    R: Threads + Wait + Clock + Sync,
+    D: Draws + Drop + Send,
+    W: Write + Drop,
+>(
+    rt: &R,
+    alloc: Global,
+    service: &Service,
+    opened: Opened,
+    draws: Vec<D>,
+    blank: Blank,
+    writer: Counted<W>,
+) -> Closing<W>
+    requires begun { opened.held ≡ begun_by opened.secret service.now.log_limit }
+    requires name { blank.name ≡ L.name }
+    requires parts { (blank.parts ≡ L.parts) × (L.parts ≡ 18446744073709551615) }
+    ensures closing { IsClosing W.contents opened.secret writer result }
+    ensures secret { result.secret ≡ opened.secret }
+    ensures unrotated { IsNone service.now.rotate → (result.fault ≡ None) × (result.writer ≡ writer) }
+    ensures no_write { result.settled ≢ Err (ServeFault.Conn ConnFaults.Write) }
+    ensures no_read { result.fault ≢ Some ConnFaults.Read }
+{
+    let Opened {
+        door,
+        secret,
+        held,
+        ..
+    } = opened;
+    let shared = Shared::<L>::new(held, blank, service.rotate, service.rotate_bytes);
+    let keeper = Keeper::new(alloc, secret, writer, true);
+    let (seats, keeper) = host::<L, R, D, _, Retains>(
+        rt, alloc, &shared, &door, service, draws, keeper,
+    );
+    let Keeper {
+        secret,
+        writer,
+        fault,
+        segments,
+        is_whole,
+        ..
+    } = keeper;
+    let settled = match seats {
+        Ok(seats) => settle(alloc, shared.end(), seats, &secret, segments, is_whole),
+        Err(fault) => {
+            drop(segments);
+            drop(shared);
+            Err(fault.into())
+        }
+    };
+    Closing {
+        settled,
+        fault,
+        secret,
+        writer,
+    }
+}
+
+/// The same, with nothing settled: neither segments nor receipts stay in memory.
+fn serve_forgetting<
+    L: Ledger + Send + Sync,
+    R: Threads + Wait + Clock + Sync,
+    D: Draws + Drop + Send,
+    W: Write + Drop,
+>(
+    rt: &R,
+    alloc: Global,
+    service: &Service,
+    opened: Opened,
+    draws: Vec<D>,
+    blank: Blank,
+    writer: Counted<W>,
+) -> Closing<W>
+    requires begun { opened.held ≡ begun_by opened.secret service.now.log_limit }
+    requires name { blank.name ≡ L.name }
+    requires parts { (blank.parts ≡ L.parts) × (L.parts ≡ 18446744073709551615) }
+    ensures closing { IsClosing W.contents opened.secret writer result }
+    ensures secret { result.secret ≡ opened.secret }
+    ensures unrotated { IsNone service.now.rotate → (result.fault ≡ None) × (result.writer ≡ writer) }
+    ensures no_write { result.settled ≢ Err (ServeFault.Conn ConnFaults.Write) }
+    ensures no_read { result.fault ≢ Some ConnFaults.Read }
+{
+    let Opened {
+        door,
+        secret,
+        held,
+        ..
+    } = opened;
+    let shared = Shared::<L>::new(held, blank, service.rotate, service.rotate_bytes);
+    let keeper = Keeper::new(alloc, secret, writer, false);
+    let (seats, keeper) = host::<L, R, D, _, Forgets>(
+        rt, alloc, &shared, &door, service, draws, keeper,
+    );
+    let Keeper {
+        secret,
+        writer,
+        fault,
+        ..
+    } = keeper;
+    let unsettled = match seats {
+        Ok(_) => ServeFault::Conn(ConnFault::Memory),
+        Err(fault) => fault.into(),
+    };
+    Closing {
+        settled: Err(unsettled),
+        fault,
+        secret,
+        writer,
+    }
+}
+
+/// Serves connections and writes the segments that are given out meanwhile, until the threads have ended. Where the log is settled
+/// at the end, it is.
+fn serve_opened<
+    L: Ledger + Send + Sync,
+    R: Threads + Wait + Clock + Sync,
+    D: Draws + Drop + Send,
+    W: Write + Drop,
+>(
+    rt: &R,
+    alloc: Global,
+    service: &Service,
+    opened: Opened,
+    draws: Vec<D>,
+    blank: Blank,
+    writer: Counted<W>,
+) -> Closing<W>
+    requires begun { opened.held ≡ begun_by opened.secret service.now.log_limit }
+    requires name { blank.name ≡ L.name }
+    requires parts { (blank.parts ≡ L.parts) × (L.parts ≡ 18446744073709551615) }
+    ensures closing { IsClosing W.contents opened.secret writer result }
+    ensures secret { result.secret ≡ opened.secret }
+    ensures unrotated { IsNone service.now.rotate → (result.fault ≡ None) × (result.writer ≡ writer) }
+    ensures no_write { result.settled ≢ Err (ServeFault.Conn ConnFaults.Write) }
+    ensures no_read { result.fault ≢ Some ConnFaults.Read }
+{
+    if is_settled(service) {
+        serve_settled::<L, _, _, _>(rt, alloc, service, opened, draws, blank, writer)
+    } else {
+        serve_forgetting::<L, _, _, _>(rt, alloc, service, opened, draws, blank, writer)
+    }
+}
+
+/// Serves connections until as many were served as are asked for, and says the exit status. Where the log is rotated its segments
+/// are written meanwhile. Then all that the threads were answered has to settle with the log, the rest of which is printed. Every
+/// fault is printed as a line, behind the lines that say where the server listens and which secret was drawn; that of a segment
+/// that could not be written comes last of all. Of the drawers the last draws the secret, and each other one has a thread that
+/// serves one connection after another.
+pub fn serve<
+    L: Ledger + Send + Sync,
+    R: Threads + Wait + Clock + Sync + Net<Listener = TcpListener, Stream = TcpStream>,
+    D: Draws + Drop + Send,
+    W: Write + Drop,
+    E: Write,
+>(
+    rt: &R,
+    alloc: Global,
+    service: &Service,
+    draws: Vec<D>,
+    blank: Blank,
+    writer: Counted<W>,
+    errors: &mut Counted<E>,
+) -> (u8, Counted<W>)
+    requires drawers { vec_len draws ≡ service.now.connections + 1 }
+    requires name { blank.name ≡ L.name }
+    requires parts { (blank.parts ≡ L.parts) × (L.parts ≡ 18446744073709551615) }
+    ensures status { IsEnd result.0 }
+    ensures settled { result.0 ≡ SERVED → EndsSettled D.draws W.contents E.contents
+        service.now draws.items writer result.1 errors.old errors.new }
+    ensures write_fault { result.0 ≡ WRITE_FAULT → EndsInPart D.draws W.contents E.contents
+        service.now draws.items writer result.1 }
+    ensures unsettled { result.0 ≢ SERVED → result.0 ≢ WRITE_FAULT
+        → EndsUnsettled D.draws W.contents E.contents
+        service.now draws.items writer result.1 }
+    ensures unprinted { IsNone service.now.rotate → result.0 ≢ SERVED → result.0 ≢ WRITE_FAULT
+        → result.1 ≡ writer }
+    ensures fault_line { (fault : ConnFault) → result.0 ≡ status_of fault
+        → IsLastLine D.draws W.contents E.contents
+        service.now draws.items errors.old errors.new (line_of fault) }
+    ensures mismatch { result.0 ≡ MISMATCH → IsLastLine D.draws W.contents E.contents
+        service.now draws.items errors.old errors.new mismatch_line }
+{
+    let mut draws = draws;
+    let Some(mut drawer) = draws.pop() else {
+        unreachable!()
+    };
+    let opened = match open(rt, alloc, service, &mut drawer) {
+        Ok(opened) => opened,
+        Err(fault) => return (print_fault(fault, errors), writer),
+    };
+    print_text(errors, opened.lines.as_str().as_bytes());
+    let closing = serve_opened::<L, _, _, _>(rt, alloc, service, opened, draws, blank, writer);
+    conclude(alloc, closing, errors)
+}

@@ -1,5 +1,0 @@
-use Rattle.ns_live.proofs.Administered.{administration_right}
-use Rattle.ns_live.proofs.laws.administration_keeps_right.Goals as goal
-
-pub returns : goal.returns
-returns c = administration_right

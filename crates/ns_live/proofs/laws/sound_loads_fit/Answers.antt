@@ -1,5 +1,0 @@
-use Rattle.ns_live.proofs.Administered.{loads_fit}
-use Rattle.ns_live.proofs.laws.sound_loads_fit.Goals as goal
-
-pub returns : goal.returns
-returns c = loads_fit

@@ -1,6 +1,0 @@
-use Rattle.std.proofs.Common.{take}
-use Rattle.ns_live.proofs.Forgetting.{IsForgetting}
-use Rattle.ns_live.proofs.live.Live.forget_all.Given as goal
-
-abbrev pub invariant-loop-slot : goal.invariant-loop-slot
-invariant-loop-slot l = IsForgetting l.pool l.initial.self l.self (take l.slot-index l.slot-items)

@@ -1,9 +1,0 @@
-use Rattle.std.proofs.Common.{drop, take}
-use Rattle.std.specs.Option.{option_copied}
-use Rattle.ns_live.proofs.Changing.{IsChanging}
-use Rattle.ns_live.proofs.Unmoved.{HidesNodeOf}
-use Rattle.ns_live.proofs.live.Live.put_all.Given as goal
-
-abbrev pub invariant-loop-slot : goal.invariant-loop-slot
-invariant-loop-slot l = IsChanging l.namespace l.table l.initial.self l.self (take l.slot-index l.slot-items) (drop l.slot-index l.slot-items)
-    × HidesNodeOf (option_copied l.last) l.self

@@ -1,6 +1,0 @@
-use Rattle.std.proofs.Common.{◌∙◌}
-use Rattle.ns_live.proofs.NamedQuotas.{use_kept}
-use Rattle.ns_live.proofs.live.Live.quota_use.Goals as goal
-
-pub returns : goal.returns
-returns c w named fits = c.total_of.ensures ∙ use_kept w c.args.self.now named c.args.quota.now fits

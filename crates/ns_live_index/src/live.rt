@@ -1,0 +1,540 @@
+//! The live allocations on all nodes and what they take, the nodes as they were last shown, and which namespaces name which
+//! quota, with what they use.
+
+ghost use Rattle.std.specs.Prelude.{◌≡◌, ℕ, false, IfOk, IsTrue, None, OnErr, OnOk, Option, Some, is_some};
+ghost use Rattle.std.specs.Prelude.{option_copied};
+ghost use Rattle.std.specs.Option.{option_map_or};
+ghost use Rattle.keyed.specs.Over.{over};
+ghost use Rattle.keyed.specs.Table.{row_at, rows};
+ghost use Rattle.ns_types.specs.declared.allocation.Allocation.{Allocation};
+ghost use Rattle.ns_types.specs.declared.resources.Resources.{Resources};
+ghost use Rattle.ns_types.specs.declared.snapshot.PoolNode.{PoolNode};
+ghost use Rattle.ns_types.specs.State.Names.{Key, Name, same_key, same_name};
+ghost use Rattle.ns_types.specs.State.Resources.{IsCounted};
+ghost use Rattle.ns_types.specs.State.Rows.{World, is_live, is_live_on};
+ghost use Rattle.ns_types.specs.State.Sums.{names_quota, node_load, quota_use};
+ghost use Rattle.ns_types.specs.State.Tables.{any_row};
+ghost use Rattle.ns_types.specs.Working.Snapshot.{namespaces_naming};
+ghost use Rattle.ns_tables.specs.Allocations.{live_use, rows_use};
+ghost use Rattle.ns_live_index.specs.Index.{AddsRow, HasRoomFor, HasRoomForAll, Indexes, IsEmpty, IsRight};
+ghost use Rattle.ns_live_index.specs.Index.{KeepsKeys, KeepsRoom};
+ghost use Rattle.ns_live_index.specs.Index.{has_room, holds, with_changes, with_row};
+ghost use Rattle.keyed.specs.Levels.{Adds, Drops, Keeps, holds_key, same_at};
+ghost use Rattle.ns_live_index.specs.Levels.{holds_in_pool, has_pool_room, load_at};
+ghost use Rattle.ns_live_index.specs.Moving.{AddsLoad, LeavesInPool, MovesInPool, taken};
+ghost use Rattle.ns_live_index.specs.Naming.{AreKept, AreNamed, HasNameRoom, HoldsSame, KeepsNames, KeepsNodes};
+ghost use Rattle.ns_live_index.specs.Naming.{PutsQuota, with_use};
+ghost use Rattle.ns_live_index.specs.Shown.{ForgetsNodes, KeepsShown, ShowsSame, ShowsThere, ShowsUnmoved, live_row, shown_at};
+
+use crate::naming::{QuotaNames, copied_names, has_name};
+use crate::pool_keys::PoolKeys;
+use crate::shown::ShownNodes;
+use keyed::{KeySet, NameTable, NumberTable};
+use ns_tables::AllocationTable;
+use ns_types::allocation::Allocation;
+use ns_types::node::Node;
+use ns_types::resources::{Resources, none};
+use ns_types::rows::Rows;
+use ns_types::shared::Shared;
+use ns_types::snapshot::PoolNode;
+use ns_types::text::{Text, same_text};
+use std::alloc::{AllocError, Global};
+
+/// The keys of all live allocations, by the pool and the node that they are on, with what those of each node take together,
+/// the nodes that are shown, and the names of the namespaces, by the quota that they name, with the total of what they use.
+pub struct Live {
+    alloc: Global,
+    pools: NameTable<PoolKeys>,
+    shown: ShownNodes,
+    quotas: QuotaNames,
+}
+
+impl Drop for Live {
+    fn drop(self) {
+        let Live {
+            alloc: _,
+            pools: _pools,
+            shown: _shown,
+            quotas: _quotas,
+        } = self;
+    }
+}
+
+fn is_live_on(row: Option<&Allocation>, pool: &Text, node: &Text) -> bool
+    ensures { result ≡
+        option_map_or (is_live_on pool.now node.now) (option_copied row.entry) false }
+{
+    match row {
+        Some(row) => row.is_live() && same_text(pool, &row.pool) && same_text(node, &row.node),
+        None => false,
+    }
+}
+
+/// What the row takes on the node: nothing, where it is not live there.
+fn size_on(row: Option<&Allocation>, pool: &Text, node: &Text) -> Resources
+    ensures { result ≡ taken pool.now node.now (option_copied row.entry) }
+{
+    match row {
+        Some(allocation) => {
+            if is_live_on(row, pool, node) {
+                allocation.size
+            } else {
+                none()
+            }
+        }
+        None => none(),
+    }
+}
+
+/// Whether the row is live only on a node on which the last one is live.
+fn is_beside(last: Option<&Allocation>, row: Option<&Allocation>) -> bool
+    ensures { IsTrue result → (pool : Name) (name : Name) →
+        live_row pool name (option_copied last.entry) ≡ None →
+        live_row pool name (option_copied row.entry) ≡ None }
+{
+    match row {
+        Some(row) => is_live_on(last, &row.pool, &row.node),
+        None => true,
+    }
+}
+
+impl Live {
+    /// No keys and no names, and no node is shown. It takes no memory.
+    pub fn new(alloc: Global) -> Live
+        ensures { IsEmpty result }
+    {
+        Live {
+            alloc,
+            pools: NameTable::new(alloc),
+            shown: ShownNodes::new(alloc),
+            quotas: QuotaNames::new(alloc),
+        }
+    }
+
+    /// Makes room for the row under this key, where it is live. Want of memory is the only error.
+    pub fn reserve(
+        &mut self,
+        namespace: &Text,
+        number: u64,
+        row: &Allocation,
+    ) -> Result<(), AllocError>
+        ensures same { KeepsKeys self.old self.new }
+        ensures shown { KeepsShown self.old self.new }
+        ensures room { KeepsRoom self.old self.new }
+        ensures ok { OnOk result (HasRoomFor self.new (namespace.now, number) (Some row.now)) }
+    {
+        if row.is_live() {
+            self.reserve_at(&row.pool, &row.node, namespace, number)?;
+        }
+        Ok(())
+    }
+
+    /// The row under this key was `before` and is `after` from now on. It takes no memory: for a row that is live there
+    /// has to be room, which other keys keep. A node on which one of them is live is not shown any more.
+    pub fn put(
+        &mut self,
+        namespace: &Text,
+        number: u64,
+        before: Option<&Allocation>,
+        after: Option<&Allocation>,
+    )
+        requires { HasRoomFor self.old (namespace.now, number) (option_copied after) }
+        ensures index { (row_of : Key → Option Allocation) → Indexes row_of self.old →
+            row_of (namespace.now, number) ≡ option_copied before.entry →
+            Indexes (with_row (namespace.now, number) (option_copied after.entry) row_of) self.new }
+        ensures shown { (row_of : Key → Option Allocation) →
+            row_of (namespace.now, number) ≡ option_copied before.entry →
+            ShowsUnmoved row_of
+            (with_row (namespace.now, number) (option_copied after.entry) row_of)
+            self.old self.new }
+        ensures names { KeepsNames self.old self.new }
+        ensures room { (pool : Name) (node : Name) (key : Key) →
+            same_key key (namespace.now, number) ≡ false →
+            IsTrue (has_room self.old pool node key) → IsTrue (has_room self.new pool node key) }
+    {
+        self.put_after(None, namespace, number, before, after);
+    }
+
+    /// The same behind another row, if any, whose node is not shown any more, where it is live.
+    fn put_after(
+        &mut self,
+        last: Option<&Allocation>,
+        namespace: &Text,
+        number: u64,
+        before: Option<&Allocation>,
+        after: Option<&Allocation>,
+    )
+        requires room { HasRoomFor self.old (namespace.now, number) (option_copied after) }
+        requires last { (pool : Name) (name : Name) (node : PoolNode) →
+            shown_at self.old pool name ≡ Some node →
+            live_row pool name (option_copied last) ≡ None }
+        ensures index { (row_of : Key → Option Allocation) → Indexes row_of self.old →
+            row_of (namespace.now, number) ≡ option_copied before.entry →
+            Indexes (with_row (namespace.now, number) (option_copied after.entry) row_of) self.new }
+        ensures shown { (row_of : Key → Option Allocation) →
+            row_of (namespace.now, number) ≡ option_copied before.entry →
+            ShowsUnmoved row_of
+            (with_row (namespace.now, number) (option_copied after.entry) row_of)
+            self.old self.new }
+        ensures names { KeepsNames self.old self.new }
+        ensures room { (pool : Name) (node : Name) (key : Key) →
+            same_key key (namespace.now, number) ≡ false →
+            IsTrue (has_room self.old pool node key) → IsTrue (has_room self.new pool node key) }
+        ensures last { (pool : Name) (name : Name) (node : PoolNode) →
+            shown_at self.new pool name ≡ Some node →
+            live_row pool name (option_copied after.entry) ≡ None }
+    {
+        self.put_key(namespace, number, before, after);
+        self.shown.forget_row(before);
+        if !is_beside(last, after) {
+            self.shown.forget_row(after);
+        }
+    }
+
+    /// The same of the index alone.
+    fn put_key(
+        &mut self,
+        namespace: &Text,
+        number: u64,
+        before: Option<&Allocation>,
+        after: Option<&Allocation>,
+    )
+        requires { HasRoomFor self.old (namespace.now, number) (option_copied after) }
+        ensures index { (row_of : Key → Option Allocation) → Indexes row_of self.old →
+            row_of (namespace.now, number) ≡ option_copied before.entry →
+            Indexes (with_row (namespace.now, number) (option_copied after.entry) row_of) self.new }
+        ensures shown { KeepsShown self.old self.new }
+        ensures room { (pool : Name) (node : Name) (key : Key) →
+            same_key key (namespace.now, number) ≡ false →
+            IsTrue (has_room self.old pool node key) → IsTrue (has_room self.new pool node key) }
+    {
+        self.add(namespace, number, before, after);
+        if let Some(row) = before {
+            if !is_live_on(after, &row.pool, &row.node) {
+                let size = size_on(before, &row.pool, &row.node);
+                self.remove(&row.pool, &row.node, namespace, number, size);
+            }
+        }
+    }
+
+    /// Makes room for all changed rows of a namespace. Want of memory is the only error.
+    pub fn reserve_all(
+        &mut self,
+        namespace: &Text,
+        changes: &NumberTable<Allocation>,
+    ) -> Result<(), AllocError>
+        ensures same { KeepsKeys self.old self.new }
+        ensures shown { KeepsShown self.old self.new }
+        ensures room { KeepsRoom self.old self.new }
+        ensures ok { OnOk result (HasRoomForAll self.new namespace.now changes.now) }
+    {
+        for slot in changes.as_slice() {
+            self.reserve_row(namespace, slot.0, slot.1.as_ref())?;
+        }
+        Ok(())
+    }
+
+    /// The namespace's rows are those of the table, and are changed so from now on: as `put`, row by row. Totals of quotas
+    /// do not follow.
+    pub fn put_all(
+        &mut self,
+        namespace: &Text,
+        table: &NumberTable<Allocation>,
+        changes: &NumberTable<Allocation>,
+    )
+        requires { HasRoomForAll self.old namespace.now changes.now }
+        ensures index { (row_of : Key → Option Allocation) → Indexes row_of self.old →
+            ((n : ℕ) → row_of (namespace.now, n) ≡ row_at table.now n) →
+            Indexes (with_changes namespace.now changes.now row_of) self.new }
+        ensures shown { (row_of : Key → Option Allocation) →
+            ((n : ℕ) → row_of (namespace.now, n) ≡ row_at table.now n) →
+            ShowsUnmoved row_of (with_changes namespace.now changes.now row_of) self.old self.new }
+        ensures names { KeepsNames self.old self.new }
+        ensures room { (pool : Name) (node : Name) (key : Key) →
+            same_name key.0 namespace.now ≡ false →
+            IsTrue (has_room self.old pool node key) → IsTrue (has_room self.new pool node key) }
+    {
+        let mut last = None;
+        for slot in changes.as_slice() {
+            let after = slot.1.as_ref();
+            self.put_after(last, namespace, slot.0, table.get(slot.0), after);
+            last = after;
+        }
+    }
+
+    /// The same of a namespace's allocations, and the total of the quota that it names, if any, follows: where it names none, no
+    /// total is made.
+    pub fn put_changes(
+        &mut self,
+        namespace: &Text,
+        quota: Option<&Text>,
+        table: &AllocationTable,
+        changes: &NumberTable<Allocation>,
+    )
+        requires { HasRoomForAll self.old namespace.now changes.now }
+        ensures index { (row_of : Key → Option Allocation) → Indexes row_of self.old →
+            ((n : ℕ) → row_of (namespace.now, n) ≡ row_at table.now.slots n) →
+            Indexes (with_changes namespace.now changes.now row_of) self.new }
+        ensures shown { (row_of : Key → Option Allocation) →
+            ((n : ℕ) → row_of (namespace.now, n) ≡ row_at table.now.slots n) →
+            ShowsUnmoved row_of (with_changes namespace.now changes.now row_of) self.old self.new }
+        ensures quotas { (quota_of : Name → Option Name) (use_of : Name → Resources) →
+            AreKept quota_of use_of self.old.quotas →
+            quota_of namespace.now ≡ option_copied quota.entry →
+            use_of namespace.now ≡ live_use table.now.slots →
+            let used = rows_use (over (rows table.now.slots) changes.now) in
+            AreKept quota_of (with_use namespace.now used use_of) self.new.quotas }
+        ensures room { (pool : Name) (node : Name) (key : Key) →
+            same_name key.0 namespace.now ≡ false →
+            IsTrue (has_room self.old pool node key) → IsTrue (has_room self.new pool node key) }
+    {
+        self.put_all(namespace, table.rows(), changes);
+        if let Some(quota) = quota {
+            let before = table.live_total();
+            let after = table.total_with(changes);
+            self.quotas.put_use(quota, before, after);
+        }
+    }
+
+    /// The changed nodes of the pool are not shown any more. It takes no memory.
+    pub fn forget_all(&mut self, pool: &Text, changes: &NameTable<Node>)
+        ensures keys { KeepsKeys self.old self.new }
+        ensures shown { ForgetsNodes pool.now changes.now self.old self.new }
+        ensures names { KeepsNames self.old self.new }
+    {
+        for slot in changes.as_slice() {
+            self.shown.forget(pool, &slot.0, slot.1.is_some());
+        }
+    }
+
+    /// The node as it was last shown, unless it changed since.
+    pub fn shown_at(&self, pool: &Text, name: &Text) -> Option<&Shared<PoolNode>>
+        ensures { option_copied result ≡ shown_at self.now pool.now name.now }
+    {
+        self.shown.get(pool, name)
+    }
+
+    /// Shows the node so from now on. Want of memory is the only error.
+    pub fn show(
+        &mut self,
+        pool: &Text,
+        name: &Text,
+        node: Shared<PoolNode>,
+    ) -> Result<(), AllocError>
+        ensures keys { KeepsKeys self.old self.new }
+        ensures names { KeepsNames self.old self.new }
+        ensures ok { OnOk result (
+            ShowsThere pool.now name.now (Some node) self.old.shown self.new.shown) }
+        ensures err { OnErr result (ShowsSame self.old.shown self.new.shown) }
+    {
+        self.shown.put(self.alloc, pool, name, node)
+    }
+
+    /// The keys of the live allocations on this node, where there are some.
+    pub fn keys_on(&self, pool: &Text, node: &Text) -> Option<&KeySet>
+        ensures { (key : Key) →
+            option_map_or (λ keys. holds_key keys key) (option_copied result) false
+            ≡ holds self.now pool.now node.now key }
+    {
+        match self.pools.get(pool) {
+            Some(nodes) => nodes.keys_on(node),
+            None => None,
+        }
+    }
+
+    /// What the live allocations on this node take together: it is kept, and looks at none of them. It wraps, unless
+    /// the load fits, as it does in a valid world: its nodes have room for what is on them.
+    pub fn load(&self, pool: &Text, node: &Text) -> Resources
+        ensures { (w : World) → IsRight w self.now → IsCounted (node_load w pool.now node.now) →
+            result ≡ node_load w pool.now node.now }
+    {
+        match self.pools.get(pool) {
+            Some(nodes) => nodes.load_on(node),
+            None => none(),
+        }
+    }
+
+    // ---- which namespaces name which quota
+
+    /// Makes room for the namespace at the quota that it names, if any. Want of memory is the only error.
+    pub fn reserve_quota(
+        &mut self,
+        namespace: &Text,
+        quota: Option<&Text>,
+    ) -> Result<(), AllocError>
+        ensures nodes { KeepsNodes self.old self.new }
+        ensures same { HoldsSame self.old.quotas self.new.quotas }
+        ensures ok { OnOk result (
+            HasNameRoom self.new.quotas namespace.now (option_copied quota.entry)) }
+    {
+        self.quotas.reserve(self.alloc, namespace, quota)
+    }
+
+    /// The namespace, which uses this, named the quota `before`, and names `after` from now on: the total of `before`
+    /// loses what it uses, and that of `after` gains it. It takes no memory: there has to be room.
+    pub fn put_quota(
+        &mut self,
+        namespace: &Text,
+        before: Option<&Text>,
+        after: Option<&Text>,
+        used: Resources,
+    )
+        requires { HasNameRoom self.old.quotas namespace.now (option_copied after) }
+        ensures nodes { KeepsNodes self.old self.new }
+        ensures names { PutsQuota namespace.now (option_copied before.entry)
+            (option_copied after.entry) used self.old.quotas self.new.quotas }
+    {
+        self.quotas.put(namespace, before, after, used);
+    }
+
+    /// The namespaces that name the quota, by name. It looks at no other. Want of memory is the only error.
+    pub fn namespaces_naming(&self, quota: &Text) -> Result<Rows<Text>, AllocError>
+        ensures { (w : World) → AreNamed w self.now →
+            IfOk result (λ names. names ≡ namespaces_naming w quota.now) }
+    {
+        match self.quotas.names_of(quota) {
+            Some(names) => copied_names(self.alloc, names),
+            None => Ok(Rows::new(self.alloc)),
+        }
+    }
+
+    /// Whether a namespace names the quota. It looks at no other.
+    pub fn is_named(&self, quota: &Text) -> bool
+        ensures { (w : World) → AreNamed w self.now →
+            result ≡ any_row (λ _ tenant. names_quota quota.now tenant.namespace) w.tenants }
+    {
+        match self.quotas.names_of(quota) {
+            Some(names) => has_name(names),
+            None => false,
+        }
+    }
+
+    /// What the live allocations of all namespaces that name the quota take together: a total that is kept, by names and
+    /// totals that are right for the world. It is exact where the sums fit 64 bits. It takes no memory.
+    pub fn quota_use(&self, quota: &Text) -> Resources
+        ensures { (w : World) → AreNamed w self.now → IsCounted (quota_use w quota.now) →
+            result ≡ quota_use w quota.now }
+    {
+        self.quotas.total_of(quota)
+    }
+
+    /// Holds the key where the row `after` is live: the load there has what that takes in the place of what `before`
+    /// took. It takes no memory.
+    fn add(
+        &mut self,
+        namespace: &Text,
+        number: u64,
+        before: Option<&Allocation>,
+        after: Option<&Allocation>,
+    )
+        requires { HasRoomFor self.old (namespace.now, number) (option_copied after) }
+        ensures added { AddsRow (namespace.now, number) (option_copied after.entry)
+            self.old self.new }
+        ensures loads { AddsLoad (option_copied before.entry) (option_copied after.entry)
+            self.old self.new }
+        ensures shown { KeepsShown self.old self.new }
+    {
+        if let Some(row) = after {
+            if row.is_live() {
+                let went = size_on(before, &row.pool, &row.node);
+                self.insert(&row.pool, &row.node, namespace, number, went, row.size);
+            }
+        }
+    }
+
+    /// The same as `reserve`, of a row that may be none.
+    fn reserve_row(
+        &mut self,
+        namespace: &Text,
+        number: u64,
+        row: Option<&Allocation>,
+    ) -> Result<(), AllocError>
+        ensures same { KeepsKeys self.old self.new }
+        ensures shown { KeepsShown self.old self.new }
+        ensures room { KeepsRoom self.old self.new }
+        ensures ok { OnOk result (
+            HasRoomFor self.new (namespace.now, number) (option_copied row.entry)) }
+    {
+        match row {
+            Some(row) => self.reserve(namespace, number, row),
+            None => Ok(()),
+        }
+    }
+
+    /// Makes a set for the pool, unless it is there.
+    fn open(&mut self, pool: &Text) -> Result<(), AllocError>
+        ensures same { Keeps holds_in_pool has_pool_room self.old self.new }
+        ensures loads { (p : Name) (n : Name) → load_at self.new p n ≡ load_at self.old p n }
+        ensures shown { KeepsShown self.old self.new }
+        ensures ok { OnOk result (IsTrue (is_some (row_at self.new.pools pool.now))) }
+    {
+        self.pools.reserve(pool)?;
+        if self.pools.get(pool).is_none() {
+            self.pools.set(pool, PoolKeys::new(self.alloc));
+        }
+        Ok(())
+    }
+
+    /// Makes room for the key on the node. Want of memory is the only error.
+    fn reserve_at(
+        &mut self,
+        pool: &Text,
+        node: &Text,
+        namespace: &Text,
+        number: u64,
+    ) -> Result<(), AllocError>
+        ensures same { Keeps holds_in_pool has_pool_room self.old self.new }
+        ensures loads { (p : Name) (n : Name) → load_at self.new p n ≡ load_at self.old p n }
+        ensures shown { KeepsShown self.old self.new }
+        ensures ok { OnOk result (
+            IsTrue (has_pool_room self.new (pool.now, (node.now, (namespace.now, number))))) }
+    {
+        let alloc = self.alloc;
+        if let Some(nodes) = self.pools.get_mut(pool) {
+            return nodes.reserve(alloc, node, namespace, number);
+        }
+        self.open(pool)?;
+        if let Some(nodes) = self.pools.get_mut(pool) {
+            nodes.reserve(alloc, node, namespace, number)?;
+        }
+        Ok(())
+    }
+
+    /// Holds the key on the node from now on, whose load has `after` in the place of `before`. It takes no memory.
+    fn insert(
+        &mut self,
+        pool: &Text,
+        node: &Text,
+        namespace: &Text,
+        number: u64,
+        before: Resources,
+        after: Resources,
+    )
+        requires { IsTrue (has_pool_room self.old (pool.now, (node.now, (namespace.now, number)))) }
+        ensures added { Adds holds_in_pool has_pool_room (same_at (same_at same_key))
+            (pool.now, (node.now, (namespace.now, number))) self.old self.new }
+        ensures loads { MovesInPool pool.now node.now before after self.old self.new }
+        ensures shown { KeepsShown self.old self.new }
+    {
+        if let Some(nodes) = self.pools.get_mut(pool) {
+            nodes.insert(node, namespace, number, before, after);
+        }
+    }
+
+    /// Holds the key on the node no longer, whose load is without `size`. It takes no memory. A set without keys and room
+    /// goes with its last key.
+    fn remove(&mut self, pool: &Text, node: &Text, namespace: &Text, number: u64, size: Resources)
+        ensures dropped { Drops holds_in_pool has_pool_room (same_at (same_at same_key))
+            (pool.now, (node.now, (namespace.now, number))) self.old self.new }
+        ensures loads { LeavesInPool pool.now node.now size self.old self.new }
+        ensures shown { KeepsShown self.old self.new }
+    {
+        let Some(nodes) = self.pools.get_mut(pool) else {
+            return;
+        };
+        nodes.remove(node, namespace, number, size);
+        if nodes.is_empty() {
+            self.pools.remove(pool);
+        }
+    }
+}

@@ -1,8 +1,0 @@
-use Rattle.std.proofs.Common.{refl}
-use Rattle.ns_log_read.specs.Reading.{reported_in}
-use Rattle.ns_log_read.proofs.nodes.reported.Goals as goal
-
-pub returns-clause-value : goal.returns-clause-value
-unfolding reported_in
-returns-clause-value c =
-    rw (c.in_ok-word.ensures, c.in_ok-client.ensures, c.in_ok-name.ensures, c.in_ok-namespace.ensures, c.in_ok-number.ensures.value) refl

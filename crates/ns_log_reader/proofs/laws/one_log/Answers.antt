@@ -1,0 +1,5 @@
+use Rattle.ns_log_reader.proofs.LawLemmas as law
+use Rattle.ns_log_reader.proofs.laws.one_log.Goals as goal
+
+pub returns : goal.returns
+returns c = law.one_log

@@ -1,0 +1,19 @@
+-- Laws of logs' texts.
+use Rattle.std.specs.Prelude.{◌≡◌, ℕ, List}
+use Rattle.ns_types.specs.State.Names.{Name}
+use Rattle.ns_json.specs.Replies.{Entry}
+use Rattle.ns_log_reader.specs.Lines.{IsLogOf, IsFault}
+
+-- two logs with one text are the same
+abbrev pub OneLog : Type 0
+OneLog = (text secret other : Name) (entries others : List Entry) → IsLogOf text secret entries →
+    IsLogOf text other others → (secret ≡ other) × (entries ≡ others)
+
+-- a log's text has no bad line
+abbrev pub LogHasNoFault : Type 0
+LogHasNoFault = (text secret : Name) (entries : List Entry) (n : ℕ) → IsLogOf text secret entries →
+    IsFault text n → ⊥
+
+-- only one line is the first bad one
+abbrev pub OneFault : Type 0
+OneFault = (text : Name) (n m : ℕ) → IsFault text n → IsFault text m → n ≡ m

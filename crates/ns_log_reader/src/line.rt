@@ -1,0 +1,119 @@
+//! Lines, one after the other.
+
+ghost use Rattle.std.specs.Prelude.{◌≡◌, ◌<◌, ◌≤◌, None, Some, Err, IfOk, IfSome, IsUtf8, length};
+ghost use Rattle.std.specs.List.{position};
+ghost use Rattle.serde_json.specs.Data.{depth};
+ghost use Rattle.serde_json.specs.Read.{read, max_depth};
+ghost use Rattle.serde_json.specs.View.{view};
+ghost use Rattle.ns_json.specs.Logs.{head_text};
+ghost use Rattle.ns_log.specs.Lines.{BeginsWith};
+ghost use Rattle.ns_log_reader.specs.Lines.{HasBadEntry, HasBadLine, IsWithin, LogLine};
+ghost use Rattle.ns_log_reader.specs.Reading.{BeginsWithLine, IsNext, ReadsBack, is_feed, line_from};
+
+use crate::entry::entry;
+use crate::fault::LineFault;
+use ns_log::{Entry, head_len, line_len};
+use ns_types::name::Secret;
+use serde_json::Value;
+use std::alloc::Global;
+
+/// Where the first line feed stands.
+pub fn line_end(text: &[u8]) -> Option<usize>
+    ensures value { result ≡ position is_feed text.now }
+    ensures within { IfSome result (λ end. end < length text.now) }
+{
+    text.iter().position(|byte| *byte == b'\n')
+}
+
+fn value_of(alloc: Global, line: &[u8]) -> Result<Value, LineFault>
+    ensures text { IfOk result (λ v. IsUtf8 line.now) }
+    ensures value { IfOk result (λ v. read line.now ≡ Some (view v)) }
+    ensures nests { IfOk result (λ v. depth (view v) ≤ max_depth) }
+    ensures bad { result ≡ Err LineFault.Bad → IsUtf8 line.now → read line.now ≡ None }
+{
+    match Value::from_slice(alloc, line) {
+        Ok(value) => Ok(value),
+        Err(e) => {
+            if e.is_memory() {
+                Err(LineFault::Memory)
+            } else {
+                Err(LineFault::Bad)
+            }
+        }
+    }
+}
+
+/// The only entry whose line it can be. The line may spell it otherwise.
+fn candidate(alloc: Global, line: &[u8]) -> Result<Entry, LineFault>
+    ensures within { IfOk result IsWithin }
+    ensures text { IfOk result (λ e. IsUtf8 line.now) }
+    ensures back { ReadsBack line.now result }
+{
+    let value = value_of(alloc, line)?;
+    entry(alloc, &value)
+}
+
+/// An entry, and how many bytes its line has.
+#[derive(Drop)]
+struct Line {
+    entry: Entry,
+    len: usize,
+}
+
+/// The entry with whose line the text begins.
+fn next_entry(alloc: Global, text: &[u8]) -> Result<Line, LineFault>
+    ensures ok { IfOk result (λ l. BeginsWithLine text.now l.entry l.len) }
+    ensures bad { result ≡ Err LineFault.Bad → HasBadEntry text.now }
+{
+    let Some(end) = line_end(text) else {
+        return Err(LineFault::Bad);
+    };
+    let entry = candidate(alloc, &text[..end])?;
+    match line_len(alloc, text, &entry) {
+        Ok(Some(len)) => Ok(Line { entry, len }),
+        Ok(None) => {
+            drop(entry);
+            Err(LineFault::Bad)
+        }
+        Err(_) => {
+            drop(entry);
+            Err(LineFault::Memory)
+        }
+    }
+}
+
+/// A line: its entry, unless it stands in front of a segment, and how many bytes it has.
+#[derive(Drop)]
+pub struct Next {
+    pub entry: Option<Entry>,
+    pub len: usize,
+}
+
+/// The line in front of a segment before which come so many entries, if the text begins with it.
+fn next_head(alloc: Global, text: &[u8], secret: &Secret, start: u64) -> Result<Next, LineFault>
+    ensures none { IfOk result (λ l. l.entry ≡ None) }
+    ensures ok { IfOk result (λ l. IsNext text.now secret.now start LogLine.head l.len) }
+    ensures bad { result ≡ Err LineFault.Bad →
+        BeginsWith text.now (head_text start secret.now) → ⊥ }
+{
+    match head_len(alloc, text, secret, start)? {
+        Some(len) => Ok(Next { entry: None, len }),
+        None => Err(LineFault::Bad),
+    }
+}
+
+/// The line that the text begins with, where so many entries come before it.
+pub fn next_line(alloc: Global, text: &[u8], secret: &Secret, start: u64) -> Result<Next, LineFault>
+    ensures ok { IfOk result (λ l. IsNext text.now secret.now start (line_from l.entry) l.len) }
+    ensures bad { result ≡ Err LineFault.Bad → HasBadLine secret.now start text.now }
+{
+    match next_entry(alloc, text) {
+        Ok(line) => {
+            let Line { entry, len } = line;
+            let entry = Some(entry);
+            Ok(Next { entry, len })
+        }
+        Err(LineFault::Bad) => next_head(alloc, text, secret, start),
+        Err(LineFault::Memory) => Err(LineFault::Memory),
+    }
+}

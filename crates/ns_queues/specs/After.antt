@@ -1,0 +1,32 @@
+-- Evaluations as a step leaves them: which of them move.
+use Rattle.std.specs.Prelude.{◌≡◌, ℕ, Bool, false, Option, Some}
+use Rattle.std.specs.FinMap.{FinMap, entries}
+use Rattle.std.specs.List.{list_any}
+use Rattle.keyed.specs.Table.{row_at}
+use Rattle.ns_change.specs.declared.change.SettledTenant.{SettledTenant}
+use Rattle.ns_types.specs.declared.evaluation.Evaluation.{Evaluation}
+use Rattle.ns_types.specs.State.Names.{ByNumber, Key, Name, name_cmp}
+use Rattle.ns_types.specs.State.Rows.{World, evaluation_at}
+use Rattle.ns_tables.specs.declared.tables.TenantRows.{TenantRows}
+
+-- whether the evaluation at a key, which was so and is so, moves
+abbrev pub Moves : Type 0
+Moves = Key → Option Evaluation → Option Evaluation → Bool
+
+abbrev pub moves_slot : Moves → Name → ByNumber (Option Evaluation) → ℕ × Option Evaluation → Bool
+moves_slot moves ns before slot = moves (ns, slot.0) (row_at before slot.0) slot.1
+
+abbrev pub moves_of : Moves → Name → Option TenantRows → Option SettledTenant → Bool
+moves_of moves ns (Some t) (Some x) = list_any (moves_slot moves ns t.evaluations.slots) (entries x.rows.evaluations)
+moves_of moves ns _ _ = false
+
+abbrev pub moves_in : Moves → FinMap name_cmp (Option TenantRows) → Name × Option SettledTenant → Bool
+moves_in moves tenants slot = moves_of moves slot.0 (row_at tenants slot.0) slot.1
+
+-- none moves that stays as it is
+abbrev pub StillUnmoved : Moves → Type 0
+StillUnmoved moves = (key : Key) (row : Option Evaluation) → moves key row row ≡ false
+
+-- none moves from the one world to the other
+abbrev pub NoneMoves : Moves → World → World → Type 0
+NoneMoves moves before after = (key : Key) → moves key (evaluation_at before key) (evaluation_at after key) ≡ false

@@ -1,0 +1,178 @@
+//! The list of blocked evaluations beside the tables, by what they wait for.
+
+ghost use Rattle.std.specs.Prelude.{◌≡◌, ◌&&◌, IfOk, not, option_copied, true};
+ghost use Rattle.std.specs.Cmp.Lexicographic.{pointwise};
+ghost use Rattle.std.specs.Option.{option_eq};
+ghost use Rattle.ns_blocked.specs.Blocked.{CanAdd, entries_of, keys_of};
+ghost use Rattle.ns_blocked.specs.Waking.{entry_of, waits_of};
+ghost use Rattle.ns_change.specs.Settled.{settled_world};
+ghost use Rattle.ns_queues.specs.Waiting.{IsBlockedIndex, added_entries, moves_entry, rows_alike, waits_alike};
+ghost use Rattle.ns_types.specs.Settling.Same.{same_flag};
+ghost use Rattle.ns_types.specs.State.Names.{same_class, same_name};
+ghost use Rattle.ns_tables.specs.World.{world_of};
+
+use crate::after::{Watch, any_moved, evaluation_after};
+use ns_blocked::{BlockedList, Entry, Waits};
+use ns_change::Settled;
+use ns_equality::same_class;
+use ns_tables::Tables;
+use ns_types::evaluation::Evaluation;
+use ns_types::key::EvalKey;
+use ns_types::node::Class;
+use ns_types::rows::Rows;
+use ns_types::text::{Text, same_text};
+use std::alloc::AllocError;
+
+// ---- entries that are added
+
+fn waits_of(evaluation: &Evaluation) -> Result<Waits, AllocError>
+    ensures { IfOk result (λ waits. waits ≡ waits_of evaluation.now) }
+{
+    match &evaluation.quota {
+        Some(quota) => Ok(Waits::Quota(quota.clone()?)),
+        None => Ok(Waits::Pool(evaluation.pool.clone()?)),
+    }
+}
+
+fn entry_of(key: &EvalKey, evaluation: &Evaluation) -> Result<Entry, AllocError>
+    ensures { IfOk result (λ entry. entry ≡ entry_of key.now evaluation.now) }
+{
+    Ok(Entry {
+        key: key.clone()?,
+        waits: waits_of(evaluation)?,
+        escapes: evaluation.escapes,
+        infeasible: evaluation.infeasible.clone()?,
+    })
+}
+
+/// The entries of the keys that the step adds, as it leaves them.
+fn added_entries(tables: &Tables, settled: &Settled) -> Result<Rows<Entry>, AllocError>
+    ensures { IfOk result (λ entries. entries ≡ added_entries (world_of tables.now) settled.now) }
+{
+    let mut entries = Rows::new(tables.alloc);
+    for key in settled.blocked.added.as_slice() {
+        let found = evaluation_after(tables, settled, key.namespace(), key.number());
+        if let Some(evaluation) = found {
+            entries.push(entry_of(key, evaluation)?)?;
+        }
+    }
+    Ok(entries)
+}
+
+/// The entries that the step adds, with room for them. Want of memory is the only error, or of places.
+pub(crate) fn reserve(
+    list: &mut BlockedList,
+    tables: &Tables,
+    settled: &Settled,
+) -> Result<Rows<Entry>, AllocError>
+    ensures same { entries_of list.new ≡ entries_of list.old }
+    ensures added { IfOk result
+        (λ entries. entries ≡ added_entries (world_of tables.now) settled.now) }
+    ensures room { IfOk result (λ entries. CanAdd entries list.new) }
+{
+    let entries = added_entries(tables, settled)?;
+    if list.reserve(entries.as_slice()).is_err() {
+        list.clear_room(entries.as_slice());
+        return Err(AllocError);
+    }
+    Ok(entries)
+}
+
+// ---- who gets another entry
+
+fn same_optional_text(a: Option<&Text>, b: Option<&Text>) -> bool
+    ensures { result ≡ option_eq same_name (option_copied a.entry) (option_copied b.entry) }
+{
+    match (a, b) {
+        (None, None) => true,
+        (Some(a), Some(b)) => same_text(a, b),
+        _ => false,
+    }
+}
+
+fn same_flag(a: bool, b: bool) -> bool
+    ensures { result ≡ same_flag a b }
+{
+    if a { b } else { !b }
+}
+
+fn same_classes(a: &[Class], b: &[Class]) -> bool
+    ensures { result ≡ pointwise same_class a.now b.now }
+{
+    match (a, b) {
+        ([], []) => true,
+        ([first, others @ ..], [second, more @ ..]) => {
+            same_class(first, second) && same_classes(others, more)
+        }
+        _ => false,
+    }
+}
+
+/// Whether both wait for the same, and the same classes wake them.
+fn waits_alike(a: &Evaluation, b: &Evaluation) -> bool
+    ensures { result ≡ waits_alike a.now b.now }
+{
+    same_optional_text(a.quota.as_ref(), b.quota.as_ref())
+        && same_text(&a.pool, &b.pool)
+        && same_flag(a.escapes, b.escapes)
+        && same_classes(a.infeasible.as_slice(), b.infeasible.as_slice())
+}
+
+fn rows_alike(a: Option<&Evaluation>, b: Option<&Evaluation>) -> bool
+    ensures { result ≡ rows_alike (option_copied a.entry) (option_copied b.entry) }
+{
+    match (a, b) {
+        (None, None) => true,
+        (Some(a), Some(b)) => waits_alike(a, b),
+        _ => false,
+    }
+}
+
+/// Those that stand in a list.
+#[derive(Drop)]
+struct Standing<'a> {
+    list: &'a BlockedList,
+}
+
+/// Whether one of them gets another entry.
+impl Watch for Standing<'_> {
+    ghost moves = { λ s key before after. moves_entry s.list.now key before after };
+
+    fn moves(
+        &self,
+        namespace: &Text,
+        number: u64,
+        before: Option<&Evaluation>,
+        after: Option<&Evaluation>,
+    ) -> bool {
+        self.list.has(namespace, number) && !rows_alike(before, after)
+    }
+}
+
+/// The list goes along with a step before the tables do, and answers whether it is right for them afterwards; where it is
+/// not, it may be anything. It takes no memory, and looks at no entry but those of evaluations that change.
+pub(crate) fn follow(
+    list: &mut BlockedList,
+    tables: &Tables,
+    settled: &Settled,
+    entries: Rows<Entry>,
+) -> bool
+    requires room { CanAdd entries list.old }
+    requires added { entries ≡ added_entries (world_of tables.now) settled.now }
+    ensures { let w = world_of tables.now in result ≡ true →
+        IsBlockedIndex w list.old → IsBlockedIndex (settled_world w settled.now) list.new }
+{
+    let taken = settled.blocked.taken.as_slice();
+    list.take_out(taken);
+    if any_moved(&Standing { list }, tables, settled) {
+        return false;
+    }
+    if entries.as_slice().len() < settled.blocked.added.as_slice().len() {
+        return false;
+    }
+    if !list.append_new(entries) {
+        return false;
+    }
+    list.clear_keys(taken);
+    true
+}

@@ -1,0 +1,133 @@
+//! The indexes together, as long as they are right.
+
+ghost use Rattle.std.specs.Prelude.{◌≡◌, IfOk, false, option_copied, option_map};
+ghost use Rattle.ns_change.specs.Settled.{settled_world};
+ghost use Rattle.ns_queues.specs.Turns.{AreRight, BringsComing, IsNew, IsRight};
+ghost use Rattle.ns_types.specs.State.Rows.{World};
+ghost use Rattle.ns_types.specs.Working.Looks.{row_of, served_ready};
+ghost use Rattle.ns_tables.specs.World.{world_of};
+
+use crate::blocked;
+use crate::busy::BusyWorkers;
+use crate::ready::{Arrivals, ByPriority};
+use ns_blocked::{BlockedList, Entry};
+use ns_change::Settled;
+use ns_tables::Tables;
+use ns_types::key::EvalKey;
+use ns_types::rows::Rows;
+use ns_types::text::Text;
+use std::alloc::{AllocError, Global};
+
+/// For which namespaces workers are busy, the ready evaluations by priority, and the blocked ones by what they wait for. Where
+/// they are not known they say nothing, and whoever asks goes through the tables.
+pub struct Turns {
+    alloc: Global,
+    is_known: bool,
+    busy: BusyWorkers,
+    ready: ByPriority,
+    blocked: BlockedList,
+}
+
+impl Drop for Turns {
+    fn drop(self) {
+        let Turns {
+            alloc: _,
+            is_known: _,
+            busy: _busy,
+            ready: _ready,
+            blocked: _blocked,
+        } = self;
+    }
+}
+
+/// What a step brings: evaluations that are ready from then on, and those that are blocked.
+#[derive(Drop)]
+pub struct Coming {
+    ready: Arrivals,
+    blocked: Rows<Entry>,
+}
+
+impl Turns {
+    fn all_idle(alloc: Global, is_known: bool) -> Turns
+        ensures new { IsNew result }
+        ensures known { result.is_known ≡ is_known }
+    {
+        Turns {
+            alloc,
+            is_known,
+            busy: BusyWorkers::new(alloc),
+            ready: ByPriority::new(alloc),
+            blocked: BlockedList::new(alloc),
+        }
+    }
+
+    /// Those of a server that has just begun: no worker is busy, and no evaluation is ready or blocked. It takes no memory.
+    pub fn new(alloc: Global) -> Turns
+        ensures { IsNew result }
+    {
+        Turns::all_idle(alloc, true)
+    }
+
+    /// Those that are not known. It takes no memory.
+    pub fn unknown(alloc: Global) -> Turns
+        ensures { result.is_known ≡ false }
+    {
+        Turns::all_idle(alloc, false)
+    }
+
+    pub fn is_known(&self) -> bool
+        ensures { result ≡ self.now.is_known }
+    {
+        self.is_known
+    }
+
+    /// The first namespace for which the worker is busy, where it is.
+    pub fn namespace_of(&self, number: u64) -> Option<&Text>
+        ensures { (w : World) → AreRight w self.now →
+            option_copied result ≡ option_map (λ r. r.0) (row_of w number) }
+    {
+        self.busy.namespace_of(number)
+    }
+
+    /// The evaluation that is served next.
+    pub fn served(&self) -> Option<&EvalKey>
+        ensures { (w : World) → AreRight w self.now → option_copied result ≡ served_ready w }
+    {
+        self.ready.first()
+    }
+
+    /// The blocked evaluations by what they wait for.
+    pub fn blocked(&self) -> &BlockedList
+        ensures { result.now ≡ self.now.blocked }
+    {
+        &self.blocked
+    }
+
+    /// Makes room for what a step brings. Want of memory is the only error.
+    pub fn reserve(&mut self, tables: &Tables, settled: &Settled) -> Result<Coming, AllocError>
+        ensures same { (w : World) → IsRight w self.old → IsRight w self.new }
+        ensures ok { IfOk result (λ coming.
+            BringsComing (world_of tables.now) settled.now coming self.new) }
+    {
+        let alloc = self.alloc;
+        self.busy.reserve(alloc, settled)?;
+        let ready = self.ready.reserve(alloc, tables, settled)?;
+        let blocked = blocked::reserve(&mut self.blocked, tables, settled)?;
+        Ok(Coming { ready, blocked })
+    }
+
+    /// Follows a step that is about to go into the tables. It takes no memory.
+    pub fn follow(&mut self, tables: &Tables, settled: &Settled, coming: Coming)
+        requires { BringsComing (world_of tables.now) settled.now coming self.old }
+        ensures { IsRight (world_of tables.now) self.old →
+            IsRight (settled_world (world_of tables.now) settled.now) self.new }
+    {
+        let Coming { ready, blocked } = coming;
+        self.busy.follow(tables, settled);
+        let is_ready = self.ready.follow(tables, settled, ready);
+        let is_blocked = blocked::follow(&mut self.blocked, tables, settled, blocked);
+        if !is_ready || !is_blocked {
+            self.is_known = false;
+        }
+    }
+}

@@ -1,6 +1,0 @@
-use Rattle.ns_serve.proofs.connections.serve_connections.Given as goal
-use Rattle.ns_serve.specs.Duties.{IsRequested}
-use Rattle.ns_workers.specs.Growing.{Grows}
-
-abbrev pub invariant-loop : goal.invariant-loop
-invariant-loop g l = Grows (IsRequested g.D.Draws.draws) l.fn.guest.seated.seat l.guest.seated.seat

@@ -1,6 +1,0 @@
-use Rattle.std.proofs.Common.{take}
-use Rattle.ns_settle.proofs.Forgetting.{IsForgetting}
-use Rattle.ns_settle.proofs.commit.indexing.forget_nodes.Given as goal
-
-abbrev pub invariant-loop-slot : goal.invariant-loop-slot
-invariant-loop-slot l = IsForgetting l.initial.live l.live (take l.slot-index l.slot-items)

@@ -1,0 +1,193 @@
+//! What changed of pools goes into the tables: their nodes, and the numbers of their releases.
+
+ghost use Rattle.std.specs.Prelude.{◌≡◌, ◌+◌, ◌<◌, ◌≤◌, ◌^◌, filter, length, true};
+ghost use Rattle.std.specs.Prelude.{option_map, IfSome, OnOk};
+ghost use Rattle.keyed.specs.Table.{row_at};
+ghost use Rattle.ns_change.specs.Changed.{changed_pool};
+ghost use Rattle.ns_change.specs.Settled.{classes_in};
+ghost use Rattle.ns_types.specs.State.Names.{Name, same_name};
+ghost use Rattle.ns_types.specs.State.Rows;
+ghost use Rattle.ns_settlement.specs.Committed.{CanRise, ClassPut, HasNodeRoom, HaveClassRoom, KeepsNodes};
+ghost use Rattle.ns_settlement.specs.Committed.{GainsClassRoom, HavePoolRoom, IsPoolCleared};
+ghost use Rattle.ns_settlement.specs.Committed.{numbered_pools, raised_pool, releases, settled_pools};
+ghost use Rattle.ns_settlement.specs.Owners.{Always, ChangesRow, owners};
+ghost use Rattle.ns_tables.specs.World.{pool_of};
+
+use crate::commit::clearing::clear_names;
+use crate::commit::owners::{Owner, commit_all, reserve_all};
+use keyed::{NameTable, OwnerTable};
+use ns_change::PoolChange;
+use ns_equality::{same_class, same_text};
+use ns_tables::PoolRows;
+use ns_types::node::Class;
+use ns_types::rows::Rows;
+use ns_types::text::Text;
+use std::alloc::AllocError;
+
+/// A released class with its pool.
+type Room = (Text, Class);
+
+/// Whether a class of the pool is released.
+fn has_pool(rooms: &[Room], pool: &Text) -> bool
+    ensures { result ≡ releases rooms.now pool.now }
+{
+    rooms.iter().any(|room| same_text(pool, &room.0))
+}
+
+// ---- room
+
+/// How many classes of the pool are released.
+fn count_classes(rooms: &[Room], pool: &Text) -> usize
+    ensures { result ≡ length (filter (λ room. same_name pool.now room.0) rooms.now) }
+{
+    rooms.iter().filter(|room| same_text(pool, &room.0)).count()
+}
+
+/// Makes a place for each of the pool's released classes.
+fn reserve_classes_in(
+    table: &mut OwnerTable<PoolRows>,
+    name: &Text,
+    rooms: &[Room],
+) -> Result<(), AllocError>
+    ensures rows { ChangesRow GainsClassRoom name.now table.old table.new }
+    ensures room { OnOk result (IfSome (row_at table.new name.now)
+        (λ pool. length (classes_in name.now rooms.now) ≤ pool.classes.room)) }
+{
+    let Some(mut pool) = table.take(name) else {
+        return Ok(());
+    };
+    let reserved = pool.classes.reserve(count_classes(rooms, name));
+    table.set(name, pool);
+    reserved
+}
+
+/// Makes a place for each released class.
+fn reserve_classes(table: &mut OwnerTable<PoolRows>, rooms: &[Room]) -> Result<(), AllocError>
+    ensures pools { owners pool_of table.new ≡ owners pool_of table.old }
+    ensures nodes { KeepsNodes table.old table.new }
+    ensures room { OnOk result (HaveClassRoom rooms.now table.new) }
+{
+    for (i, room) in rooms.iter().enumerate() {
+        if !has_pool(&rooms[i + 1..], &room.0) {
+            reserve_classes_in(table, &room.0, rooms)?;
+        }
+    }
+    Ok(())
+}
+
+impl Owner<PoolChange> for PoolRows {
+    ghost Seen = { Rows.PoolRows };
+
+    ghost seen = { pool_of };
+
+    ghost changed = { changed_pool };
+
+    ghost CanChange = { Always };
+
+    ghost HasRoom = { HasNodeRoom };
+
+    ghost IsCleared = { IsPoolCleared };
+
+    fn reserve(&mut self, change: &PoolChange) -> Result<(), AllocError> {
+        self.nodes.reserve_all(&change.nodes)
+    }
+
+    fn clear(&mut self, change: &PoolChange) {
+        clear_names(&mut self.nodes, &change.nodes);
+    }
+
+    fn commit(&mut self, change: PoolChange) {
+        let PoolChange { nodes } = change;
+        self.nodes.apply(nodes);
+    }
+
+    ghost carries = { λ x a b is can. can };
+}
+
+/// Makes room for what changes of all pools. Where it is refused, the pools are as they were.
+pub(crate) fn reserve_pools(
+    table: &mut OwnerTable<PoolRows>,
+    changes: &NameTable<PoolChange>,
+    rooms: &[Room],
+) -> Result<(), AllocError>
+    requires { CanRise (λ pool. pool.release) (releases rooms.now) table.old }
+    ensures pools { owners pool_of table.new ≡ owners pool_of table.old }
+    ensures room { OnOk result (HavePoolRoom changes.now rooms.now table.new) }
+{
+    reserve_all(table, changes)?;
+    reserve_classes(table, rooms)
+}
+
+// ---- release numbers
+
+/// The pool has one more release.
+fn raise_pool(table: &mut OwnerTable<PoolRows>, name: &Text)
+    requires { IfSome (row_at table.old name.now) (λ pool. pool.release + 1 < 2 ^ 64) }
+    ensures { ChangesRow (λ a b. b ≡ raised_pool true a) name.now table.old table.new }
+{
+    if let Some(mut pool) = table.take(name) {
+        pool.release += 1;
+        table.set(name, pool);
+    }
+}
+
+/// Each pool of which classes are released has one more release.
+fn raise_pools(table: &mut OwnerTable<PoolRows>, rooms: &[Room])
+    requires { CanRise (λ pool. pool.release) (releases rooms.now) table.old }
+    ensures { (name : Name) → row_at table.new name
+        ≡ option_map (raised_pool (releases rooms.now name)) (row_at table.old name) }
+{
+    for (i, room) in rooms.iter().enumerate() {
+        if !has_pool(&rooms[i + 1..], &room.0) {
+            raise_pool(table, &room.0);
+        }
+    }
+}
+
+/// The class has the number of its pool's last release.
+fn put_class(pool: &mut PoolRows, class: Class)
+    requires { 0 < pool.old.classes.room }
+    ensures { ClassPut class pool.old pool.new }
+{
+    let number = pool.release;
+    pool.classes.retain(|entry| !same_class(&class, &entry.0));
+    pool.classes.push((class, number));
+}
+
+fn put_class_in(table: &mut OwnerTable<PoolRows>, name: &Text, class: Class)
+    requires { IfSome (row_at table.old name.now) (λ pool. 0 < pool.classes.room) }
+    ensures { ChangesRow (ClassPut class) name.now table.old table.new }
+{
+    match table.take(name) {
+        Some(mut pool) => {
+            put_class(&mut pool, class);
+            table.set(name, pool);
+        }
+        None => drop(class),
+    }
+}
+
+/// Each released class has the number of its pool's last release.
+fn put_classes(table: &mut OwnerTable<PoolRows>, rooms: Rows<Room>)
+    requires { HaveClassRoom rooms table.old }
+    ensures pools { owners pool_of table.new ≡ numbered_pools rooms (owners pool_of table.old) }
+    ensures nodes { KeepsNodes table.old table.new }
+{
+    for (name, class) in rooms.into_vec() {
+        put_class_in(table, &name, class);
+    }
+}
+
+/// Moves what changed of all pools in: release numbers, classes with their numbers, nodes. It takes no memory.
+pub(crate) fn commit_pools(
+    table: &mut OwnerTable<PoolRows>,
+    changes: NameTable<PoolChange>,
+    rooms: Rows<Room>,
+)
+    requires { HavePoolRoom changes rooms table.old }
+    ensures { owners pool_of table.new ≡ settled_pools changes rooms (owners pool_of table.old) }
+{
+    raise_pools(table, rooms.as_slice());
+    put_classes(table, rooms);
+    commit_all(table, changes);
+}

@@ -1,0 +1,131 @@
+//! The quotas that a step releases, by its change.
+
+ghost use Rattle.std.specs.Prelude.{◌≡◌, ◌++◌, flat_map, IfOk, OnOk};
+ghost use Rattle.ns_release.specs.Released.{quota_relimited, quotas_ended, quotas_ended_in, released_quotas};
+ghost use Rattle.ns_tables.specs.World.{tenant_of, world_of};
+
+use ns_change::{Change, TenantChange};
+use ns_release::{ended, relimits};
+use ns_tables::{Tables, TenantRows};
+use ns_types::allocation::Allocation;
+use ns_types::records::Quota;
+use ns_types::rows::Rows;
+use ns_types::text::Text;
+use std::alloc::AllocError;
+
+/// A changed allocation with its number, or one that is gone.
+type AllocationSlot = (u64, Option<Allocation>);
+
+/// A changed namespace with its name.
+type TenantSlot = (Text, Option<TenantChange>);
+
+/// A changed record with its quota's name, or none.
+type QuotaSlot = (Text, Option<Quota>);
+
+// ---- allocations that end
+
+/// The quota of a namespace that lost an allocation.
+fn add_quota(
+    quotas: &mut Rows<Text>,
+    tenant: &TenantRows,
+    slot: &AllocationSlot,
+) -> Result<(), AllocError>
+    ensures { OnOk result (quotas.new ≡ quotas.old
+        ++ quotas_ended (tenant_of tenant.now) slot.now) }
+{
+    if ended(tenant, slot).is_none() {
+        return Ok(());
+    }
+    if let Some(quota) = &tenant.namespace.quota {
+        quotas.push(quota.clone()?)?;
+    }
+    Ok(())
+}
+
+fn add_quotas(
+    quotas: &mut Rows<Text>,
+    tenant: &TenantRows,
+    slots: &[AllocationSlot],
+) -> Result<(), AllocError>
+    ensures { OnOk result (quotas.new ≡ quotas.old
+        ++ flat_map (quotas_ended (tenant_of tenant.now)) slots.now) }
+{
+    for slot in slots {
+        add_quota(quotas, tenant, slot)?;
+    }
+    Ok(())
+}
+
+fn add_quotas_of(
+    quotas: &mut Rows<Text>,
+    tables: &Tables,
+    slot: &TenantSlot,
+) -> Result<(), AllocError>
+    ensures { OnOk result (quotas.new ≡ quotas.old
+        ++ quotas_ended_in (world_of tables.now) slot.now) }
+{
+    if let Some(change) = &slot.1 {
+        if let Some(tenant) = tables.tenants.get(&slot.0) {
+            add_quotas(quotas, tenant, change.allocations.as_slice())?;
+        }
+    }
+    Ok(())
+}
+
+/// The quotas of the namespaces that lost a live allocation.
+fn add_all_left(
+    quotas: &mut Rows<Text>,
+    tables: &Tables,
+    slots: &[TenantSlot],
+) -> Result<(), AllocError>
+    ensures { OnOk result (quotas.new ≡ quotas.old
+        ++ flat_map (quotas_ended_in (world_of tables.now)) slots.now) }
+{
+    for slot in slots {
+        add_quotas_of(quotas, tables, slot)?;
+    }
+    Ok(())
+}
+
+// ---- limits that change
+
+fn add_relimited(
+    quotas: &mut Rows<Text>,
+    tables: &Tables,
+    slot: &QuotaSlot,
+) -> Result<(), AllocError>
+    ensures { OnOk result (quotas.new ≡ quotas.old
+        ++ quota_relimited (world_of tables.now) slot.now) }
+{
+    if relimits(tables, slot) {
+        quotas.push(slot.0.clone()?)?;
+    }
+    Ok(())
+}
+
+/// The quotas whose limits change.
+fn add_all_relimited(
+    quotas: &mut Rows<Text>,
+    tables: &Tables,
+    slots: &[QuotaSlot],
+) -> Result<(), AllocError>
+    ensures { OnOk result (quotas.new ≡ quotas.old
+        ++ flat_map (quota_relimited (world_of tables.now)) slots.now) }
+{
+    for slot in slots {
+        add_relimited(quotas, tables, slot)?;
+    }
+    Ok(())
+}
+
+// ---- both
+
+/// The quotas whose limits change, and those of all namespaces that lost a live allocation.
+pub fn released_quotas(tables: &Tables, change: &Change) -> Result<Rows<Text>, AllocError>
+    ensures { IfOk result (λ quotas. quotas ≡ released_quotas (world_of tables.now) change.now) }
+{
+    let mut quotas = Rows::new(tables.alloc);
+    add_all_relimited(&mut quotas, tables, change.quotas.as_slice())?;
+    add_all_left(&mut quotas, tables, change.tenants.as_slice())?;
+    Ok(quotas)
+}

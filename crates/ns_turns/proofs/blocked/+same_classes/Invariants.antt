@@ -1,5 +1,0 @@
-use Rattle.std.proofs.Common.{length}
-use Rattle.ns_turns.proofs.blocked.+same_classes.Given as goal
-
-abbrev pub decreases-same_classes : goal.decreases-same_classes
-decreases-same_classes l = length l.a.now

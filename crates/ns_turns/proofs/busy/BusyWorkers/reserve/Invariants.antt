@@ -1,6 +1,0 @@
-use Rattle.std.proofs.Common.{take}
-use Rattle.ns_turns.proofs.BusyRoom.{Making, RoomForRows}
-use Rattle.ns_turns.proofs.busy.BusyWorkers.reserve.Given as goal
-
-abbrev pub invariant-loop-slot : goal.invariant-loop-slot
-invariant-loop-slot l = Making RoomForRows l.initial.self l.self (take l.slot-index l.slot-items)

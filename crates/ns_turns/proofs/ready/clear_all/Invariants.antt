@@ -1,5 +1,0 @@
-use Rattle.ns_turns.specs.Ready.{SameKeys}
-use Rattle.ns_turns.proofs.ready.clear_all.Given as goal
-
-abbrev pub invariant-loop-i : goal.invariant-loop-i
-invariant-loop-i l = SameKeys l.initial.levels l.levels

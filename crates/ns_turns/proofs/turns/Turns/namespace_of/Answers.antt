@@ -1,4 +1,0 @@
-use Rattle.ns_turns.proofs.turns.Turns.namespace_of.Goals as goal
-
-pub returns : goal.returns
-returns c w are = c.namespace_of.ensures w are.busy

@@ -1,4 +1,0 @@
-use Rattle.ns_turns.proofs.turns.Turns.served.Goals as goal
-
-pub returns : goal.returns
-returns c w are = c.first.ensures w are.ready

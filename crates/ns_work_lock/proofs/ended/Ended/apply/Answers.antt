@@ -1,0 +1,52 @@
+use Rattle.std.proofs.Common.{ap, arith, refl, ◌∙◌, ◌++◌}
+use Rattle.ns_types.specs.declared.step.Step.TheVariants as Step
+use Rattle.ns_types.specs.State.Rows.{State}
+use Rattle.ns_types.specs.Working.Looks.{worker_at}
+use Rattle.ns_replies.specs.Rooms.{room_of}
+use Rattle.ns_work_log.specs.Logs.{next_place}
+use Rattle.ns_work_log.specs.Rendered.{rendered_step}
+use Rattle.ns_work_log.proofs.Adding.{logs_adds}
+use Rattle.ns_work_lock.specs.declared.ready.Ready.{Ready}
+use Rattle.ns_work_lock.proofs.Adding.{adds_count, adds_room, seat_received}
+use Rattle.ns_work_lock.proofs.Entries.{entry_behind}
+use Rattle.ns_work_lock.proofs.Refusing.{gains, logs_refused}
+use Rattle.ns_work_lock.proofs.ended.Ended.apply.Goals as goal
+
+pub receive_answer-requires-clause-room : goal.receive_answer-requires-clause-room
+receive_answer-requires-clause-room g c = adds_room (Step.Apply c.args.worker c.args.namespace.now) c.args.self.now.held c.apply-answer.result
+    c.apply-answer.new.self c.in_ok-ready.ready.room refl
+    (ap (λ (r : Ready). r.room) c.in_ok-ready.ensures.made ∙ ap (room_of (Step.Apply c.args.worker c.args.namespace.now)) c.worker_at-row.ensures
+    ∙ ap (λ (s : State). room_of (Step.Apply c.args.worker c.args.namespace.now) (worker_at s.world c.args.worker c.args.namespace.now)) c.core.ensures)
+    (logs_adds (Step.Apply c.args.worker c.args.namespace.now) c.args.self.now.held c.apply-answer.result c.apply-answer.new.self
+    c.apply-answer.ensures)
+
+pub receive_answer-requires-clause-entry : goal.receive_answer-requires-clause-entry
+receive_answer-requires-clause-entry g c = entry_behind (Step.Apply c.args.worker c.args.namespace.now) c.args.self.now.held c.apply-answer.result
+    c.apply-answer.new.self c.in_ok-ready.ready.number c.log.result.now
+    (logs_adds (Step.Apply c.args.worker c.args.namespace.now) c.args.self.now.held c.apply-answer.result c.apply-answer.new.self
+    c.apply-answer.ensures)
+    (ap (λ (r : Ready). r.number) c.in_ok-ready.ensures.made) c.log.ensures.entries
+
+pub invariant_of-self-2-clause-counted : goal.invariant_of-self-2-clause-counted
+invariant_of-self-2-clause-counted g c = omega (
+  arith,
+  c.args.self.now.counted,
+  c.receive_answer.ensures.total,
+  adds_count (Step.Apply c.args.worker c.args.namespace.now) c.args.self.now.held c.apply-answer.result c.apply-answer.new.self
+      (logs_adds (Step.Apply c.args.worker c.args.namespace.now) c.args.self.now.held c.apply-answer.result c.apply-answer.new.self
+      c.apply-answer.ensures),
+)
+
+pub returns-clause-received : goal.returns-clause-received
+returns-clause-received g c = seat_received c.seat.inside.past.receipts c.seat.inside.receipts.items c.prepare_work.new.receipts.items
+    c.receive_answer.new.receipts.items c.args.seat.now c.in_ok-ready.ready.place (next_place c.args.self.now.held)
+    c.in_ok-ready.ready.step (Step.Apply c.args.worker c.args.namespace.now) (rendered_step c.apply-answer.result) (rendered_step c.apply-answer.result)
+    c.receive_answer.ensures.receipts c.in_ok-ready.ensures.same c.seat.view_is
+    (ap (λ (r : Ready). r.place) c.in_ok-ready.ensures.made) (ap (λ (r : Ready). r.step) c.in_ok-ready.ensures.made) refl
+
+pub returns-clause-seat : goal.returns-clause-seat
+returns-clause-seat g c = gains (Step.Apply c.args.worker c.args.namespace.now) (next_place c.args.self.now.held) c.apply-answer.result
+    c.args.seat.now (c.seat.inside.past.receipts ++ c.receive_answer.new.receipts.items)
+    (logs_refused (Step.Apply c.args.worker c.args.namespace.now) c.args.self.now.held c.apply-answer.result c.apply-answer.new.self
+    c.apply-answer.ensures)
+    (returns-clause-received g c)

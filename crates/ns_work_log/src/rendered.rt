@@ -1,0 +1,206 @@
+//! The steps that requests ask for, whose answers are handed out as bytes.
+
+ghost use Rattle.std.specs.Prelude.{◌≡◌, ◌<◌, ◌≤◌, IfErr, IfOk, None, OnErr, OnOk, false, length, true, vec_len};
+ghost use Rattle.std.specs.Prelude.{vec_capacity};
+ghost use Rattle.ns_types.specs.declared.refusal.Refusal.TheVariants as Refusal;
+ghost use Rattle.ns_steps.specs.Served.{IsServed};
+ghost use Rattle.ns_json.specs.Replies.{rendered};
+ghost use Rattle.ns_replies.specs.Laws.{may_change};
+ghost use Rattle.ns_replies.specs.Rooms.{HasRoom, copy_room, room_of};
+ghost use Rattle.ns_work_log.specs.Noting.{Begins, is_answer, noted};
+ghost use Rattle.ns_work_log.specs.Rendered.{IsGiven, LogsRendered};
+
+use crate::held::Held;
+use crate::noting::begin;
+use crate::preparing::prepare_write;
+use crate::rendering::{given_again, rendered_anew, rendered_in, response};
+use ns_log::Entry;
+use ns_replies::answers::{Room, may_change};
+use ns_types::refusal::Refusal;
+use ns_types::reply::{Rendered, Reply, Response};
+use ns_types::step::Step;
+use std::alloc::{AllocError, Global};
+
+/// Room for the answer of a step that a request asks for: in the log, and for its copies, a receipt's and the response's.
+#[derive(Drop)]
+struct Rooms {
+    entry: Room,
+    receipt: Room,
+    response: Room,
+    ghost receipt_is: { receipt ≡ copy_room entry },
+    ghost response_is: { response ≡ copy_room entry },
+}
+
+/// Rooms like that in the log for the copies of the answer.
+fn with_copies(alloc: Global, entry: Room) -> Result<Rooms, AllocError>
+    ensures { IfOk result (λ rooms. rooms.entry ≡ entry) }
+{
+    let receipt = entry.for_copy(alloc)?;
+    let response = entry.for_copy(alloc)?;
+    Ok(Rooms {
+        entry,
+        receipt,
+        response,
+    })
+}
+
+/// The step, if the log takes one more entry, with rooms for its answer.
+fn with_rooms(
+    alloc: Global,
+    log: &mut Vec<Entry>,
+    limit: u64,
+    step: Step,
+) -> Result<(Step, Rooms), Refusal>
+    requires { length log.old.items ≤ limit }
+    ensures begins { Begins (length log.old.items) limit result }
+    ensures same { log.new.items ≡ log.old.items }
+    ensures place { OnOk result (vec_len log.new < vec_capacity log.new) }
+    ensures step { IfOk result (λ made. made.0 ≡ step) }
+    ensures entry { IfOk result (λ made. made.1.entry ≡ room_of step None) }
+{
+    let (step, entry) = prepare_write(alloc, log, limit, step)?;
+    match with_copies(alloc, entry) {
+        Ok(rooms) => Ok((step, rooms)),
+        Err(_) => {
+            drop(step);
+            Err(Refusal::Memory)
+        }
+    }
+}
+
+/// Adds the step with its answer, and hands the answer out, if it is the answer of a step. It takes no memory.
+fn note_given(
+    log: &mut Vec<Entry>,
+    step: Step,
+    rooms: Rooms,
+    answer: &Result<Reply, Refusal>,
+) -> Result<(Rendered, Response), Refusal>
+    requires place { vec_len log.old < vec_capacity log.old }
+    requires room { IfOk answer.now (λ reply. HasRoom rooms.entry reply.content) }
+    ensures answer { OnOk result (is_answer answer.now ≡ true) }
+    ensures given { IfOk result (λ given. IsGiven answer.now given) }
+    ensures none { OnErr result (is_answer answer.now ≡ false) }
+    ensures noted { log.new.items ≡ noted step answer.now log.old.items }
+    ensures memory { IfErr result (λ refusal. refusal ≡ Refusal.Memory) }
+{
+    let Rooms {
+        entry,
+        receipt,
+        response: again,
+    } = rooms;
+    match rendered_in(entry, answer) {
+        Some(shown) => {
+            let receipt = receipt.repeat(&shown);
+            let again = again.repeat(&shown);
+            log.push_reserved(Entry::new(step, shown));
+            Ok((receipt, response(answer, again)))
+        }
+        None => {
+            drop(step);
+            drop(receipt);
+            drop(again);
+            Err(Refusal::Memory)
+        }
+    }
+}
+
+/// The answer in new memory, for the log, and what is handed out of it, if it is the answer of a step.
+fn given_anew(
+    alloc: Global,
+    answer: &Result<Reply, Refusal>,
+) -> Result<(Rendered, (Rendered, Response)), AllocError>
+    ensures answer { OnOk result (is_answer answer.now ≡ true) }
+    ensures rendered { IfOk result (λ made. made.0 ≡ rendered answer.now) }
+    ensures given { IfOk result (λ made. IsGiven answer.now made.1) }
+{
+    let shown = rendered_anew(alloc, answer)?;
+    let given = given_again(answer, &shown)?;
+    Ok((shown, given))
+}
+
+/// Adds the step with its answer in new memory, and hands the answer out, if it is the answer of a step.
+fn give(
+    log: &mut Vec<Entry>,
+    alloc: Global,
+    step: Step,
+    answer: &Result<Reply, Refusal>,
+) -> Result<(Rendered, Response), Refusal>
+    requires { vec_len log.old < vec_capacity log.old }
+    ensures answer { OnOk result (is_answer answer.now ≡ true) }
+    ensures given { IfOk result (λ given. IsGiven answer.now given) }
+    ensures noted { OnOk result (log.new.items ≡ noted step answer.now log.old.items) }
+    ensures same { OnErr result (log.new.items ≡ log.old.items) }
+    ensures memory { IfErr result (λ refusal. refusal ≡ Refusal.Memory) }
+{
+    match given_anew(alloc, answer) {
+        Ok((shown, given)) => {
+            log.push_reserved(Entry::new(step, shown));
+            Ok(given)
+        }
+        Err(_) => {
+            drop(step);
+            Err(Refusal::Memory)
+        }
+    }
+}
+
+impl Held {
+    /// The rooms of the answer are taken before the step, so a step that was made is answered.
+    fn write_rendered(&mut self, alloc: Global, step: Step) -> Result<(Rendered, Response), Refusal>
+        requires served { IsServed step }
+        requires writes { may_change step ≡ true }
+        ensures { LogsRendered step self.old result self.new }
+    {
+        let Held {
+            core,
+            log,
+            limit,
+            ..
+        } = self;
+        let (step, rooms) = with_rooms(alloc, log, *limit, step)?;
+        let answer = core.take(&step);
+        let given = note_given(log, step, rooms, &answer);
+        drop(answer);
+        given
+    }
+
+    /// A read changes nothing, so there may still be no memory for its answer. Then it was not made.
+    fn read_rendered(&mut self, alloc: Global, step: Step) -> Result<(Rendered, Response), Refusal>
+        requires served { IsServed step }
+        requires reads { may_change step ≡ false }
+        ensures { LogsRendered step self.old result self.new }
+    {
+        let Held {
+            core,
+            log,
+            limit,
+            ..
+        } = self;
+        if let Err(refusal) = begin(log, *limit) {
+            drop(step);
+            return Err(refusal);
+        }
+        let answer = core.take(&step);
+        let given = give(log, alloc, step, &answer);
+        drop(answer);
+        given
+    }
+
+    /// Makes the step that a request asks for, and hands out its answer twice as bytes: for a receipt, and as the response.
+    /// Both are made before a read has its entry, and their room is taken before any other step; so a step that was made is
+    /// answered. At `Err` none was made.
+    pub fn take_rendered(
+        &mut self,
+        alloc: Global,
+        step: Step,
+    ) -> Result<(Rendered, Response), Refusal>
+        requires { IsServed step }
+        ensures { LogsRendered step self.old result self.new }
+    {
+        if may_change(&step) {
+            self.write_rendered(alloc, step)
+        } else {
+            self.read_rendered(alloc, step)
+        }
+    }
+}

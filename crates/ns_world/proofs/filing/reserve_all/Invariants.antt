@@ -1,6 +1,0 @@
-use Rattle.std.proofs.Common.{drop}
-use Rattle.ns_world.proofs.Filed.{IsReserving}
-use Rattle.ns_world.proofs.filing.reserve_all.Given as goal
-
-abbrev pub invariant-loop-slot : goal.invariant-loop-slot
-invariant-loop-slot g l = IsReserving g.F.Filing.name_of l.numbers l.initial.numbers (drop l.slot-index l.slots) l.slots
