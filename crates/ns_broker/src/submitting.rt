@@ -9,7 +9,7 @@ ghost use Rattle.ns_tables.specs.World.{world_of};
 
 use crate::looking::worker_at;
 use ns_change::{Change, Prepared, add_plan, prepare, put_row};
-use ns_equality::snapshots::same_snapshot;
+use ns_equality::Equal;
 use ns_tables::Tables;
 use ns_types::key::EvalKey;
 use ns_types::planned::Planned;
@@ -32,7 +32,7 @@ pub fn keeps(worker: &Worker, snapshot: &Snapshot) -> bool
     ensures { IsTrue result ↔ (worker.now.kept ≡ Some snapshot.now) }
 {
     match worker.kept() {
-        Some(kept) => same_snapshot(kept.get(), snapshot),
+        Some(kept) => kept.get().equal(snapshot),
         None => false,
     }
 }

@@ -1,3 +1,3 @@
 pub mod Alike
-pub mod Equal
+pub mod Classes
 pub mod Ties

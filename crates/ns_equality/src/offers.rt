@@ -15,7 +15,7 @@ use ns_types::text::{Text, same_text};
 use std::alloc::{AllocError, Global};
 
 /// Whether the attributes are equal.
-#[tactic(auto, using(crate::proofs::Equal::attribute_ties))]
+#[tactic(auto, using(crate::proofs::Classes::attribute_ties))]
 pub fn same_attribute(a: &Attribute, b: &Attribute) -> bool
     ensures { result ≡ eq_by_cmp attribute_cmp a.now b.now }
 {
@@ -35,7 +35,7 @@ fn same_attributes(a: &[Attribute], b: &[Attribute]) -> bool
 }
 
 /// Whether the classes are equal.
-#[tactic(auto, using(crate::proofs::Equal::class_ties))]
+#[tactic(auto, using(crate::proofs::Classes::class_ties))]
 pub fn same_class(a: &Class, b: &Class) -> bool
     ensures { result ≡ same_class a.now b.now }
 {

@@ -68,7 +68,7 @@ fn same_optional_number(a: Option<u64>, b: Option<u64>) -> bool
     }
 }
 
-fn same_optional_text(a: Option<&Text>, b: Option<&Text>) -> bool
+pub fn same_optional_text(a: Option<&Text>, b: Option<&Text>) -> bool
     ensures { result ≡ option_eq same_name (option_copied a.entry) (option_copied b.entry) }
 {
     match (a, b) {

@@ -2,19 +2,17 @@
 
 ghost use Rattle.std.specs.Prelude.{◌≡◌, ◌&&◌, IfOk, not, option_copied, true};
 ghost use Rattle.std.specs.Cmp.Lexicographic.{pointwise};
-ghost use Rattle.std.specs.Option.{option_eq};
 ghost use Rattle.ns_blocked.specs.Blocked.{CanAdd, entries_of, keys_of};
 ghost use Rattle.ns_blocked.specs.Waking.{entry_of, waits_of};
 ghost use Rattle.ns_change.specs.Settled.{settled_world};
 ghost use Rattle.ns_queues.specs.Waiting.{IsBlockedIndex, added_entries, moves_entry, rows_alike, waits_alike};
-ghost use Rattle.ns_types.specs.Settling.Same.{same_flag};
-ghost use Rattle.ns_types.specs.State.Names.{same_class, same_name};
+ghost use Rattle.ns_types.specs.State.Names.{same_class};
 ghost use Rattle.ns_tables.specs.World.{world_of};
 
 use crate::after::{Watch, any_moved, evaluation_after};
 use ns_blocked::{BlockedList, Entry, Waits};
 use ns_change::Settled;
-use ns_equality::same_class;
+use ns_equality::{same_class, same_flag, same_optional_text};
 use ns_tables::Tables;
 use ns_types::evaluation::Evaluation;
 use ns_types::key::EvalKey;
@@ -79,22 +77,6 @@ pub(crate) fn reserve(
 }
 
 // ---- who gets another entry
-
-fn same_optional_text(a: Option<&Text>, b: Option<&Text>) -> bool
-    ensures { result ≡ option_eq same_name (option_copied a.entry) (option_copied b.entry) }
-{
-    match (a, b) {
-        (None, None) => true,
-        (Some(a), Some(b)) => same_text(a, b),
-        _ => false,
-    }
-}
-
-fn same_flag(a: bool, b: bool) -> bool
-    ensures { result ≡ same_flag a b }
-{
-    if a { b } else { !b }
-}
 
 fn same_classes(a: &[Class], b: &[Class]) -> bool
     ensures { result ≡ pointwise same_class a.now b.now }

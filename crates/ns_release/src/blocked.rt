@@ -45,7 +45,7 @@ fn releases_wake_at(tables: &Tables, change: &Change, key: &EvalKey) -> bool
 }
 
 /// Whether an entry of the list is still there.
-fn stays(list: &ListChange, key: &EvalKey) -> bool
+pub fn stays(list: &ListChange, key: &EvalKey) -> bool
     ensures { result ≡ stays list.now key.now }
 {
     !has_key(list.taken.as_slice(), key) || has_key(list.added.as_slice(), key)

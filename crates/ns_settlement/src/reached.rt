@@ -11,7 +11,8 @@ ghost use Rattle.ns_tables.specs.World.{world_of};
 use crate::rooms::Room;
 use ns_blocked::{BlockedList, ReleasedPool, Releases};
 use ns_change::{Change, ListChange};
-use ns_equality::{has_key, has_name, same_class};
+use ns_equality::{has_name, same_class};
+use ns_release::stays;
 use ns_tables::Tables;
 use ns_types::key::EvalKey;
 use ns_types::node::Class;
@@ -95,13 +96,6 @@ fn releases_of(tables: &Tables, rooms: &[Room], names: &[Text]) -> Result<Releas
 }
 
 // ---- the evaluations that it wakes
-
-/// Whether an entry of the list is still there.
-fn stays(list: &ListChange, key: &EvalKey) -> bool
-    ensures { result ≡ stays list.now key.now }
-{
-    !has_key(list.taken.as_slice(), key) || has_key(list.added.as_slice(), key)
-}
 
 /// The keys but those that are no longer there. It takes no memory.
 fn still_there(list: &ListChange, keys: Rows<EvalKey>) -> Rows<EvalKey>

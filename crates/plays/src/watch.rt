@@ -5,7 +5,7 @@ use crate::lent::answered;
 use crate::words::ROOT;
 use anyhow::ensure;
 use ns_core::Core;
-use ns_equality::snapshots::same_snapshot;
+use ns_equality::Equal;
 use ns_http::Request;
 use ns_types::refusal::Refusal;
 use ns_types::reply::Response;
@@ -92,7 +92,7 @@ fn kept(core: &Core, worker: u64) -> Option<&Snapshot> {
 
 fn same_kept(before: &Core, core: &Core, worker: u64) -> bool {
     match (kept(before, worker), kept(core, worker)) {
-        (Some(before), Some(now)) => same_snapshot(before, now),
+        (Some(before), Some(now)) => before.equal(now),
         (None, None) => true,
         _ => false,
     }

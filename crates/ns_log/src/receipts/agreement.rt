@@ -10,7 +10,7 @@ ghost use Rattle.ns_log.specs.Settling.{Settles, IsFault};
 use crate::Entry;
 use crate::receipts::fault::SettleFault;
 use crate::receipts::receipt::Receipt;
-use ns_equality::steps::{same_rendered, same_step};
+use ns_equality::Equal;
 use std::alloc::Global;
 
 /// Whether the receipt tells of the entry at its place, and the place is not marked.
@@ -21,8 +21,8 @@ fn fits(log: &[Entry], marks: &[bool], receipt: &Receipt) -> bool
     match log.get(receipt.place as usize) {
         Some(entry) => {
             !marks[receipt.place as usize]
-                && same_step(entry.step(), &receipt.step)
-                && same_rendered(entry.rendered(), &receipt.rendered)
+                && entry.step().equal(&receipt.step)
+                && entry.rendered().equal(&receipt.rendered)
         }
         None => false,
     }

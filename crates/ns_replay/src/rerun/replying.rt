@@ -6,7 +6,7 @@ ghost use Rattle.ns_replay.specs.Replying.{Fits, FitsIn, Replies, Shows};
 
 use crate::model_run::step;
 use ns_core::Core;
-use ns_equality::steps::same_rendered;
+use ns_equality::Equal;
 use ns_log::Entry;
 use ns_replies::answers::{refused, render};
 use ns_types::refusal::Refusal;
@@ -62,7 +62,7 @@ pub fn is_logged(reply: &Option<Rendered>, logged: &Rendered) -> bool
     ensures { IsTrue result ↔ (reply.now ≡ Some logged.now) }
 {
     match reply {
-        Some(rendered) => same_rendered(rendered, logged),
+        Some(rendered) => rendered.equal(logged),
         None => false,
     }
 }

@@ -4,7 +4,7 @@ use Rattle.std.specs.Cmp.Lexicographic.{pointwise}
 use Rattle.std.specs.Ordering.{eq_by_cmp}
 use Rattle.ns_types.specs.State.Names.{attribute_cmp}
 use Rattle.ns_types.specs.State.Rows.{is_unique, offered_class}
-use Rattle.ns_equality.proofs.Equal.{class_ties}
+use Rattle.ns_equality.proofs.Classes.{class_ties}
 use Rattle.ns_release.proofs.fitting.is_of_class.Goals as goal
 
 pub returns-then-same_text : goal.returns-then-same_text

@@ -1,8 +1,6 @@
 //! Snapshots and what is seen only in them.
 
-ghost use Rattle.std.specs.Prelude.{◌≡◌, ◌↔◌, IsTrue};
-
-use crate::snapshots::equal::Equal;
+use crate::equal::Equal;
 use ns_types::snapshot::{LiveAllocation, OwnAllocation, PoolNode, QuotaSeen, Snapshot};
 
 impl Equal for OwnAllocation {
@@ -36,17 +34,17 @@ impl Equal for QuotaSeen {
     }
 }
 
-/// Whether both snapshots show the same. What tells most of them apart is asked first, and the nodes last.
-pub fn same_snapshot(a: &Snapshot, b: &Snapshot) -> bool
-    ensures { IsTrue result ↔ (a.now ≡ b.now) }
-{
-    a.number.equal(&b.number)
-        && a.release.equal(&b.release)
-        && a.evaluation.equal(&b.evaluation)
-        && a.quota.equal(&b.quota)
-        && a.namespace.equal(&b.namespace)
-        && a.pool.equal(&b.pool)
-        && a.job.equal(&b.job)
-        && a.own.equal(&b.own)
-        && a.nodes.equal(&b.nodes)
+/// What tells most snapshots apart is compared first, and the nodes last.
+impl Equal for Snapshot {
+    fn equal(&self, other: &Snapshot) -> bool {
+        self.number.equal(&other.number)
+            && self.release.equal(&other.release)
+            && self.evaluation.equal(&other.evaluation)
+            && self.quota.equal(&other.quota)
+            && self.namespace.equal(&other.namespace)
+            && self.pool.equal(&other.pool)
+            && self.job.equal(&other.job)
+            && self.own.equal(&other.own)
+            && self.nodes.equal(&other.nodes)
+    }
 }

@@ -1,6 +1,6 @@
 //! What rows are made of: amounts, limits, classes and documents of jobs.
 
-use crate::snapshots::equal::Equal;
+use crate::equal::Equal;
 use ns_types::job::{Constraint, Document, Group, JobKind, Operand, Target, Task, TaskResources};
 use ns_types::node::{Attribute, Class, NodeStatus, Offer};
 use ns_types::resources::{Limits, Resources};
@@ -31,10 +31,7 @@ impl Equal for Class {
 
 impl Equal for NodeStatus {
     fn equal(&self, other: &NodeStatus) -> bool {
-        match self {
-            NodeStatus::Ready => matches!(other, NodeStatus::Ready),
-            NodeStatus::Down => matches!(other, NodeStatus::Down),
-        }
+        self == other
     }
 }
 
@@ -48,19 +45,13 @@ impl Equal for Offer {
 
 impl Equal for JobKind {
     fn equal(&self, other: &JobKind) -> bool {
-        match self {
-            JobKind::Service => matches!(other, JobKind::Service),
-            JobKind::Batch => matches!(other, JobKind::Batch),
-        }
+        self == other
     }
 }
 
 impl Equal for Operand {
     fn equal(&self, other: &Operand) -> bool {
-        match self {
-            Operand::Equal => matches!(other, Operand::Equal),
-            Operand::NotEqual => matches!(other, Operand::NotEqual),
-        }
+        self == other
     }
 }
 

@@ -1,7 +1,7 @@
 use Rattle.std.proofs.Common.{sym, ap, ◌∙◌}
 use Rattle.ns_types.specs.State.Names.{same_name}
 use Rattle.ns_types.proofs.Named.{same_name_is, same_name_refl}
-use Rattle.ns_equality.proofs.snapshots.equal.TextEqual.equal.Goals as goal
+use Rattle.ns_equality.proofs.equal.TextEqual.equal.Goals as goal
 
 pub returns : goal.returns
 returns c =

@@ -2,7 +2,7 @@
 
 ghost use Rattle.std.specs.Prelude.{◌≡◌, ◌↔◌, IsTrue};
 
-use crate::snapshots::equal::Equal;
+use crate::equal::Equal;
 use ns_types::rows::Rows;
 use ns_types::shared::Shared;
 

@@ -2,9 +2,18 @@
 
 ghost use Rattle.std.specs.Prelude.{◌≡◌, ◌↔◌, IsTrue};
 
+mod commands;
+mod documents;
+mod lists;
+mod parts;
+mod policies;
+mod rows;
+mod snapshots;
+mod steps;
+
 use ns_types::text::{Text, same_text};
 
-/// Values of which a program can tell whether contracts see the same in them.
+/// Values of which a program can tell whether contracts see the same in them. The test takes no memory.
 pub trait Equal {
     /// Whether both are the same value.
     fn equal(&self, other: &Self) -> bool

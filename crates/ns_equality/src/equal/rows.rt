@@ -1,6 +1,6 @@
 //! Rows: jobs, evaluations, allocations and nodes.
 
-use crate::snapshots::equal::Equal;
+use crate::equal::Equal;
 use ns_types::allocation::{Allocation, ClientStatus, DesiredStatus};
 use ns_types::evaluation::{Evaluation, Status, Trigger};
 use ns_types::job::Job;
@@ -18,28 +18,13 @@ impl Equal for Job {
 
 impl Equal for Status {
     fn equal(&self, other: &Status) -> bool {
-        match self {
-            Status::Pending => matches!(other, Status::Pending),
-            Status::Blocked => matches!(other, Status::Blocked),
-            Status::Complete => matches!(other, Status::Complete),
-            Status::Failed => matches!(other, Status::Failed),
-            Status::Canceled => matches!(other, Status::Canceled),
-        }
+        self == other
     }
 }
 
 impl Equal for Trigger {
     fn equal(&self, other: &Trigger) -> bool {
-        match self {
-            Trigger::JobRegister => matches!(other, Trigger::JobRegister),
-            Trigger::JobDeregister => matches!(other, Trigger::JobDeregister),
-            Trigger::NodeUpdate => matches!(other, Trigger::NodeUpdate),
-            Trigger::AllocStop => matches!(other, Trigger::AllocStop),
-            Trigger::AllocFailure => matches!(other, Trigger::AllocFailure),
-            Trigger::Preemption => matches!(other, Trigger::Preemption),
-            Trigger::QueuedAllocs => matches!(other, Trigger::QueuedAllocs),
-            Trigger::MaxPlanAttempts => matches!(other, Trigger::MaxPlanAttempts),
-        }
+        self == other
     }
 }
 
@@ -64,23 +49,13 @@ impl Equal for Evaluation {
 
 impl Equal for DesiredStatus {
     fn equal(&self, other: &DesiredStatus) -> bool {
-        match self {
-            DesiredStatus::Run => matches!(other, DesiredStatus::Run),
-            DesiredStatus::Stop => matches!(other, DesiredStatus::Stop),
-            DesiredStatus::Evict => matches!(other, DesiredStatus::Evict),
-        }
+        self == other
     }
 }
 
 impl Equal for ClientStatus {
     fn equal(&self, other: &ClientStatus) -> bool {
-        match self {
-            ClientStatus::Pending => matches!(other, ClientStatus::Pending),
-            ClientStatus::Running => matches!(other, ClientStatus::Running),
-            ClientStatus::Complete => matches!(other, ClientStatus::Complete),
-            ClientStatus::Failed => matches!(other, ClientStatus::Failed),
-            ClientStatus::Lost => matches!(other, ClientStatus::Lost),
-        }
+        self == other
     }
 }
 
