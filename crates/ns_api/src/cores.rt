@@ -10,6 +10,7 @@ use crate::following::{Driven, Driver};
 use crate::responding::respond;
 use ns_core::Core;
 use ns_endpoints::Draws;
+use ns_log::Owned;
 use ns_types::name::Secret;
 use ns_types::reply::Response;
 use ns_types::step::Step;
@@ -32,7 +33,7 @@ impl Takes for Held {
     ghost lacks = { LacksRoom };
 
     fn respond(&mut self, alloc: Global, step: Step) -> Response {
-        match self.take_rendered(alloc, step) {
+        match self.take_rendered(alloc, Owned::alone(step)) {
             Ok((receipt, response)) => {
                 drop(receipt);
                 response

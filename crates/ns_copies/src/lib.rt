@@ -1,5 +1,5 @@
 //! Copies the tables: all of them, or what one namespace has. Vacant slots and room are not copied, and what many
-//! owners share is shared once more. `steps` copies steps and rendered answers.
+//! owners share is shared once more.
 #![tactic(auto)]
 
 mod choosing;
@@ -8,7 +8,6 @@ mod copying;
 mod indexing;
 mod lists;
 mod owners;
-pub mod steps;
 mod tables;
 mod workers;
 

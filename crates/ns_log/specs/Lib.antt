@@ -1,4 +1,5 @@
 pub mod Members
+pub mod Owned
 pub mod Lines
 pub mod Segments
 pub mod Faults

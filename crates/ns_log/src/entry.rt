@@ -5,6 +5,7 @@ ghost use Rattle.serde_json.specs.Written.{compact_text};
 ghost use Rattle.ns_json.specs.Logs.{entry_json, line_of, number_or_null};
 ghost use Rattle.ns_json.specs.Part.{Follows, token_of, tokens_of};
 
+use crate::owned::Owned;
 use crate::step::write_step;
 use json::Writer;
 use ns_json::part::{Part, write_parts};
@@ -16,8 +17,8 @@ use std::marker::Model;
 
 /// A step with its answer as bytes. Contracts see the pair.
 pub struct Entry {
-    step: Step,
-    rendered: Rendered,
+    step: Owned<Step>,
+    rendered: Owned<Rendered>,
 }
 
 impl Drop for Entry {
@@ -39,7 +40,18 @@ impl Model for Entry {
 }
 
 impl Entry {
-    pub fn new(step: Step, rendered: Rendered) -> Entry
+    /// With an answer of its own.
+    pub fn new(step: Owned<Step>, rendered: Rendered) -> Entry
+        ensures { result ≡ (step, rendered) }
+    {
+        Entry {
+            step,
+            rendered: Owned::alone(rendered),
+        }
+    }
+
+    /// With an answer that it may own together with others.
+    pub fn of(step: Owned<Step>, rendered: Owned<Rendered>) -> Entry
         ensures { result ≡ (step, rendered) }
     {
         Entry { step, rendered }
@@ -48,13 +60,13 @@ impl Entry {
     pub fn step(&self) -> &Step
         ensures { result.now ≡ self.now.0 }
     {
-        &self.step
+        self.step.get()
     }
 
     pub fn rendered(&self) -> &Rendered
         ensures { result.now ≡ self.now.1 }
     {
-        &self.rendered
+        self.rendered.get()
     }
 }
 

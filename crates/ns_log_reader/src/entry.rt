@@ -11,7 +11,7 @@ ghost use Rattle.ns_log_reader.specs.Reading.{Gives, same, status_code_in, answe
 use crate::fault::LineFault;
 use crate::member::{member, number, number_or_null, text};
 use crate::step::step;
-use ns_log::Entry;
+use ns_log::{Entry, Owned};
 use ns_types::reply::Rendered;
 use serde_json::Value;
 use std::alloc::Global;
@@ -53,5 +53,5 @@ pub fn entry(alloc: Global, value: &Value) -> Result<Entry, LineFault>
 {
     let rendered = answer(alloc, value)?;
     let step = step(alloc, member(value, "Step")?)?;
-    Ok(Entry::new(step, rendered))
+    Ok(Entry::new(Owned::alone(step), rendered))
 }

@@ -18,7 +18,7 @@ const JOB: &str =
 /// Whether the last receipt is of a later step than the one before, and showed the job.
 fn is_in_order(receipts: &[Receipt]) -> bool {
     match receipts {
-        [.., write, read] => write.place < read.place && read.rendered.body.as_str() == JOB,
+        [.., write, read] => write.place < read.place && read.rendered.get().body.as_str() == JOB,
         _ => false,
     }
 }

@@ -51,7 +51,7 @@ fn register_thrice<L: Ledger, R: Wait + Abort>(
 /// The third receipt names the place behind the segment, and the index of the third registration.
 fn check_third<L: Ledger, R: Abort>(rt: &R, seat: &Seat<L, Retains>) {
     let third = seat.receipts().get(2).expect(rt, "three receipts");
-    assert!(rt; third.place == 2 && third.rendered.index == Some(3));
+    assert!(rt; third.place == 2 && third.rendered.get().index == Some(3));
 }
 
 /// What settling says of the three registrations on a server in the state of the base, from this first server: with the segment

@@ -243,7 +243,10 @@ fn is_applied(plot: Plot, receipts: &[Receipt]) -> bool {
     let [first, second] = receipts else {
         return false;
     };
-    let (first, second) = (first.rendered.body.as_str(), second.rendered.body.as_str());
+    let (first, second) = (
+        first.rendered.get().body.as_str(),
+        second.rendered.get().body.as_str(),
+    );
     let later = match plot {
         Plot::LookAtOnce => "{\"Committed\":[],\"Dropped\":[\"n1\"]}",
         _ => "{\"Committed\":[\"00000000-0000-0002-0000-000000000002\"],\"Dropped\":[]}",

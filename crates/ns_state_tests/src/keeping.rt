@@ -7,7 +7,7 @@ use crate::server::{registered, root};
 use crate::steps::{TEXT, job_is_registered, jobs_are_listed, pool_is_put};
 use crate::workers::{look, take};
 use ns_core::Core;
-use ns_log::log_text;
+use ns_log::{Owned, log_text};
 use ns_schedule::plan;
 use ns_types::refusal::Refusal;
 use ns_types::reply::Reply;
@@ -45,9 +45,9 @@ fn is_refused(answer: Result<Reply, Refusal>, wanted: Refusal) -> bool {
 fn is_taken(held: &mut Held, alloc: Global, step: Step) -> bool
     requires { IsServed step }
 {
-    match held.take_rendered(alloc, step) {
+    match held.take_rendered(alloc, Owned::alone(step)) {
         Ok((receipt, response)) => {
-            let taken = receipt.status == 200;
+            let taken = receipt.get().status == 200;
             drop(receipt);
             drop(response);
             taken
@@ -60,7 +60,7 @@ fn is_taken(held: &mut Held, alloc: Global, step: Step) -> bool
 fn finds_it_full(held: &mut Held, alloc: Global, step: Step) -> bool
     requires { IsServed step }
 {
-    match held.take_rendered(alloc, step) {
+    match held.take_rendered(alloc, Owned::alone(step)) {
         Ok(given) => {
             drop(given);
             false

@@ -3,6 +3,7 @@ use crate::keeping::kept;
 use crate::made::text;
 use crate::owned::push;
 use crate::steps::{job_is_registered, pool_is_put};
+use ns_log::Owned;
 use ns_log::receipts::{Receipt, SettleFault, settle};
 use ns_types::reply::Rendered;
 use ns_types::step::Step;
@@ -26,24 +27,24 @@ fn rendered(rt: &impl Abort, alloc: Global, index: Option<u64>, body: &str) -> R
 fn of_pool(rt: &impl Abort, alloc: Global) -> Receipt {
     Receipt {
         place: 0,
-        step: pool_is_put(rt, alloc),
-        rendered: rendered(rt, alloc, None, "{}"),
+        step: Owned::alone(pool_is_put(rt, alloc)),
+        rendered: Owned::alone(rendered(rt, alloc, None, "{}")),
     }
 }
 
 fn of_job(rt: &impl Abort, alloc: Global, body: &str) -> Receipt {
     Receipt {
         place: 1,
-        step: job_is_registered(rt, alloc),
-        rendered: rendered(rt, alloc, Some(1), body),
+        step: Owned::alone(job_is_registered(rt, alloc)),
+        rendered: Owned::alone(rendered(rt, alloc, Some(1), body)),
     }
 }
 
 fn of_worker(rt: &impl Abort, alloc: Global) -> Receipt {
     Receipt {
         place: 2,
-        step: Step::Dequeue(0, text(rt, alloc, "default"), 1),
-        rendered: rendered(rt, alloc, None, TOOK),
+        step: Owned::alone(Step::Dequeue(0, text(rt, alloc, "default"), 1)),
+        rendered: Owned::alone(rendered(rt, alloc, None, TOOK)),
     }
 }
 

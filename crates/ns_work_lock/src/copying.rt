@@ -6,7 +6,7 @@ ghost use Rattle.ns_replies.specs.Rooms.{HasRoom};
 ghost use Rattle.ns_work_log.specs.Rendered.{rendered_step};
 ghost use Rattle.ns_work_lock.specs.Copying.{entry_answer, is_work};
 
-use ns_log::Entry;
+use ns_log::{Entry, Owned};
 use ns_replies::answers::Room;
 use ns_types::refusal::Refusal;
 use ns_types::reply::{Content, Rendered, Reply};
@@ -46,13 +46,13 @@ pub(crate) fn repeat_entry(
     log: &[Entry],
     place: u64,
     answer: &Result<Reply, Refusal>,
-) -> Option<Rendered>
+) -> Option<Owned<Rendered>>
     requires room { IfOk answer.now (λ reply. HasRoom room reply.content) }
     requires entry { option_map entry_answer (slice_get log.now place) ≡ rendered_step answer.now }
     ensures { result ≡ rendered_step answer.now }
 {
     match log.get(place as usize) {
-        Some(entry) => Some(repeat(room, entry.rendered(), answer)),
+        Some(entry) => Some(Owned::alone(repeat(room, entry.rendered(), answer))),
         None => {
             drop(room);
             None

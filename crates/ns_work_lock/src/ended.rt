@@ -8,7 +8,7 @@ ghost use Rattle.ns_work_log.specs.Rotation.{IsRotated};
 ghost use Rattle.ns_work_lock.specs.Receiving.{LogsAsked, answered, received};
 
 use crate::retention::Retention;
-use crate::seat::{Seat, prepare_copy, receive_given};
+use crate::seat::{Seat, prepare_shared, receive_given};
 use ns_log::receipts::Past;
 use ns_log::segments::Segment;
 use ns_types::refusal::Refusal;
@@ -95,16 +95,13 @@ impl<L: Ledger> Ended<L> {
             share,
             ..
         } = seat;
-        let copy = match prepare_copy(held, receipts, &step) {
-            Ok(copy) => copy,
-            Err(refusal) => {
-                drop(step);
-                return Err(refusal);
-            }
+        let (entry, receipt) = match prepare_shared(alloc, held, receipts, step) {
+            Ok(owned) => owned,
+            Err(refusal) => return Err(refusal),
         };
         let place = held.next_place();
-        let given = held.take_rendered(alloc, step);
-        receive_given(receipts, share, book, place, copy, given)
+        let given = held.take_rendered(alloc, entry);
+        receive_given(receipts, share, book, place, receipt, given)
     }
 
     /// How many entries the log has.

@@ -13,8 +13,8 @@ ghost use Rattle.ns_work_lock.specs.Receiving.{count, received};
 
 use crate::copying::repeat_entry;
 use crate::seat::{begin, receive};
-use ns_log::Entry;
 use ns_log::receipts::Receipt;
+use ns_log::{Entry, Owned};
 use ns_replies::answers::Room;
 use ns_steps::work::{Work, step_of};
 use ns_types::refusal::Refusal;
@@ -30,7 +30,7 @@ use std::sync::ledger::{Book, Ledger, Share};
 /// the log are before it.
 #[derive(Drop)]
 pub(crate) struct Ready {
-    pub(crate) step: Step,
+    pub(crate) step: Owned<Step>,
     pub(crate) room: Room,
     pub(crate) place: u64,
     pub(crate) number: u64,
@@ -48,7 +48,7 @@ fn with_room(alloc: Global, held: &Held, step: Step, row: Option<&Worker>) -> Re
 {
     match Room::for_step(alloc, &step, row) {
         Ok(room) => Ok(Ready {
-            step,
+            step: Owned::alone(step),
             room,
             place: held.next_place(),
             number: held.log().len() as u64,

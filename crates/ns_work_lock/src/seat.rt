@@ -9,11 +9,11 @@ ghost use Rattle.ns_work_log.specs.Noting.{Begins};
 ghost use Rattle.ns_work_lock.specs.Receiving.{count, receipt_of, received, response_of};
 
 use crate::retention::{Retains, Retention};
-use ns_copies::steps::copied_step;
-use ns_log::entry_line;
 use ns_log::receipts::{Past, Receipt};
+use ns_log::{Owned, entry_line};
 use ns_types::refusal::Refusal;
 use ns_types::reply::{Rendered, Response};
+use ns_types::shared::Shared;
 use ns_types::step::Step;
 use ns_work_log::Held;
 use std::alloc::Global;
@@ -64,7 +64,7 @@ fn line_bytes(alloc: Global, receipt: &Receipt) -> Option<u64>
     ensures { let line = line_of (entry_text (entry_of receipt.now)) in
         IfSome result (λ bytes. bytes ≡ length line) }
 {
-    match entry_line(alloc, &receipt.step, &receipt.rendered) {
+    match entry_line(alloc, receipt.step.get(), receipt.rendered.get()) {
         Ok(line) => Some(line.len() as u64),
         Err(_) => None,
     }
@@ -111,21 +111,37 @@ pub(crate) fn begin(held: &Held) -> Result<(), Refusal>
     Ok(())
 }
 
-/// A copy of the step with a place for its receipt, if the log takes one more entry.
-pub(crate) fn prepare_copy(
-    held: &Held,
-    receipts: &mut Vec<Receipt>,
-    step: &Step,
-) -> Result<Step, Refusal>
-    ensures step { IfOk result (λ copy. copy ≡ step.now) }
+/// A place for a receipt, if the log takes one more entry.
+fn prepare_place(held: &Held, receipts: &mut Vec<Receipt>) -> Result<(), Refusal>
     ensures begins { Begins (length held.now.log) held.now.limit result }
     ensures place { OnOk result (vec_len receipts.new < vec_capacity receipts.new) }
     ensures same { receipts.new.items ≡ receipts.old.items }
 {
     begin(held)?;
     receipts.reserve(1)?;
-    let copy = copied_step(step)?;
-    Ok(copy)
+    Ok(())
+}
+
+/// The step with two owners, its entry and its receipt, and with a place for the receipt, if the log takes one more entry.
+pub(crate) fn prepare_shared(
+    alloc: Global,
+    held: &Held,
+    receipts: &mut Vec<Receipt>,
+    step: Step,
+) -> Result<(Owned<Step>, Owned<Step>), Refusal>
+    ensures entry { IfOk result (λ made. made.0 ≡ step) }
+    ensures receipt { IfOk result (λ made. made.1 ≡ step) }
+    ensures begins { Begins (length held.now.log) held.now.limit result }
+    ensures place { OnOk result (vec_len receipts.new < vec_capacity receipts.new) }
+    ensures same { receipts.new.items ≡ receipts.old.items }
+{
+    if let Err(refusal) = prepare_place(held, receipts) {
+        drop(step);
+        return Err(refusal);
+    }
+    let entry = Shared::new(alloc, step)?;
+    let receipt = entry.share()?;
+    Ok((Owned::together(entry), Owned::together(receipt)))
 }
 
 /// Adds a receipt, and counts it, where a step was answered.
@@ -134,8 +150,8 @@ pub(crate) fn receive<L: Ledger>(
     share: &mut Share<L>,
     book: &mut Book<L>,
     place: u64,
-    step: Step,
-    rendered: Option<Rendered>,
+    step: Owned<Step>,
+    rendered: Option<Owned<Rendered>>,
 )
     requires place { vec_len receipts.old < vec_capacity receipts.old }
     requires part { share.old.parts ≡ 1 }
@@ -164,8 +180,8 @@ pub(crate) fn receive_given<L: Ledger>(
     share: &mut Share<L>,
     book: &mut Book<L>,
     place: u64,
-    step: Step,
-    given: Result<(Rendered, Response), Refusal>,
+    step: Owned<Step>,
+    given: Result<(Owned<Rendered>, Response), Refusal>,
 ) -> Result<Response, Refusal>
     requires place { vec_len receipts.old < vec_capacity receipts.old }
     requires part { share.old.parts ≡ 1 }

@@ -6,7 +6,7 @@ ghost use Rattle.ns_laws.specs.Refusals.{is_of_steps};
 ghost use Rattle.ns_replies.specs.Rooms.{HasRoom, room_of};
 ghost use Rattle.ns_work_log.specs.Noting.{Begins, noted};
 
-use ns_log::Entry;
+use ns_log::{Entry, Owned};
 use ns_replies::answers::Room;
 use ns_types::refusal::Refusal;
 use ns_types::reply::Reply;
@@ -29,11 +29,15 @@ pub fn begin(log: &mut Vec<Entry>, limit: u64) -> Result<(), Refusal>
 }
 
 /// The step, with room for its answer, by the row of the worker whose step it is.
-pub fn with_room(alloc: Global, step: Step, row: Option<&Worker>) -> Result<(Step, Room), Refusal>
+pub fn with_room(
+    alloc: Global,
+    step: Owned<Step>,
+    row: Option<&Worker>,
+) -> Result<(Owned<Step>, Room), Refusal>
     ensures room { IfOk result (λ made. made ≡ (step, room_of step (option_copied row.entry))) }
     ensures memory { IfErr result (λ refusal. refusal ≡ Refusal.Memory) }
 {
-    match Room::for_step(alloc, &step, row) {
+    match Room::for_step(alloc, step.get(), row) {
         Ok(room) => Ok((step, room)),
         Err(_) => {
             drop(step);
@@ -59,7 +63,7 @@ pub fn is_of_steps(refusal: Refusal) -> bool
 }
 
 /// Adds the step with its answer, if it is the answer of a step.
-pub fn note(log: &mut Vec<Entry>, step: Step, room: Room, answer: &Result<Reply, Refusal>)
+pub fn note(log: &mut Vec<Entry>, step: Owned<Step>, room: Room, answer: &Result<Reply, Refusal>)
     requires place { vec_len log.old < vec_capacity log.old }
     requires room { IfOk answer.now (λ reply. HasRoom room reply.content) }
     ensures { log.new.items ≡ noted step answer.now log.old.items }

@@ -6,7 +6,7 @@ ghost use Rattle.ns_steps.specs.Works.{step_of};
 ghost use Rattle.ns_work_log.specs.Noting.{Begins};
 
 use crate::noting::{begin, with_room};
-use ns_log::Entry;
+use ns_log::{Entry, Owned};
 use ns_replies::answers::Room;
 use ns_steps::work::{Work, step_of};
 use ns_types::refusal::Refusal;
@@ -24,7 +24,7 @@ pub(crate) fn prepare_work(
     worker: u64,
     namespace: &Text,
     row: Option<&Worker>,
-) -> Result<(Step, Room), Refusal>
+) -> Result<(Owned<Step>, Room), Refusal>
     requires { length log.old.items ≤ limit }
     ensures begins { Begins (length log.old.items) limit result }
     ensures same { log.new.items ≡ log.old.items }
@@ -34,7 +34,7 @@ pub(crate) fn prepare_work(
 {
     begin(log, limit)?;
     let step = step_of(work, worker, namespace.clone()?);
-    with_room(alloc, step, row)
+    with_room(alloc, Owned::alone(step), row)
 }
 
 /// The step that a request asks for, if the log takes one more entry, with room for its answer.
@@ -42,8 +42,8 @@ pub(crate) fn prepare_write(
     alloc: Global,
     log: &mut Vec<Entry>,
     limit: u64,
-    step: Step,
-) -> Result<(Step, Room), Refusal>
+    step: Owned<Step>,
+) -> Result<(Owned<Step>, Room), Refusal>
     requires { length log.old.items ≤ limit }
     ensures begins { Begins (length log.old.items) limit result }
     ensures same { log.new.items ≡ log.old.items }

@@ -3,6 +3,7 @@
 ghost use Rattle.std.specs.Prelude.{◌≡◌, ◌<◌, ◌≤◌, IfErr, IfOk, None, OnErr, OnOk, false, length, true, vec_len};
 ghost use Rattle.std.specs.Prelude.{vec_capacity};
 ghost use Rattle.ns_types.specs.declared.refusal.Refusal.TheVariants as Refusal;
+ghost use Rattle.ns_types.specs.Steps.{Makes};
 ghost use Rattle.ns_steps.specs.Served.{IsServed};
 ghost use Rattle.ns_json.specs.Replies.{rendered};
 ghost use Rattle.ns_replies.specs.Laws.{may_change};
@@ -13,8 +14,9 @@ ghost use Rattle.ns_work_log.specs.Rendered.{IsGiven, LogsRendered};
 use crate::held::Held;
 use crate::noting::begin;
 use crate::preparing::prepare_write;
-use crate::rendering::{given_again, rendered_anew, rendered_in, response};
-use ns_log::Entry;
+use crate::rendering::{rendered_anew, rendered_in, response, shared_with};
+use ns_core::Core;
+use ns_log::{Entry, Owned};
 use ns_replies::answers::{Room, may_change};
 use ns_types::refusal::Refusal;
 use ns_types::reply::{Rendered, Reply, Response};
@@ -49,8 +51,8 @@ fn with_rooms(
     alloc: Global,
     log: &mut Vec<Entry>,
     limit: u64,
-    step: Step,
-) -> Result<(Step, Rooms), Refusal>
+    step: Owned<Step>,
+) -> Result<(Owned<Step>, Rooms), Refusal>
     requires { length log.old.items ≤ limit }
     ensures begins { Begins (length log.old.items) limit result }
     ensures same { log.new.items ≡ log.old.items }
@@ -71,10 +73,10 @@ fn with_rooms(
 /// Adds the step with its answer, and hands the answer out, if it is the answer of a step. It takes no memory.
 fn note_given(
     log: &mut Vec<Entry>,
-    step: Step,
+    step: Owned<Step>,
     rooms: Rooms,
     answer: &Result<Reply, Refusal>,
-) -> Result<(Rendered, Response), Refusal>
+) -> Result<(Owned<Rendered>, Response), Refusal>
     requires place { vec_len log.old < vec_capacity log.old }
     requires room { IfOk answer.now (λ reply. HasRoom rooms.entry reply.content) }
     ensures answer { OnOk result (is_answer answer.now ≡ true) }
@@ -93,7 +95,7 @@ fn note_given(
             let receipt = receipt.repeat(&shown);
             let again = again.repeat(&shown);
             log.push_reserved(Entry::new(step, shown));
-            Ok((receipt, response(answer, again)))
+            Ok((Owned::alone(receipt), response(answer, again)))
         }
         None => {
             drop(step);
@@ -108,23 +110,22 @@ fn note_given(
 fn given_anew(
     alloc: Global,
     answer: &Result<Reply, Refusal>,
-) -> Result<(Rendered, (Rendered, Response)), AllocError>
+) -> Result<(Owned<Rendered>, (Owned<Rendered>, Response)), AllocError>
     ensures answer { OnOk result (is_answer answer.now ≡ true) }
     ensures rendered { IfOk result (λ made. made.0 ≡ rendered answer.now) }
     ensures given { IfOk result (λ made. IsGiven answer.now made.1) }
 {
     let shown = rendered_anew(alloc, answer)?;
-    let given = given_again(answer, &shown)?;
-    Ok((shown, given))
+    shared_with(alloc, answer, shown)
 }
 
 /// Adds the step with its answer in new memory, and hands the answer out, if it is the answer of a step.
 fn give(
     log: &mut Vec<Entry>,
     alloc: Global,
-    step: Step,
+    step: Owned<Step>,
     answer: &Result<Reply, Refusal>,
-) -> Result<(Rendered, Response), Refusal>
+) -> Result<(Owned<Rendered>, Response), Refusal>
     requires { vec_len log.old < vec_capacity log.old }
     ensures answer { OnOk result (is_answer answer.now ≡ true) }
     ensures given { IfOk result (λ given. IsGiven answer.now given) }
@@ -134,7 +135,7 @@ fn give(
 {
     match given_anew(alloc, answer) {
         Ok((shown, given)) => {
-            log.push_reserved(Entry::new(step, shown));
+            log.push_reserved(Entry::of(step, shown));
             Ok(given)
         }
         Err(_) => {
@@ -144,9 +145,21 @@ fn give(
     }
 }
 
+/// Makes the step that a request asks for.
+fn take(core: &mut Core, step: &Owned<Step>) -> Result<Reply, Refusal>
+    requires { IsServed step.now }
+    ensures { Makes step.now core.old result core.new }
+{
+    core.take(step.get())
+}
+
 impl Held {
     /// The rooms of the answer are taken before the step, so a step that was made is answered.
-    fn write_rendered(&mut self, alloc: Global, step: Step) -> Result<(Rendered, Response), Refusal>
+    fn write_rendered(
+        &mut self,
+        alloc: Global,
+        step: Owned<Step>,
+    ) -> Result<(Owned<Rendered>, Response), Refusal>
         requires served { IsServed step }
         requires writes { may_change step ≡ true }
         ensures { LogsRendered step self.old result self.new }
@@ -158,14 +171,18 @@ impl Held {
             ..
         } = self;
         let (step, rooms) = with_rooms(alloc, log, *limit, step)?;
-        let answer = core.take(&step);
+        let answer = take(core, &step);
         let given = note_given(log, step, rooms, &answer);
         drop(answer);
         given
     }
 
     /// A read changes nothing, so there may still be no memory for its answer. Then it was not made.
-    fn read_rendered(&mut self, alloc: Global, step: Step) -> Result<(Rendered, Response), Refusal>
+    fn read_rendered(
+        &mut self,
+        alloc: Global,
+        step: Owned<Step>,
+    ) -> Result<(Owned<Rendered>, Response), Refusal>
         requires served { IsServed step }
         requires reads { may_change step ≡ false }
         ensures { LogsRendered step self.old result self.new }
@@ -180,7 +197,7 @@ impl Held {
             drop(step);
             return Err(refusal);
         }
-        let answer = core.take(&step);
+        let answer = take(core, &step);
         let given = give(log, alloc, step, &answer);
         drop(answer);
         given
@@ -188,16 +205,16 @@ impl Held {
 
     /// Makes the step that a request asks for, and hands out its answer twice as bytes: for a receipt, and as the response.
     /// Both are made before a read has its entry, and their room is taken before any other step; so a step that was made is
-    /// answered. At `Err` none was made.
+    /// answered. At `Err` none was made. Of a read, the entry and the receipt own the bytes together.
     pub fn take_rendered(
         &mut self,
         alloc: Global,
-        step: Step,
-    ) -> Result<(Rendered, Response), Refusal>
+        step: Owned<Step>,
+    ) -> Result<(Owned<Rendered>, Response), Refusal>
         requires { IsServed step }
         ensures { LogsRendered step self.old result self.new }
     {
-        if may_change(&step) {
+        if may_change(step.get()) {
             self.write_rendered(alloc, step)
         } else {
             self.read_rendered(alloc, step)

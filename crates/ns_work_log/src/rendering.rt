@@ -8,10 +8,11 @@ ghost use Rattle.ns_work_log.specs.Noting.{is_answer};
 ghost use Rattle.ns_work_log.specs.Rendered.{IsGiven, rendered_step};
 
 use crate::noting::is_of_steps;
-use ns_copies::steps::copied_rendered;
+use ns_log::Owned;
 use ns_replies::answers::{Room, refused, render};
 use ns_types::refusal::Refusal;
 use ns_types::reply::{Rendered, Reply, Response};
+use ns_types::shared::Shared;
 use std::alloc::{AllocError, Global};
 
 /// The answer in the room that was taken for it, if it is the answer of a step. It takes no memory.
@@ -62,15 +63,33 @@ pub(crate) fn response(answer: &Result<Reply, Refusal>, shown: Rendered) -> Resp
     }
 }
 
-/// Copies of the answer's bytes, for a receipt and as the response.
-pub(crate) fn given_again(
-    answer: &Result<Reply, Refusal>,
-    shown: &Rendered,
-) -> Result<(Rendered, Response), AllocError>
-    requires { shown.now ≡ rendered answer.now }
-    ensures { IfOk result (λ given. IsGiven answer.now given) }
+/// A copy that has the same bytes.
+fn copied(shown: &Rendered) -> Result<Rendered, AllocError>
+    ensures { IfOk result (λ copy. copy ≡ shown.now) }
 {
-    let receipt = copied_rendered(shown)?;
-    let again = copied_rendered(shown)?;
-    Ok((receipt, response(answer, again)))
+    Ok(Rendered {
+        status: shown.status,
+        index: shown.index,
+        body: shown.body.clone()?,
+    })
+}
+
+/// The answer's bytes for its entry, and what is handed out of them: for a receipt, which owns them together with the entry, and a
+/// copy as the response.
+pub(crate) fn shared_with(
+    alloc: Global,
+    answer: &Result<Reply, Refusal>,
+    shown: Rendered,
+) -> Result<(Owned<Rendered>, (Owned<Rendered>, Response)), AllocError>
+    requires { shown ≡ rendered answer.now }
+    ensures entry { IfOk result (λ made. made.0 ≡ rendered answer.now) }
+    ensures given { IfOk result (λ made. IsGiven answer.now made.1) }
+{
+    let again = copied(&shown)?;
+    let entry = Shared::new(alloc, shown)?;
+    let receipt = entry.share()?;
+    Ok((
+        Owned::together(entry),
+        (Owned::together(receipt), response(answer, again)),
+    ))
 }

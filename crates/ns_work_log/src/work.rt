@@ -12,7 +12,7 @@ ghost use Rattle.ns_work_log.specs.Planned.{LogsFinish, LogsSubmit};
 use crate::held::Held;
 use crate::noting::note;
 use crate::preparing::prepare_work;
-use ns_log::Entry;
+use ns_log::{Entry, Owned};
 use ns_replies::answers::Room;
 use ns_steps::work::Work;
 use ns_types::planned::Planned;
@@ -40,7 +40,7 @@ pub fn snapped(seen: &Result<Shared<Snapshot>, Refusal>) -> Result<Reply, Refusa
 /// Adds the step in which a worker looks, with its answer.
 fn note_snapped(
     log: &mut Vec<Entry>,
-    step: Step,
+    step: Owned<Step>,
     room: Room,
     seen: &Result<Shared<Snapshot>, Refusal>,
 )

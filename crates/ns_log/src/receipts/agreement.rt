@@ -21,8 +21,8 @@ fn fits(log: &[Entry], marks: &[bool], receipt: &Receipt) -> bool
     match log.get(receipt.place as usize) {
         Some(entry) => {
             !marks[receipt.place as usize]
-                && entry.step().equal(&receipt.step)
-                && entry.rendered().equal(&receipt.rendered)
+                && entry.step().equal(receipt.step.get())
+                && entry.rendered().equal(receipt.rendered.get())
         }
         None => false,
     }

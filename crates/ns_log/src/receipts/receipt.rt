@@ -1,5 +1,6 @@
 //! What a call was answered.
 
+use crate::owned::Owned;
 use ns_types::reply::Rendered;
 use ns_types::step::Step;
 
@@ -7,8 +8,8 @@ use ns_types::step::Step;
 pub struct Receipt {
     /// How many entries stand before it.
     pub place: u64,
-    pub step: Step,
-    pub rendered: Rendered,
+    pub step: Owned<Step>,
+    pub rendered: Owned<Rendered>,
 }
 
 impl Drop for Receipt {

@@ -1,0 +1,59 @@
+//! Values that are owned alone, or together with others.
+
+ghost use Rattle.std.specs.Prelude.{◌≡◌};
+
+use ns_types::shared::Shared;
+use std::marker::Model;
+
+/// Who owns a value.
+#[derive(Drop)]
+enum Owner<T> {
+    Alone(T),
+    Together(Shared<T>),
+}
+
+/// A value that one owner has alone, or that several have and none changes. Contracts see the value.
+pub struct Owned<T> {
+    owner: Owner<T>,
+}
+
+impl<T: Drop> Drop for Owned<T> {
+    fn drop(self) {
+        let Owned { owner: _owner } = self;
+    }
+}
+
+impl<T> Model for Owned<T> {
+    ghost use Rattle.ns_log.specs.Owned.{value_of};
+
+    ghost Value = { T };
+
+    ghost view = { λ o. value_of o.owner };
+}
+
+impl<T: Drop> Owned<T> {
+    pub fn alone(value: T) -> Owned<T>
+        ensures { result ≡ value }
+    {
+        Owned {
+            owner: Owner::Alone(value),
+        }
+    }
+
+    pub fn together(value: Shared<T>) -> Owned<T>
+        ensures { result ≡ value }
+    {
+        Owned {
+            owner: Owner::Together(value),
+        }
+    }
+
+    pub fn get(&self) -> &T
+        ensures { result.now ≡ self.now }
+    {
+        match &self.owner {
+            Owner::Alone(value) => value,
+            Owner::Together(value) => value.get(),
+        }
+    }
+}
