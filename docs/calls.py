@@ -47,7 +47,7 @@ def rows_of(text):
 
 
 def owner_of(head):
-    """The type of an `impl`, or the name of a trait: `<L: Ledger> Seated for Chair<'_, L>` gives `Chair`."""
+    """The type of an `impl`, or the name of a trait: `<L: Ledger> Seated for SharedSeat<'_, L>` gives `SharedSeat`."""
     head, nested = head.replace("->", ""), None
     while nested != head:
         nested, head = head, re.sub(r"<[^<>]*>", "", head)

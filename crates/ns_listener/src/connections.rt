@@ -3,8 +3,8 @@
 ghost use Rattle.ns_workers.specs.Growing.{Grows};
 ghost use Rattle.ns_listener.specs.Duties.{IsRequested};
 
-use crate::clients::{Chair, Client, serve};
-use crate::house::House;
+use crate::clients::{Client, SharedSeat, serve};
+use crate::context::Context;
 use crate::leaving::leave;
 use ns_endpoints::Draws;
 use ns_http::Counted;
@@ -18,7 +18,7 @@ use std::sync::ledger::Ledger;
 use std::time::Duration;
 
 /// A client of a shared server, with the seat of its thread.
-pub type Guest<'a, L, R, D, M> = Client<Chair<'a, L, R, M>, D>;
+pub type SeatClient<'a, L, R, D, M> = Client<SharedSeat<'a, L, R, M>, D>;
 
 /// Makes replies leave at once, and bounds how many seconds a read or a write may wait.
 fn set_up(stream: &TcpStream, idle: Option<u64>) -> io::Result<()> {
@@ -32,13 +32,13 @@ fn set_up(stream: &TcpStream, idle: Option<u64>) -> io::Result<()> {
 fn answer<L: Ledger, R: Wait, D: Draws, M: Retention>(
     alloc: Global,
     stream: &TcpStream,
-    guest: &mut Guest<'_, L, R, D, M>,
+    client: &mut SeatClient<'_, L, R, D, M>,
 ) -> bool
-    ensures { Grows (IsRequested D.draws) guest.old.seated.seat guest.new.seated.seat }
+    ensures { Grows (IsRequested D.draws) client.old.seated.seat client.new.seated.seat }
 {
     let mut reader = Counted::new(stream);
     let mut writer = Counted::new(stream);
-    serve(alloc, &mut reader, &mut writer, guest).is_ok()
+    serve(alloc, &mut reader, &mut writer, client).is_ok()
 }
 
 /// Answers the requests of a connection. A client that is idle for longer than it may has failed. How a connection ends concerns
@@ -48,33 +48,33 @@ fn converse<L: Ledger, R: Wait + Clock, D: Draws, M: Retention>(
     alloc: Global,
     stream: &TcpStream,
     idle: Option<u64>,
-    guest: &mut Guest<'_, L, R, D, M>,
+    client: &mut SeatClient<'_, L, R, D, M>,
 )
-    ensures { Grows (IsRequested D.draws) guest.old.seated.seat guest.new.seated.seat }
+    ensures { Grows (IsRequested D.draws) client.old.seated.seat client.new.seated.seat }
 {
     if set_up(stream, idle).is_err() {
         return;
     }
-    if answer(alloc, stream, guest) {
+    if answer(alloc, stream, client) {
         leave(rt, alloc, stream);
     }
 }
 
-/// Serves one connection after another, as long as there are tickets. It fails where no more connections can be accepted.
+/// Serves one connection after another, as long as the limit allows. It fails where no more connections can be accepted.
 pub fn serve_connections<L: Ledger, R: Wait + Clock, D: Draws, M: Retention>(
     rt: &R,
     alloc: Global,
-    house: &House<L>,
-    guest: &mut Guest<'_, L, R, D, M>,
+    context: &Context<L>,
+    client: &mut SeatClient<'_, L, R, D, M>,
 ) -> io::Result<()>
-    ensures { Grows (IsRequested D.draws) guest.old.seated.seat guest.new.seated.seat }
+    ensures { Grows (IsRequested D.draws) client.old.seated.seat client.new.seated.seat }
 {
     for _ in rt.forever() {
-        if !house.tickets.take() {
+        if !context.accept_limit.take() {
             return Ok(());
         }
-        let stream = house.door.accept(rt)?;
-        converse(rt, alloc, &stream, house.idle, guest);
+        let stream = context.listener.accept(rt)?;
+        converse(rt, alloc, &stream, context.idle, client);
     }
     unreachable!()
 }

@@ -4,10 +4,10 @@ ghost use Rattle.std.specs.Prelude.{IfOk};
 ghost use Rattle.ns_workers.specs.Growing.{Grows};
 ghost use Rattle.ns_listener.specs.Duties.{IsDue, IsRequested};
 
-use crate::clients::{Chair, Client};
-use crate::connections::{Guest, serve_connections};
+use crate::clients::{Client, SharedSeat};
+use crate::connections::{SeatClient, serve_connections};
+use crate::context::Context;
 use crate::fault::HostFault;
-use crate::house::House;
 use ns_endpoints::Draws;
 use ns_work_lock::{Retention, Seat};
 use ns_workers::{Open, worker};
@@ -29,16 +29,16 @@ pub enum Duty<D> {
 fn attend<L: Ledger, R: Wait + Clock, D: Draws + Drop, M: Retention>(
     rt: &R,
     alloc: Global,
-    house: &House<L>,
+    context: &Context<L>,
     drawer: D,
     seat: Seat<L, M>,
 ) -> Result<Seat<L, M>, HostFault>
     ensures { IfOk result (Grows (IsRequested D.draws) seat) }
 {
-    let shared = house.shared;
-    let mut guest = Client::new(alloc, Chair { rt, shared, seat }, drawer)?;
-    match serve_connections(rt, alloc, house, &mut guest) {
-        Ok(()) => Ok(guest.into_seated().seat),
+    let shared = context.shared;
+    let mut client = Client::new(alloc, SharedSeat { rt, shared, seat }, drawer)?;
+    match serve_connections(rt, alloc, context, &mut client) {
+        Ok(()) => Ok(client.into_seated().seat),
         Err(_) => Err(HostFault::Accept),
     }
 }
@@ -48,28 +48,28 @@ fn attend<L: Ledger, R: Wait + Clock, D: Draws + Drop, M: Retention>(
 pub fn perform<L: Ledger, R: Wait + Clock, D: Draws + Drop, M: Retention>(
     rt: &R,
     alloc: Global,
-    house: &House<L>,
+    context: &Context<L>,
     duty: Duty<D>,
     mut seat: Seat<L, M>,
 ) -> Result<Seat<L, M>, HostFault>
     ensures { IfOk result (Grows (IsDue D.draws duty) seat) }
 {
-    if !house.start.wait(rt) {
+    if !context.start.wait(rt) {
         return Ok(seat);
     }
     match duty {
         Duty::Connections(drawer) => {
-            let ended = attend(rt, alloc, house, drawer, seat);
+            let ended = attend(rt, alloc, context, drawer, seat);
             if ended.is_err() {
-                house.door.shut();
+                context.listener.shut();
             }
-            if house.guests.leave() {
-                house.shared.close(rt);
+            if context.connection_threads.leave() {
+                context.shared.close(rt);
             }
             ended
         }
         Duty::Worker(number) => {
-            worker(rt, alloc, house.shared, &Open, number, &mut seat);
+            worker(rt, alloc, context.shared, &Open, number, &mut seat);
             Ok(seat)
         }
     }

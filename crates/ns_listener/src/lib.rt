@@ -2,16 +2,17 @@
 //! steps of the server that the threads share.
 #![tactic(auto)]
 
+mod accept_limit;
 pub mod clients;
 mod closing;
+mod connection_threads;
 mod connections;
-mod door;
+mod context;
 mod duty;
 mod fault;
-mod guests;
-mod house;
 mod keeper;
 mod leaving;
+mod listener;
 mod opening;
 mod seating;
 mod secret;
@@ -20,8 +21,7 @@ mod service;
 mod serving;
 mod start;
 mod threads;
-mod tickets;
 
-pub use door::Door;
+pub use listener::Listener;
 pub use service::Service;
 pub use serving::serve;

@@ -4,7 +4,7 @@ ghost use Rattle.std.specs.Prelude.{◌≡◌, ◌≢◌, ◌++◌, Err, IfOk, O
 ghost use Rattle.ns_http.specs.declared.engine.ConnFault.TheVariants as ConnFault;
 ghost use Rattle.ns_listener.specs.Opening.{IsSecret, begun_by, limit_lines, opening_lines, secret_lines};
 
-use crate::Door;
+use crate::Listener;
 use crate::secret::chosen_secret;
 use crate::service::Service;
 use ns_core::Core;
@@ -18,7 +18,7 @@ use std::net::{Net, SocketAddr, TcpListener, TcpStream};
 /// A server that listens, with the lines that say so.
 #[derive(Drop)]
 pub struct Opened {
-    pub door: Door,
+    pub listener: Listener,
     pub address: SocketAddr,
     pub secret: Secret,
     pub held: Held,
@@ -88,17 +88,17 @@ pub fn open<R: Net<Listener = TcpListener, Stream = TcpStream>, D: Draws>(
         opened.held ≡ begun_by opened.secret service.now.log_limit) }
     ensures no_write { result ≢ Err ConnFault.Write }
 {
-    let Ok(door) = Door::open(rt, service.address) else {
+    let Ok(listener) = Listener::open(rt, service.address) else {
         return Err(ConnFault::Read);
     };
-    let Ok(address) = door.address() else {
+    let Ok(address) = listener.address() else {
         return Err(ConnFault::Read);
     };
     let secret = chosen_secret(alloc, &service.bootstrap, drawer)?;
     let lines = opening_lines(alloc, service, address, &secret)?;
     let held = Held::new(alloc, Core::new(alloc, &secret)?, service.log_limit);
     Ok(Opened {
-        door,
+        listener,
         address,
         secret,
         held,

@@ -62,7 +62,7 @@ fn serve_settled<
     ensures no_read { result.fault ≢ Some ConnFaults.Read }
 {
     let Opened {
-        door,
+        listener,
         secret,
         held,
         ..
@@ -70,7 +70,7 @@ fn serve_settled<
     let shared = Shared::<L>::new(held, blank, service.rotate, service.rotate_bytes);
     let keeper = Keeper::new(alloc, secret, writer, true);
     let (seats, keeper) = host::<L, R, D, _, Retains>(
-        rt, alloc, &shared, &door, service, draws, keeper,
+        rt, alloc, &shared, &listener, service, draws, keeper,
     );
     let Keeper {
         secret,
@@ -121,7 +121,7 @@ fn serve_forgetting<
     ensures no_read { result.fault ≢ Some ConnFaults.Read }
 {
     let Opened {
-        door,
+        listener,
         secret,
         held,
         ..
@@ -129,7 +129,7 @@ fn serve_forgetting<
     let shared = Shared::<L>::new(held, blank, service.rotate, service.rotate_bytes);
     let keeper = Keeper::new(alloc, secret, writer, false);
     let (seats, keeper) = host::<L, R, D, _, Forgets>(
-        rt, alloc, &shared, &door, service, draws, keeper,
+        rt, alloc, &shared, &listener, service, draws, keeper,
     );
     let Keeper {
         secret,

@@ -5,15 +5,15 @@ ghost use Rattle.std.specs.Prelude.{◌≡◌, ◌≢◌, ◌+◌, IfOk, IsNone,
 ghost use Rattle.ns_workers.specs.Keeping.{TakesSome};
 ghost use Rattle.ns_listener.specs.declared.fault.HostFault.TheVariants as HostFault;
 
-use crate::Door;
+use crate::Listener;
+use crate::accept_limit::AcceptLimit;
+use crate::connection_threads::ConnectionThreads;
+use crate::context::Context;
 use crate::duty::perform;
 use crate::fault::HostFault;
-use crate::guests::Guests;
-use crate::house::House;
 use crate::seating::{Job, duties, seated};
 use crate::service::Service;
 use crate::start::Start;
-use crate::tickets::Tickets;
 use ns_endpoints::Draws;
 use ns_work_lock::{Retention, Seat, Shared};
 use ns_workers::{Keep, applier};
@@ -125,14 +125,14 @@ fn run<
 >(
     rt: &R,
     alloc: Global,
-    house: &House<L>,
+    context: &Context<L>,
     jobs: Vec<Job<L, D, M>>,
     seat: Seat<L, M>,
     keeper: K,
 ) -> (Result<Vec<Seat<L, M>>, HostFault>, K)
     ensures seats { IfOk result.0 (λ seats. vec_len seats ≡ vec_len jobs + 1) }
     ensures takes { TakesSome K.takes keeper result.1 }
-    ensures never { IsNone house.now.shared.now.rotates_at → result.1 ≡ keeper }
+    ensures never { IsNone context.now.shared.now.rotates_at → result.1 ≡ keeper }
 {
     thread::scope(
         thread::scope_env(),
@@ -141,20 +141,20 @@ fn run<
             requires { IsSync R.row × IsSend D.row × IsSend M.row }
             ensures { IfOk result.0 (λ seats. vec_len seats ≡ vec_len jobs + 1)
                 × TakesSome K.takes keeper result.1
-                × (IsNone house.entry.now.shared.now.rotates_at → result.1 ≡ keeper) }
+                × (IsNone context.entry.now.shared.now.rotates_at → result.1 ≡ keeper) }
         {
             let Ok(mut running) = Vec::with_capacity(alloc, jobs.len()) else {
                 return (Err(HostFault::Memory), keeper);
             };
             let mut is_full = true;
             for (duty, seat) in jobs {
-                match scope.spawn(move || perform(rt, alloc, house, duty, seat)) {
+                match scope.spawn(move || perform(rt, alloc, context, duty, seat)) {
                     Ok(handle) => is_full &= running.push(handle).is_ok(),
                     Err(_) => is_full = false,
                 }
             }
-            house.start.set(rt, is_full);
-            apply_beside(rt, alloc, house.shared, running, is_full, seat, keeper)
+            context.start.set(rt, is_full);
+            apply_beside(rt, alloc, context.shared, running, is_full, seat, keeper)
         },
     )
 }
@@ -188,7 +188,7 @@ pub fn host<
     rt: &R,
     alloc: Global,
     shared: &'a Shared<L>,
-    door: &'a Door,
+    listener: &'a Listener,
     service: &Service,
     draws: Vec<D>,
     keeper: K,
@@ -198,16 +198,16 @@ pub fn host<
     ensures takes { TakesSome K.takes keeper result.1 }
     ensures never { IsNone shared.now.rotates_at → result.1 ≡ keeper }
 {
-    let house = House {
+    let context = Context {
         shared,
-        door,
-        tickets: Tickets::new(service.accept),
-        guests: Guests::new(draws.len() as u64),
+        listener,
+        accept_limit: AcceptLimit::new(service.accept),
+        connection_threads: ConnectionThreads::new(draws.len() as u64),
         start: Start::new(),
         idle: service.idle,
     };
     match prepare(rt, alloc, shared, service.workers, draws) {
-        Ok((jobs, seat)) => run(rt, alloc, &house, jobs, seat, keeper),
+        Ok((jobs, seat)) => run(rt, alloc, &context, jobs, seat, keeper),
         Err(_) => (Err(HostFault::Memory), keeper),
     }
 }

@@ -1,7 +1,7 @@
 // Connections of one client with a shared server, by the secret of the first token.
 use ns_endpoints::Draws;
 use ns_http::Counted;
-use ns_listener::clients::{Chair, Client, serve};
+use ns_listener::clients::{Client, SharedSeat, serve};
 use ns_work_lock::{Retains, Seat, Shared};
 use std::alloc::Global;
 use std::process::Abort;
@@ -23,7 +23,7 @@ impl Draws for SameBits {
 }
 
 /// A client with a seat of its own.
-pub(crate) type Guest<'a, L, R> = Client<Chair<'a, L, R, Retains>, SameBits>;
+pub(crate) type Guest<'a, L, R> = Client<SharedSeat<'a, L, R, Retains>, SameBits>;
 
 /// A new seat.
 pub(crate) fn seat<L: Ledger, R: Wait + Abort>(
@@ -40,7 +40,7 @@ pub(crate) fn guest<'a, L: Ledger, R: Wait + Abort>(
     shared: &'a Shared<L>,
 ) -> Guest<'a, L, R> {
     let seat = seat(rt, alloc, shared);
-    Client::new(alloc, Chair { rt, shared, seat }, SameBits).expect(rt, "memory")
+    Client::new(alloc, SharedSeat { rt, shared, seat }, SameBits).expect(rt, "memory")
 }
 
 /// The client's seat.

@@ -3,8 +3,6 @@
 #![tactic(auto)]
 
 #[cfg(test)]
-mod door;
-#[cfg(test)]
 mod ending;
 #[cfg(test)]
 mod filling;
@@ -12,6 +10,8 @@ mod filling;
 mod full;
 #[cfg(test)]
 mod guest;
+#[cfg(test)]
+mod listener;
 #[cfg(test)]
 mod many;
 #[cfg(test)]

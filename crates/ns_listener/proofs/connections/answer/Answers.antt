@@ -10,13 +10,13 @@ use Rattle.ns_workers.proofs.Growing.{grows_same}
 pub returns : goal.returns
 returns g c =
     let requested = IsRequested g.D.Draws.draws in
-    let before = c.args.guest.now.seated.seat in
+    let before = c.args.client.now.seated.seat in
     let after = c.serve.new.client.seated.seat in
-    let old : List Receipt × g.row.D.Denot = (before, c.args.guest.now.draws) in
+    let old : List Receipt × g.row.D.Denot = (before, c.args.client.now.draws) in
     let new : List Receipt × g.row.D.Denot = (after, c.serve.new.client.draws) in
     in_each_case {G = Grows requested before after} c.serve.result
     (IfOk-weaker c.serve.result _ _ (λ count p. made_grows g.D.Draws.draws old p.1.conversation.exchanges new p.1.made) c.serve.ensures.ok)
     (λ is. let p = c.serve.ensures.read is in made_grows g.D.Draws.draws old p.1.conversation.exchanges new p.1.made)
     (λ is. let p = c.serve.ensures.write is in made_grows g.D.Draws.draws old p.0.conversation.exchanges new p.0.made)
     (λ is. let p = c.serve.ensures.memory is in
-    subst (λ guest. Grows requested before guest.seated.seat) (sym p.2) (grows_same requested before))
+    subst (λ client. Grows requested before client.seated.seat) (sym p.2) (grows_same requested before))

@@ -1,5 +1,5 @@
 // Another thread shuts a listener of the system's at which one waits.
-use ns_listener::Door;
+use ns_listener::Listener;
 use std::net::SocketAddr;
 use std::rt::Clock;
 use std::sync::Wait;
@@ -8,14 +8,14 @@ use std::thread;
 use std::thread::Threads;
 use std::time::Duration;
 
-/// Whether a call that waits for a connection fails once the door is shut.
-fn fails_when_shut<R: Threads + Wait + Clock + Sync>(rt: &R, door: &Door) -> bool {
+/// Whether a call that waits for a connection fails once the listener is shut.
+fn fails_when_shut<R: Threads + Wait + Clock + Sync>(rt: &R, listener: &Listener) -> bool {
     let (is_refused, _) = thread::join(
         rt,
-        move || door.accept(rt).is_err(),
+        move || listener.accept(rt).is_err(),
         move || {
             thread::sleep(rt, Duration::from_millis(100));
-            door.shut();
+            listener.shut();
         },
     );
     is_refused
@@ -23,7 +23,7 @@ fn fails_when_shut<R: Threads + Wait + Clock + Sync>(rt: &R, door: &Door) -> boo
 
 #[test]
 fn shut_door(rt: HostRuntime) -> Result<(), Fail> {
-    let door = Door::open(&rt, SocketAddr::from(([127, 0, 0, 1], 0)))?;
-    assert!(rt; fails_when_shut(&rt, &door));
+    let listener = Listener::open(&rt, SocketAddr::from(([127, 0, 0, 1], 0)))?;
+    assert!(rt; fails_when_shut(&rt, &listener));
     Ok(())
 }

@@ -2,20 +2,20 @@
 
 use std::sync::atomic::{AtomicU64, Ordering};
 
-/// A ticket for each connection that is still to be accepted. None: there is always one.
+/// The number of connections that may still be accepted. None: there is no limit.
 #[derive(Drop)]
-pub struct Tickets {
+pub struct AcceptLimit {
     left: Option<AtomicU64>,
 }
 
-impl Tickets {
-    pub fn new(count: Option<u64>) -> Tickets {
-        Tickets {
+impl AcceptLimit {
+    pub fn new(count: Option<u64>) -> AcceptLimit {
+        AcceptLimit {
             left: count.map(AtomicU64::new),
         }
     }
 
-    /// Takes a ticket, if one is left.
+    /// Counts one more connection, if the limit allows it.
     pub fn take(&self) -> bool {
         match &self.left {
             Some(left) => left

@@ -4,13 +4,13 @@ use std::sync::atomic::{AtomicU64, Ordering};
 
 /// The threads that serve connections and have not ended.
 #[derive(Drop)]
-pub struct Guests {
+pub struct ConnectionThreads {
     left: AtomicU64,
 }
 
-impl Guests {
-    pub fn new(count: u64) -> Guests {
-        Guests {
+impl ConnectionThreads {
+    pub fn new(count: u64) -> ConnectionThreads {
+        ConnectionThreads {
             left: AtomicU64::new(count),
         }
     }

@@ -7,7 +7,7 @@ use std::sync::Wait;
 
 /// A listener, with a second handle of its socket, so that no memory is needed to shut it.
 #[derive(Drop)]
-pub struct Door {
+pub struct Listener {
     listener: TcpListener,
     closer: TcpStream,
 }
@@ -20,14 +20,14 @@ fn is_passing(error: &io::Error) -> bool {
     )
 }
 
-impl Door {
+impl Listener {
     pub fn open<R: Net<Listener = TcpListener, Stream = TcpStream>>(
         rt: &R,
         address: SocketAddr,
-    ) -> io::Result<Door> {
+    ) -> io::Result<Listener> {
         let listener = TcpListener::bind(rt, address)?;
         let closer = TcpStream::from(OwnedFd::from(listener.try_clone()?));
-        Ok(Door { listener, closer })
+        Ok(Listener { listener, closer })
     }
 
     /// Where it is, with the port that the system chose where none was asked for.
