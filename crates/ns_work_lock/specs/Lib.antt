@@ -5,3 +5,4 @@ pub mod Moments
 pub mod Receiving
 pub mod Settling
 pub mod Spending
+pub mod WorkerSteps

@@ -13,6 +13,7 @@ mod settling;
 mod shared;
 mod spent;
 mod work;
+mod worker_step;
 
 pub use changes::{ApplierView, Busy, Moment, Planner, Role, Waits, WorkerView};
 pub use ended::{Ended, PARTS};

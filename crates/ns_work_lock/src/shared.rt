@@ -7,6 +7,7 @@ ghost use Rattle.ns_driver.specs.Calls.{snapped};
 ghost use Rattle.ns_steps.specs.Served.{IsServed};
 ghost use Rattle.ns_work_lock.specs.Moments.{changes_after, is_any, notified};
 ghost use Rattle.ns_work_lock.specs.Receiving.{Asks, Receives};
+ghost use Rattle.ns_work_lock.specs.WorkerSteps.{worker_step};
 
 use crate::changes::{
     ApplierView, Busy, Moment, Notified, Planner, Role, Waits, Wakes, WorkerView,
@@ -17,6 +18,7 @@ use crate::looking;
 use crate::retention::Retention;
 use crate::seat::Seat;
 use crate::spent::Spent;
+use crate::worker_step::WorkerStep;
 use ns_log::segments::Segment;
 use ns_replies::answers::may_change;
 use ns_types::key::EvalKey;
@@ -185,6 +187,30 @@ impl<L: Ledger> Shared<L> {
         answer
     }
 
+    /// Makes the step of the worker in the namespace, and wakes those whom it concerns once the lock is free.
+    fn work<R: Wait, M: Retention>(
+        &self,
+        rt: &R,
+        alloc: Global,
+        seat: &mut Seat<L, M>,
+        worker: u64,
+        namespace: &Text,
+        step: WorkerStep<'_>,
+    ) -> Result<Reply, Refusal>
+        ensures { let made = worker_step step worker namespace.now in
+            Receives made seat.old result seat.new }
+    {
+        let before = seat.forget();
+        let wakes = step.wakes();
+        let mut desk = self.desk.lock(rt);
+        let answer = desk.kept.work(alloc, seat, worker, namespace, step);
+        let notified = self.stir(&mut desk, wakes);
+        drop(desk);
+        self.notify(notified);
+        self.follow(rt, alloc, seat, before);
+        answer
+    }
+
     /// Makes the step in which a worker takes the evaluation of that number in the namespace, which is the next one.
     pub fn dequeue<R: Wait, M: Retention>(
         &self,
@@ -198,16 +224,14 @@ impl<L: Ledger> Shared<L> {
         ensures { let step = Step.Dequeue worker namespace.now evaluation in
             Receives step seat.old result seat.new }
     {
-        let before = seat.forget();
-        let mut desk = self.desk.lock(rt);
-        let answer = desk
-            .kept
-            .dequeue(alloc, seat, worker, namespace, evaluation);
-        let notified = self.stir(&mut desk, Wakes::WhereServed);
-        drop(desk);
-        self.notify(notified);
-        self.follow(rt, alloc, seat, before);
-        answer
+        self.work(
+            rt,
+            alloc,
+            seat,
+            worker,
+            namespace,
+            WorkerStep::Dequeue(evaluation),
+        )
     }
 
     /// Makes the step in which a worker takes a snapshot of its evaluation: one value, which its row keeps and the caller
@@ -246,14 +270,14 @@ impl<L: Ledger> Shared<L> {
         ensures { let step = Step.Submit worker namespace.now in
             Receives step seat.old result seat.new }
     {
-        let before = seat.forget();
-        let mut desk = self.desk.lock(rt);
-        let answer = desk.kept.submit(alloc, seat, worker, namespace, planned);
-        let notified = self.stir(&mut desk, Wakes::Planned);
-        drop(desk);
-        self.notify(notified);
-        self.follow(rt, alloc, seat, before);
-        answer
+        self.work(
+            rt,
+            alloc,
+            seat,
+            worker,
+            namespace,
+            WorkerStep::Submit(planned),
+        )
     }
 
     /// Makes the step in which the plan that a worker handed in is applied.
@@ -268,14 +292,7 @@ impl<L: Ledger> Shared<L> {
         ensures { let step = Step.Apply worker namespace.now in
             Receives step seat.old result seat.new }
     {
-        let before = seat.forget();
-        let mut desk = self.desk.lock(rt);
-        let answer = desk.kept.apply(alloc, seat, worker, namespace);
-        let notified = self.stir(&mut desk, Wakes::Applied);
-        drop(desk);
-        self.notify(notified);
-        self.follow(rt, alloc, seat, before);
-        answer
+        self.work(rt, alloc, seat, worker, namespace, WorkerStep::Apply)
     }
 
     /// Makes the step in which a worker finishes its evaluation, by the plan of its snapshot.
@@ -291,14 +308,14 @@ impl<L: Ledger> Shared<L> {
         ensures { let step = Step.Finish worker namespace.now in
             Receives step seat.old result seat.new }
     {
-        let before = seat.forget();
-        let mut desk = self.desk.lock(rt);
-        let answer = desk.kept.finish(alloc, seat, worker, namespace, planned);
-        let notified = self.stir(&mut desk, Wakes::WhereServedOrClosed);
-        drop(desk);
-        self.notify(notified);
-        self.follow(rt, alloc, seat, before);
-        answer
+        self.work(
+            rt,
+            alloc,
+            seat,
+            worker,
+            namespace,
+            WorkerStep::Finish(planned),
+        )
     }
 
     /// Makes the step in which a worker gives its evaluation of the namespace back.
@@ -313,14 +330,7 @@ impl<L: Ledger> Shared<L> {
         ensures { let step = Step.Nack worker namespace.now in
             Receives step seat.old result seat.new }
     {
-        let before = seat.forget();
-        let mut desk = self.desk.lock(rt);
-        let answer = desk.kept.nack(alloc, seat, worker, namespace);
-        let notified = self.stir(&mut desk, Wakes::WhereServedOrClosed);
-        drop(desk);
-        self.notify(notified);
-        self.follow(rt, alloc, seat, before);
-        answer
+        self.work(rt, alloc, seat, worker, namespace, WorkerStep::Nack)
     }
 
     /// Gives out the log, and begins the next one where the server is. It makes no step, adds no receipt, and wakes nobody.

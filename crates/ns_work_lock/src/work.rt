@@ -6,19 +6,19 @@ ghost use Rattle.ns_broker.specs.Snapping.{kept_at};
 ghost use Rattle.ns_driver.specs.Calls.{snapped};
 ghost use Rattle.ns_replies.specs.Rooms.{HasRoom};
 ghost use Rattle.ns_work_log.specs.Logs.{Logs, next_place};
-ghost use Rattle.ns_work_log.specs.Planned.{LogsFinish, LogsSubmit};
 ghost use Rattle.ns_work_log.specs.Rendered.{rendered_step};
 ghost use Rattle.ns_work_lock.specs.Copying.{entry_answer};
 ghost use Rattle.ns_work_lock.specs.Receiving.{Receives, count, received};
+ghost use Rattle.ns_work_lock.specs.WorkerSteps.{LogsWork, worker_step};
 
 use crate::ended::Ended;
 use crate::ready::{Ready, prepare_work, receive_answer};
 use crate::retention::Retention;
 use crate::seat::Seat;
+use crate::worker_step::{WorkerStep, make};
 use ns_log::Entry;
 use ns_log::receipts::Receipt;
 use ns_steps::work::Work;
-use ns_types::planned::Planned;
 use ns_types::refusal::Refusal;
 use ns_types::reply::Reply;
 use ns_types::shared::Shared;
@@ -58,21 +58,21 @@ fn receive_snapped<L: Ledger>(
 }
 
 impl<L: Ledger> Ended<L> {
-    pub(crate) fn dequeue<M: Retention>(
+    /// Makes the step of the worker in the namespace, and adds its receipt.
+    pub(crate) fn work<M: Retention>(
         &mut self,
         alloc: Global,
         seat: &mut Seat<L, M>,
         worker: u64,
         namespace: &Text,
-        evaluation: u64,
+        step: WorkerStep<'_>,
     ) -> Result<Reply, Refusal>
-        ensures logged { let step = Step.Dequeue worker namespace.now evaluation in
-            Logs step self.old.held result self.new.held }
-        ensures received { let place = next_place self.old.held in
-            let step = Step.Dequeue worker namespace.now evaluation in
-            seat.new ≡ received place step (rendered_step result) seat.old }
-        ensures seat { let step = Step.Dequeue worker namespace.now evaluation in
-            Receives step seat.old result seat.new }
+        ensures logged { LogsWork step worker namespace.now self.old.held result self.new.held }
+        ensures received { let made = worker_step step worker namespace.now in
+            let place = next_place self.old.held in
+            seat.new ≡ received place made (rendered_step result) seat.old }
+        ensures seat { let made = worker_step step worker namespace.now in
+            Receives made seat.old result seat.new }
     {
         let Ended { held, book, .. } = self;
         let Seat {
@@ -80,20 +80,21 @@ impl<L: Ledger> Ended<L> {
             share,
             ..
         } = seat;
-        let ready = prepare_work(
-            alloc,
-            held,
-            receipts,
-            Work::Dequeue(evaluation),
-            worker,
-            namespace,
-            None,
-        )?;
-        let answer = held.dequeue(alloc, worker, namespace, evaluation);
+        let row = held.core().worker_at(worker, namespace);
+        let prepared = prepare_work(alloc, held, receipts, step.kind(), worker, namespace, row);
+        let ready = match prepared {
+            Ok(ready) => ready,
+            Err(refusal) => {
+                drop(step);
+                return Err(refusal);
+            }
+        };
+        let answer = make(held, alloc, worker, namespace, step);
         receive_answer(receipts, share, book, held.log(), ready, &answer);
         answer
     }
 
+    /// Makes the step in which a worker takes a snapshot, and adds its receipt.
     pub(crate) fn snap<M: Retention>(
         &mut self,
         alloc: Global,
@@ -121,123 +122,5 @@ impl<L: Ledger> Ended<L> {
         let seen = held.snap(alloc, worker, namespace);
         receive_snapped(receipts, share, book, held.log(), ready, &seen);
         seen
-    }
-
-    pub(crate) fn submit<M: Retention>(
-        &mut self,
-        alloc: Global,
-        seat: &mut Seat<L, M>,
-        worker: u64,
-        namespace: &Text,
-        planned: Planned,
-    ) -> Result<Reply, Refusal>
-        ensures logged { let held = self.old.held in
-            LogsSubmit worker namespace.now planned held result self.new.held }
-        ensures received { let place = next_place self.old.held in
-            let step = Step.Submit worker namespace.now in
-            seat.new ≡ received place step (rendered_step result) seat.old }
-        ensures seat { let step = Step.Submit worker namespace.now in
-            Receives step seat.old result seat.new }
-    {
-        let Ended { held, book, .. } = self;
-        let Seat {
-            receipts,
-            share,
-            ..
-        } = seat;
-        let prepared = prepare_work(alloc, held, receipts, Work::Submit, worker, namespace, None);
-        let ready = match prepared {
-            Ok(ready) => ready,
-            Err(refusal) => {
-                drop(planned);
-                return Err(refusal);
-            }
-        };
-        let answer = held.submit(alloc, worker, namespace, planned);
-        receive_answer(receipts, share, book, held.log(), ready, &answer);
-        answer
-    }
-
-    pub(crate) fn apply<M: Retention>(
-        &mut self,
-        alloc: Global,
-        seat: &mut Seat<L, M>,
-        worker: u64,
-        namespace: &Text,
-    ) -> Result<Reply, Refusal>
-        ensures logged { let step = Step.Apply worker namespace.now in
-            Logs step self.old.held result self.new.held }
-        ensures received { let place = next_place self.old.held in
-            let step = Step.Apply worker namespace.now in
-            seat.new ≡ received place step (rendered_step result) seat.old }
-        ensures seat { let step = Step.Apply worker namespace.now in
-            Receives step seat.old result seat.new }
-    {
-        let Ended { held, book, .. } = self;
-        let Seat {
-            receipts,
-            share,
-            ..
-        } = seat;
-        let row = held.core().worker_at(worker, namespace);
-        let ready = prepare_work(alloc, held, receipts, Work::Apply, worker, namespace, row)?;
-        let answer = held.apply(alloc, worker, namespace);
-        receive_answer(receipts, share, book, held.log(), ready, &answer);
-        answer
-    }
-
-    pub(crate) fn finish<M: Retention>(
-        &mut self,
-        alloc: Global,
-        seat: &mut Seat<L, M>,
-        worker: u64,
-        namespace: &Text,
-        planned: &Planned,
-    ) -> Result<Reply, Refusal>
-        ensures logged { let held = self.old.held in
-            LogsFinish worker namespace.now planned.now held result self.new.held }
-        ensures received { let place = next_place self.old.held in
-            let step = Step.Finish worker namespace.now in
-            seat.new ≡ received place step (rendered_step result) seat.old }
-        ensures seat { let step = Step.Finish worker namespace.now in
-            Receives step seat.old result seat.new }
-    {
-        let Ended { held, book, .. } = self;
-        let Seat {
-            receipts,
-            share,
-            ..
-        } = seat;
-        let ready = prepare_work(alloc, held, receipts, Work::Finish, worker, namespace, None)?;
-        let answer = held.finish(alloc, worker, namespace, planned);
-        receive_answer(receipts, share, book, held.log(), ready, &answer);
-        answer
-    }
-
-    pub(crate) fn nack<M: Retention>(
-        &mut self,
-        alloc: Global,
-        seat: &mut Seat<L, M>,
-        worker: u64,
-        namespace: &Text,
-    ) -> Result<Reply, Refusal>
-        ensures logged { let step = Step.Nack worker namespace.now in
-            Logs step self.old.held result self.new.held }
-        ensures received { let place = next_place self.old.held in
-            let step = Step.Nack worker namespace.now in
-            seat.new ≡ received place step (rendered_step result) seat.old }
-        ensures seat { let step = Step.Nack worker namespace.now in
-            Receives step seat.old result seat.new }
-    {
-        let Ended { held, book, .. } = self;
-        let Seat {
-            receipts,
-            share,
-            ..
-        } = seat;
-        let ready = prepare_work(alloc, held, receipts, Work::Nack, worker, namespace, None)?;
-        let answer = held.nack(alloc, worker, namespace);
-        receive_answer(receipts, share, book, held.log(), ready, &answer);
-        answer
     }
 }
