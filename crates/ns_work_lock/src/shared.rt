@@ -197,7 +197,7 @@ impl<L: Ledger> Shared<L> {
         namespace: &Text,
         step: WorkerStep<'_>,
     ) -> Result<Reply, Refusal>
-        ensures { let made = worker_step step worker namespace.now in
+        ensures { let made = worker_step step.entry worker namespace.now in
             Receives made seat.old result seat.new }
     {
         let before = seat.forget();

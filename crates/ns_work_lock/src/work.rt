@@ -67,11 +67,11 @@ impl<L: Ledger> Ended<L> {
         namespace: &Text,
         step: WorkerStep<'_>,
     ) -> Result<Reply, Refusal>
-        ensures logged { LogsWork step worker namespace.now self.old.held result self.new.held }
-        ensures received { let made = worker_step step worker namespace.now in
+        ensures logged { LogsWork step.entry worker namespace.now self.old.held result self.new.held }
+        ensures received { let made = worker_step step.entry worker namespace.now in
             let place = next_place self.old.held in
             seat.new ≡ received place made (rendered_step result) seat.old }
-        ensures seat { let made = worker_step step worker namespace.now in
+        ensures seat { let made = worker_step step.entry worker namespace.now in
             Receives made seat.old result seat.new }
     {
         let Ended { held, book, .. } = self;

@@ -57,7 +57,7 @@ pub(crate) fn make(
     namespace: &Text,
     step: WorkerStep<'_>,
 ) -> Result<Reply, Refusal>
-    ensures { LogsWork step worker namespace.now held.old result held.new }
+    ensures { LogsWork step.entry worker namespace.now held.old result held.new }
 {
     match step {
         WorkerStep::Dequeue(evaluation) => held.dequeue(alloc, worker, namespace, evaluation),

@@ -23,7 +23,7 @@ receive_answer-requires-clause-room g c =
     adds_room step c.args.self.now.held c.make-answer.result c.make-answer.new.held c.in-Ok.ready.room
     (work_changes worker ns c.args.step)
     (ap (λ (r : Ready). r.room) c.in-Ok.ensures.made
-    ∙ ap (λ (kind : Work). room_of (step_of kind worker ns) (option_copied c.worker_at-row.result.entry)) c.kind.ensures
+    ∙ ap (λ (kind : Work). room_of (step_of kind worker ns) (option_copied c.worker_at-row.result)) c.kind.ensures
     ∙ ap (room_of step) c.worker_at-row.ensures
     ∙ ap (λ (s : State). room_of step (worker_at s.world worker ns)) c.core.ensures
     ∙ ap (room_of step) (work_row worker ns c.args.step c.args.self.now.held.state.world))
