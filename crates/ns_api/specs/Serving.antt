@@ -11,11 +11,11 @@ use Rattle.ns_api.specs.Answering.{Answers, Holding, RunsAs}
 
 -- the server, and what draws
 abbrev pub held : {S D F : Type 0} → Api S D F → S × D
-held api = (api.taker, api.draws)
+held api = (api.taker, api.router.draws)
 
 -- and with them what does what follows
 abbrev pub holding : {S D F : Type 0} → Api S D F → Holding S D F
-holding api = record { server = api.taker; draws = api.draws; follower = api.follower }
+holding api = record { server = api.taker; draws = api.router.draws; follower = api.follower }
 
 -- by the state for which a server stands, what a step notes besides, what the server may lack, what is drawn, and what
 -- follows a request

@@ -1,19 +1,16 @@
 //! Answers requests, over anything that takes the steps which they ask for, and does what follows them.
 
-ghost use Rattle.std.specs.Prelude.{◌≡◌, Ok, IfOk};
+ghost use Rattle.std.specs.Prelude.{◌≡◌, IfOk};
 ghost use Rattle.ns_types.specs.Wire.Responses.{rendered_of};
 ghost use Rattle.ns_http.specs.Head;
 ghost use Rattle.ns_steps.specs.Served.{IsServed};
-ghost use Rattle.ns_api.specs.Answering.{AnswersAsked, AnswersOrWants, AnswersRequest};
+ghost use Rattle.ns_api.specs.Answering.{AnswersOrWants, AnswersRequest};
 ghost use Rattle.ns_api.specs.Serving.{held};
-ghost use Rattle.ns_endpoints.specs.Wanted.{draft_step, IsServedDraft};
 
 use crate::following::Follows;
-use ns_endpoints::{Draft, Draws, asked, drawn};
+use ns_endpoints::{Draws, Router};
 use ns_http::{Answer, Request};
-use ns_request::Routes;
 use ns_steps::chain::Server;
-use ns_types::refusal::Refusal;
 use ns_types::reply::Response;
 use ns_types::step::Step;
 use std::alloc::{AllocError, Global};
@@ -36,9 +33,8 @@ pub trait Takes: Server {
 #[derive(Drop)]
 pub struct Api<T, D, F> {
     taker: T,
-    draws: D,
+    router: Router<D>,
     follower: F,
-    routes: Routes,
     alloc: Global,
 }
 
@@ -50,15 +46,14 @@ impl<T: Takes, D: Draws, F> Api<T, D, F> {
         D: Drop,
         F: Drop,
         ensures taker { IfOk result (λ api. api.taker ≡ taker) }
-        ensures drawer { IfOk result (λ api. api.draws ≡ draws) }
+        ensures drawer { IfOk result (λ api. api.router.draws ≡ draws) }
         ensures follower { IfOk result (λ api. api.follower ≡ follower) }
     {
-        let routes = Routes::new(alloc)?;
+        let router = Router::new(alloc, draws)?;
         Ok(Api {
             taker,
-            draws,
+            router,
             follower,
-            routes,
             alloc,
         })
     }
@@ -70,27 +65,14 @@ impl<T: Takes, D: Draws, F> Api<T, D, F> {
         &self.taker
     }
 
-    /// Draws what the step lacks, and takes it.
-    fn make(&mut self, draft: Draft) -> Response
-        requires { IsServedDraft draft }
-        ensures answered { AnswersAsked T.state T.notes T.lacks D.draws (Ok (draft_step draft))
-            (held self.old) (rendered_of result) (held self.new) }
-        ensures not_yet { self.new.follower ≡ self.old.follower }
-    {
-        match drawn(self.alloc, &mut self.draws, draft) {
-            Ok(step) => self.taker.respond(self.alloc, step),
-            Err(_) => Response::Refused(Refusal::Memory),
-        }
-    }
-
     /// Answers a request, and does nothing that follows it.
     fn request(&mut self, request: &Request<'_>) -> Response
         ensures answered { AnswersRequest T.state T.notes T.lacks D.draws (held self.old)
             (Head.asked request.now) (rendered_of result) (held self.new) }
         ensures not_yet { self.new.follower ≡ self.old.follower }
     {
-        match asked(self.alloc, &self.routes, request) {
-            Ok(draft) => self.make(draft),
+        match self.router.step(self.alloc, request) {
+            Ok(step) => self.taker.respond(self.alloc, step),
             Err(refusal) => Response::Refused(refusal),
         }
     }

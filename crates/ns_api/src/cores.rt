@@ -51,7 +51,7 @@ pub fn open<D: Draws + Drop>(
     driven: Driven,
 ) -> Result<Api<Core, D, Driver>, AllocError>
     ensures taker { IfOk result (λ api. api.taker ≡ opening bootstrap.now) }
-    ensures drawer { IfOk result (λ api. api.draws ≡ draws) }
+    ensures drawer { IfOk result (λ api. api.router.draws ≡ draws) }
     ensures follower { IfOk result (λ api. api.follower ≡ driver_of driven) }
 {
     let core = Core::new(alloc, bootstrap)?;
@@ -72,7 +72,7 @@ pub fn open_held<D: Draws + Drop>(
     limit: u64,
 ) -> Result<Api<Held, D, Driver>, AllocError>
     ensures taker { IfOk result (λ api. api.taker ≡ history_of bootstrap.now limit) }
-    ensures drawer { IfOk result (λ api. api.draws ≡ draws) }
+    ensures drawer { IfOk result (λ api. api.router.draws ≡ draws) }
     ensures follower { IfOk result (λ api. api.follower ≡ driver_of driven) }
 {
     let held = Held::new(alloc, Core::new(alloc, bootstrap)?, limit);

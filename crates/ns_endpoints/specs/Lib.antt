@@ -3,3 +3,4 @@ pub mod Nodes
 pub mod Asking
 pub mod Wanted
 pub mod Drawing
+pub mod Finding

@@ -5,9 +5,11 @@ mod asking;
 mod documents;
 mod drawing;
 mod nodes;
+mod router;
 mod tables;
 mod wanted;
 
 pub use asking::asked;
 pub use drawing::{Draws, drawn, random_id};
+pub use router::Router;
 pub use wanted::{Draft, GoodToken};

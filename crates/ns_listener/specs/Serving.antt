@@ -8,7 +8,7 @@ use Rattle.ns_listener.specs.Answering.{AnswersRequest, Made}
 
 -- the receipts of what takes the steps, and what draws
 abbrev pub held : {S D : Type 0} → (S → List Receipt) → Client S D → List Receipt × D
-held receipts client = (receipts client.seated, client.draws)
+held receipts client = (receipts client.seated, client.router.draws)
 
 -- by what is drawn
 module _ {D : Type 0} (draws : D → List ℕ → D → Type 0) where

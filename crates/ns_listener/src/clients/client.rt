@@ -1,15 +1,15 @@
 //! Answers requests, over what takes the steps which they ask for and gains the receipts.
 
-ghost use Rattle.std.specs.Prelude.{◌≡◌, IfOk, Ok};
+ghost use Rattle.std.specs.Prelude.{◌≡◌, IfErr, IfOk};
+ghost use Rattle.ns_types.specs.Wire.Refused.{refused};
 ghost use Rattle.ns_types.specs.Wire.Responses.{rendered_of};
-ghost use Rattle.ns_endpoints.specs.Wanted.{draft_step, IsServedDraft};
-ghost use Rattle.ns_listener.specs.Answering.{AnswersAsked};
+ghost use Rattle.ns_http.specs.Head;
+ghost use Rattle.ns_listener.specs.Answering.{AnswersRequest};
 ghost use Rattle.ns_listener.specs.Serving.{held};
 
 use crate::clients::seated::Seated;
-use ns_endpoints::{Draft, Draws, asked, drawn};
+use ns_endpoints::{Draws, Router};
 use ns_http::{Answer, Request};
-use ns_request::Routes;
 use ns_types::refusal::Refusal;
 use ns_types::reply::Response;
 use std::alloc::{AllocError, Global};
@@ -17,8 +17,7 @@ use std::alloc::{AllocError, Global};
 /// Answers requests over what takes their steps, with the random bits that new tokens need.
 pub struct Client<S, D> {
     seated: S,
-    draws: D,
-    routes: Routes,
+    router: Router<D>,
     alloc: Global,
 }
 
@@ -26,8 +25,7 @@ impl<S: Drop, D: Drop> Drop for Client<S, D> {
     fn drop(self) {
         let Client {
             seated: _seated,
-            draws: _draws,
-            routes: _routes,
+            router: _router,
             alloc: _,
         } = self;
     }
@@ -40,13 +38,12 @@ impl<S: Seated, D: Draws> Client<S, D> {
         S: Drop,
         D: Drop,
         ensures seated { IfOk result (λ client. client.seated ≡ seated) }
-        ensures drawer { IfOk result (λ client. client.draws ≡ draws) }
+        ensures drawer { IfOk result (λ client. client.router.draws ≡ draws) }
     {
-        let routes = Routes::new(alloc)?;
+        let router = Router::new(alloc, draws)?;
         Ok(Client {
             seated,
-            draws,
-            routes,
+            router,
             alloc,
         })
     }
@@ -59,26 +56,26 @@ impl<S: Seated, D: Draws> Client<S, D> {
     {
         let Client {
             seated,
-            draws: _draws,
-            routes: _routes,
+            router: _router,
             alloc: _,
         } = self;
         seated
     }
 
-    /// Draws what the step lacks, and has it made.
-    fn make(&mut self, draft: Draft) -> Response
-        requires { IsServedDraft draft }
-        ensures { AnswersAsked D.draws (Ok (draft_step draft))
-            (held S.receipts self.old) (rendered_of result) (held S.receipts self.new) }
+    /// Finds the step that the request asks for, and has it made.
+    fn take(&mut self, request: &Request<'_>) -> Result<Response, Refusal>
+        ensures made { let answers = AnswersRequest D.draws (held S.receipts self.old)
+            (Head.asked request.now) in
+            IfOk result (λ r. answers (rendered_of r) (held S.receipts self.new)) }
+        ensures none { let answers = AnswersRequest D.draws (held S.receipts self.old)
+            (Head.asked request.now) in
+            IfErr result (λ r. answers (refused r) (held S.receipts self.new)) }
     {
-        let Ok(step) = drawn(self.alloc, &mut self.draws, draft) else {
-            return Response::Refused(Refusal::Memory);
+        let step = match self.router.step(self.alloc, request) {
+            Ok(step) => step,
+            Err(refusal) => return Err(refusal),
         };
-        match self.seated.take(self.alloc, step) {
-            Ok(response) => response,
-            Err(refusal) => Response::Refused(refusal),
-        }
+        self.seated.take(self.alloc, step)
     }
 }
 
@@ -92,8 +89,8 @@ impl<S: Seated, D: Draws> Answer for Client<S, D> {
     type A = Global;
 
     fn answer(&mut self, request: &Request<'_>) -> Response {
-        match asked(self.alloc, &self.routes, request) {
-            Ok(draft) => self.make(draft),
+        match self.take(request) {
+            Ok(response) => response,
             Err(refusal) => Response::Refused(refusal),
         }
     }

@@ -12,8 +12,8 @@ returns g c =
     let requested = IsRequested g.D.Draws.draws in
     let before = c.args.client.now.seated.seat in
     let after = c.serve.new.client.seated.seat in
-    let old : List Receipt × g.row.D.Denot = (before, c.args.client.now.draws) in
-    let new : List Receipt × g.row.D.Denot = (after, c.serve.new.client.draws) in
+    let old : List Receipt × g.row.D.Denot = (before, c.args.client.now.router.draws) in
+    let new : List Receipt × g.row.D.Denot = (after, c.serve.new.client.router.draws) in
     in_each_case {G = Grows requested before after} c.serve.result
     (IfOk-weaker c.serve.result _ _ (λ count p. made_grows g.D.Draws.draws old p.1.conversation.exchanges new p.1.made) c.serve.ensures.ok)
     (λ is. let p = c.serve.ensures.read is in made_grows g.D.Draws.draws old p.1.conversation.exchanges new p.1.made)
