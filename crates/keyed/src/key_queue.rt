@@ -9,7 +9,7 @@ ghost use Rattle.ns_types.specs.State.Lists.{is_empty};
 ghost use Rattle.ns_types.specs.State.Names.{Key, has_key, same_key};
 
 use crate::key_places::KeyPlaces;
-use crate::numbers::NumberTable;
+use crate::numbers::{NumberSlot, NumberTable};
 use ns_types::key::EvalKey;
 use ns_types::rows::Rows;
 use ns_types::text::Text;
@@ -66,7 +66,7 @@ impl KeyQueue {
     }
 
     /// The places in their order, each with its key. A vacant one has none.
-    pub fn slots(&self) -> &[(u64, Option<EvalKey>)]
+    pub fn slots(&self) -> &[NumberSlot<EvalKey>]
         ensures { keys_in result.now ≡ self.now.items }
     {
         self.placed.keys.as_slice()
@@ -107,7 +107,7 @@ impl KeyQueue {
     }
 
     /// The numbers of the namespace's keys, which rise, each with its places: a look-up.
-    pub fn numbers_of(&self, namespace: &Text) -> &[(u64, Option<NumberTable<()>>)]
+    pub fn numbers_of(&self, namespace: &Text) -> &[NumberSlot<NumberTable<()>>]
         ensures { (n : ℕ) → IsTrue (has_key self.now.items (namespace.now, n))
             → IsTrue (stands_in n result.now) }
     {

@@ -6,7 +6,7 @@ ghost use Rattle.keyed.specs.Levels.{Adds, Drops, Keeps, holds_key, has_key_room
 ghost use Rattle.keyed.specs.Table.{row_at};
 ghost use Rattle.ns_types.specs.State.Names.{Key, same_key};
 
-use crate::names::NameTable;
+use crate::names::{NameSlot, NameTable};
 use crate::numbers::NumberTable;
 use ns_types::text::Text;
 use std::alloc::{AllocError, Global};
@@ -33,7 +33,7 @@ impl KeySet {
     }
 
     /// The names in their order, each with the numbers of its keys, which rise. A vacant slot is no key.
-    pub fn as_slice(&self) -> &[(Text, Option<NumberTable<()>>)]
+    pub fn as_slice(&self) -> &[NameSlot<NumberTable<()>>]
         ensures { result.now ≡ entries self.now.numbers }
     {
         self.numbers.as_slice()

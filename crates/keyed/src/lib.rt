@@ -18,7 +18,7 @@ mod slots;
 
 pub use key_queue::KeyQueue;
 pub use key_set::KeySet;
-pub use names::NameTable;
-pub use numbers::NumberTable;
+pub use names::{NameSlot, NameTable};
+pub use numbers::{NumberSlot, NumberTable};
 pub use owner_table::{Bounded, OwnerTable};
 pub use series::Series;

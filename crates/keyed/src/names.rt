@@ -11,6 +11,9 @@ use ns_types::text::Text;
 use std::alloc::{AllocError, Global};
 use std::marker::Model;
 
+/// A slot of a table by name: the name with its row, or with none where the slot is vacant.
+pub type NameSlot<V> = (Text, Option<V>);
+
 /// A table by name: slots that have a row, or are vacant. A look-up among few is a binary search, among many it hashes the name.
 pub struct NameTable<V> {
     slots: Slots<Text, V>,
@@ -53,14 +56,14 @@ impl<V: Drop> NameTable<V> {
     }
 
     /// The slots with their keys, which rise.
-    pub fn as_slice(&self) -> &[(Text, Option<V>)]
+    pub fn as_slice(&self) -> &[NameSlot<V>]
         ensures { result.now ≡ entries self.now }
     {
         self.slots.as_slice()
     }
 
     /// A table of slots whose keys rise. Many names get an index, where there is memory for it.
-    pub fn from_slots(slots: Vec<(Text, Option<V>)>) -> NameTable<V>
+    pub fn from_slots(slots: Vec<NameSlot<V>>) -> NameTable<V>
         requires { T (is_sorted name_cmp slots.items) }
         ensures { result ≡ from_sorted slots.items }
     {
@@ -70,7 +73,7 @@ impl<V: Drop> NameTable<V> {
     }
 
     /// The slots with their keys, which rise.
-    pub fn into_slots(self) -> Vec<(Text, Option<V>)>
+    pub fn into_slots(self) -> Vec<NameSlot<V>>
         ensures { result.items ≡ entries self }
     {
         let NameTable { slots } = self;

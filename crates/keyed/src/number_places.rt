@@ -6,7 +6,7 @@ ghost use Rattle.keyed.specs.Levels.{Adds, Drops, Keeps};
 ghost use Rattle.keyed.specs.Levels.{has_numbered_room, holds_numbered, same_numbered};
 ghost use Rattle.keyed.specs.Table.{row_at};
 
-use crate::numbers::NumberTable;
+use crate::numbers::{NumberSlot, NumberTable};
 use std::alloc::{AllocError, Global};
 
 /// A set of numbers with places: by number, then by place.
@@ -33,7 +33,7 @@ impl NumberPlaces {
     }
 
     /// The numbers in their order, each with its places. A vacant slot has none.
-    pub(crate) fn as_slice(&self) -> &[(u64, Option<NumberTable<()>>)]
+    pub(crate) fn as_slice(&self) -> &[NumberSlot<NumberTable<()>>]
         ensures { result.now ≡ entries self.now.numbers }
     {
         self.numbers.as_slice()

@@ -11,6 +11,9 @@ use crate::slots::Slots;
 use std::alloc::{AllocError, Global};
 use std::marker::Model;
 
+/// A slot of a table by number: the number with its row, or with none where the slot is vacant.
+pub type NumberSlot<V> = (u64, Option<V>);
+
 /// A table by number: slots that have a row, or are vacant. A look-up is a binary search, which begins where the number stands
 /// in a table whose numbers rise by one.
 pub struct NumberTable<V> {
@@ -40,7 +43,7 @@ impl<V> Model for NumberTable<V> {
 }
 
 /// The number of the first row from `from` on, where the slots before `start` have smaller numbers.
-fn row_from<V>(slots: &[(u64, Option<V>)], start: usize, from: u64) -> Option<u64>
+fn row_from<V>(slots: &[NumberSlot<V>], start: usize, from: u64) -> Option<u64>
     requires sorted { T (is_sorted nat_cmp slots.now) }
     requires start { Passed nat_cmp from slots.now start }
     ensures { IsNextRow (from_sorted slots.now) from result }
@@ -71,14 +74,14 @@ impl<V: Drop> NumberTable<V> {
     }
 
     /// The slots with their keys, which rise.
-    pub fn as_slice(&self) -> &[(u64, Option<V>)]
+    pub fn as_slice(&self) -> &[NumberSlot<V>]
         ensures { result.now ≡ entries self.now }
     {
         self.slots.as_slice()
     }
 
     /// A table of slots whose keys rise. It needs no memory.
-    pub fn from_slots(slots: Vec<(u64, Option<V>)>) -> NumberTable<V>
+    pub fn from_slots(slots: Vec<NumberSlot<V>>) -> NumberTable<V>
         requires { T (is_sorted nat_cmp slots.items) }
         ensures { result ≡ from_sorted slots.items }
     {
@@ -88,7 +91,7 @@ impl<V: Drop> NumberTable<V> {
     }
 
     /// The slots with their keys, which rise.
-    pub fn into_slots(self) -> Vec<(u64, Option<V>)>
+    pub fn into_slots(self) -> Vec<NumberSlot<V>>
         ensures { result.items ≡ entries self }
     {
         let NumberTable { slots } = self;

@@ -6,7 +6,7 @@ ghost use Rattle.std.specs.FinMap.{empty, entries, insert, remove};
 ghost use Rattle.keyed.specs.Owned.{NoneAtBound};
 ghost use Rattle.keyed.specs.Table.{at_slot, emptied, has_slot, row_at, with_slot};
 
-use crate::names::NameTable;
+use crate::names::{NameSlot, NameTable};
 use ns_types::text::Text;
 use std::alloc::{AllocError, Global};
 use std::marker::Model;
@@ -56,7 +56,7 @@ impl<V: Bounded> Model for OwnerTable<V> {
 }
 
 /// Whether the slot's row is at its bound.
-fn is_slot_at_bound<V: Bounded>(slot: &(Text, Option<V>)) -> bool
+fn is_slot_at_bound<V: Bounded>(slot: &NameSlot<V>) -> bool
     ensures { result ≡ at_slot (λ e. V.at_bound e.1) slot.now }
 {
     match &slot.1 {
@@ -65,7 +65,7 @@ fn is_slot_at_bound<V: Bounded>(slot: &(Text, Option<V>)) -> bool
     }
 }
 
-fn any_at_bound<V: Bounded>(slots: &[(Text, Option<V>)]) -> bool
+fn any_at_bound<V: Bounded>(slots: &[NameSlot<V>]) -> bool
     ensures { result ≡ list_any (at_slot (λ e. V.at_bound e.1)) slots.now }
 {
     slots.iter().any(|slot| is_slot_at_bound(slot))
@@ -101,7 +101,7 @@ impl<V: Bounded + Drop> OwnerTable<V> {
     }
 
     /// The slots with their keys, which rise.
-    pub fn as_slice(&self) -> &[(Text, Option<V>)]
+    pub fn as_slice(&self) -> &[NameSlot<V>]
         ensures { result.now ≡ entries self.now }
     {
         self.table.as_slice()

@@ -9,7 +9,7 @@ ghost use Rattle.keyed.specs.Table.{row_at};
 
 use crate::names::NameTable;
 use crate::number_places::NumberPlaces;
-use crate::numbers::NumberTable;
+use crate::numbers::{NumberSlot, NumberTable};
 use ns_types::text::Text;
 use std::alloc::{AllocError, Global};
 
@@ -39,7 +39,7 @@ impl PlaceSet {
     }
 
     /// The numbers of the name's keys, which rise, each with its places. A vacant slot has none.
-    pub(crate) fn numbers_of(&self, name: &Text) -> &[(u64, Option<NumberTable<()>>)]
+    pub(crate) fn numbers_of(&self, name: &Text) -> &[NumberSlot<NumberTable<()>>]
         ensures { (n place : ℕ) → stands_in n result.now ≡ false
             → holds_place self.now (name.now, (n, place)) ≡ false }
     {

@@ -9,7 +9,7 @@ ghost use Rattle.ns_acl.specs.Tokens.{bootstrap_token, is_of, secret_in, with_to
 
 use crate::shown::{made_token, new_row};
 use crate::tables::put;
-use keyed::NameTable;
+use keyed::{NameSlot, NameTable};
 use ns_types::acl::{Token, TokenKind};
 use ns_types::reply::TokenShown;
 use ns_types::rows::Rows;
@@ -19,9 +19,6 @@ use std::alloc::{AllocError, Global};
 
 /// The accessor of the bootstrap token.
 const BOOTSTRAP_ACCESSOR: &str = "00000000-0000-0000-0000-000000000000";
-
-/// A secret with its token, or with room for one.
-type Slot = (Text, Option<Token>);
 
 /// The bootstrap token: a manager's.
 pub(crate) fn bootstrap_token(alloc: Global) -> Result<Token, AllocError>
@@ -42,7 +39,7 @@ pub(crate) fn is_bootstrap(accessor: &Text) -> bool
     accessor.as_str() == BOOTSTRAP_ACCESSOR
 }
 
-fn is_of(slot: &Slot, accessor: &Text) -> bool
+fn is_of(slot: &NameSlot<Token>, accessor: &Text) -> bool
     ensures { result ≡ is_of accessor.now slot.now }
 {
     match &slot.1 {
@@ -52,14 +49,14 @@ fn is_of(slot: &Slot, accessor: &Text) -> bool
 }
 
 /// Whether a token has that accessor.
-pub(crate) fn has_accessor(slots: &[Slot], accessor: &Text) -> bool
+pub(crate) fn has_accessor(slots: &[NameSlot<Token>], accessor: &Text) -> bool
     ensures { result ≡ list_any (is_of accessor.now) slots.now }
 {
     slots.iter().any(|slot| is_of(slot, accessor))
 }
 
 /// The secret of the first token with that accessor.
-pub(crate) fn secret_of<'a>(slots: &'a [Slot], accessor: &Text) -> Option<&'a Text>
+pub(crate) fn secret_of<'a>(slots: &'a [NameSlot<Token>], accessor: &Text) -> Option<&'a Text>
     ensures { option_copied result ≡ secret_in accessor.now slots.now }
 {
     slots

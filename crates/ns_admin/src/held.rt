@@ -14,7 +14,7 @@ ghost use Rattle.ns_admin.specs.Viewed.{is_unfinished, job_in, kept_in, live_in,
 ghost use Rattle.ns_tables.specs.World.{tenant_of};
 
 use crate::sharing::{is_withdrawn, same_quota};
-use keyed::NameTable;
+use keyed::{NameSlot, NameTable, NumberSlot};
 use ns_equality::same_text;
 use ns_tables::TenantRows;
 use ns_types::allocation::Allocation;
@@ -23,14 +23,6 @@ use ns_types::job::Job;
 use ns_types::records::Namespace;
 use ns_types::text::Text;
 use ns_types::worker::Worker;
-
-type JobSlot = (Text, Option<Job>);
-
-type EvaluationSlot = (u64, Option<Evaluation>);
-
-type WorkerSlot = (u64, Option<Worker>);
-
-type AllocationSlot = (u64, Option<Allocation>);
 
 /// The pools that are asked for.
 #[derive(Clone, Copy)]
@@ -59,7 +51,7 @@ fn is_open(evaluation: &Evaluation) -> bool
     matches!(evaluation.status, Status::Pending | Status::Blocked)
 }
 
-fn is_job_in(slot: &JobSlot, asked: &Asked) -> bool
+fn is_job_in(slot: &NameSlot<Job>, asked: &Asked) -> bool
     ensures { result ≡ at_slot (job_in (passes asked.now)) slot.now }
 {
     match &slot.1 {
@@ -68,7 +60,7 @@ fn is_job_in(slot: &JobSlot, asked: &Asked) -> bool
     }
 }
 
-fn is_unfinished(slot: &EvaluationSlot) -> bool
+fn is_unfinished(slot: &NumberSlot<Evaluation>) -> bool
     ensures { result ≡ at_slot is_unfinished slot.now }
 {
     match &slot.1 {
@@ -77,7 +69,7 @@ fn is_unfinished(slot: &EvaluationSlot) -> bool
     }
 }
 
-fn is_open_in(slot: &EvaluationSlot, asked: &Asked) -> bool
+fn is_open_in(slot: &NumberSlot<Evaluation>, asked: &Asked) -> bool
     ensures { result ≡ at_slot (open_in (passes asked.now)) slot.now }
 {
     match &slot.1 {
@@ -95,7 +87,7 @@ fn keeps_in(worker: &Worker, asked: &Asked) -> bool
     }
 }
 
-fn is_kept_in(slot: &WorkerSlot, asked: &Asked) -> bool
+fn is_kept_in(slot: &NumberSlot<Worker>, asked: &Asked) -> bool
     ensures { result ≡ at_slot (kept_in (passes asked.now)) slot.now }
 {
     match &slot.1 {
@@ -104,7 +96,7 @@ fn is_kept_in(slot: &WorkerSlot, asked: &Asked) -> bool
     }
 }
 
-fn lives(slot: &AllocationSlot) -> bool
+fn lives(slot: &NumberSlot<Allocation>) -> bool
     ensures { result ≡ at_slot lives slot.now }
 {
     match &slot.1 {
@@ -113,7 +105,7 @@ fn lives(slot: &AllocationSlot) -> bool
     }
 }
 
-fn is_live_in(slot: &AllocationSlot, asked: &Asked) -> bool
+fn is_live_in(slot: &NumberSlot<Allocation>, asked: &Asked) -> bool
     ensures { result ≡ at_slot (live_in (passes asked.now)) slot.now }
 {
     match &slot.1 {
@@ -124,37 +116,37 @@ fn is_live_in(slot: &AllocationSlot, asked: &Asked) -> bool
 
 // ---- some row
 
-fn any_job_in(slots: &[JobSlot], asked: &Asked) -> bool
+fn any_job_in(slots: &[NameSlot<Job>], asked: &Asked) -> bool
     ensures { result ≡ list_any (at_slot (job_in (passes asked.now))) slots.now }
 {
     slots.iter().any(|slot| is_job_in(slot, asked))
 }
 
-fn any_unfinished(slots: &[EvaluationSlot]) -> bool
+fn any_unfinished(slots: &[NumberSlot<Evaluation>]) -> bool
     ensures { result ≡ list_any (at_slot is_unfinished) slots.now }
 {
     slots.iter().any(|slot| is_unfinished(slot))
 }
 
-fn any_open_in(slots: &[EvaluationSlot], asked: &Asked) -> bool
+fn any_open_in(slots: &[NumberSlot<Evaluation>], asked: &Asked) -> bool
     ensures { result ≡ list_any (at_slot (open_in (passes asked.now))) slots.now }
 {
     slots.iter().any(|slot| is_open_in(slot, asked))
 }
 
-fn any_kept_in(slots: &[WorkerSlot], asked: &Asked) -> bool
+fn any_kept_in(slots: &[NumberSlot<Worker>], asked: &Asked) -> bool
     ensures { result ≡ list_any (at_slot (kept_in (passes asked.now))) slots.now }
 {
     slots.iter().any(|slot| is_kept_in(slot, asked))
 }
 
-fn any_lives(slots: &[AllocationSlot]) -> bool
+fn any_lives(slots: &[NumberSlot<Allocation>]) -> bool
     ensures { result ≡ list_any (at_slot lives) slots.now }
 {
     slots.iter().any(|slot| lives(slot))
 }
 
-fn any_live_in(slots: &[AllocationSlot], asked: &Asked) -> bool
+fn any_live_in(slots: &[NumberSlot<Allocation>], asked: &Asked) -> bool
     ensures { result ≡ list_any (at_slot (live_in (passes asked.now))) slots.now }
 {
     slots.iter().any(|slot| is_live_in(slot, asked))

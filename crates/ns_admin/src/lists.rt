@@ -7,7 +7,7 @@ ghost use Rattle.ns_admin.specs.Calls.{ListsPassing, ShowsPassing};
 ghost use Rattle.ns_admin.specs.Viewed.{namespace_shown, pool_shown, quota_shown};
 ghost use Rattle.ns_tables.specs.World.{world_of};
 
-use crate::looking::Slot;
+use keyed::NameSlot;
 use ns_tables::{PoolRows, QuotaRows, Tables, TenantRows};
 use ns_types::reply::{Content, NamespaceShown, PoolShown, QuotaShown};
 use ns_types::rows::Rows;
@@ -52,7 +52,7 @@ impl Listed for PoolRows {
     }
 }
 
-fn show_quotas(alloc: Global, slots: &[Slot<QuotaRows>]) -> Result<Rows<QuotaShown>, AllocError>
+fn show_quotas(alloc: Global, slots: &[NameSlot<QuotaRows>]) -> Result<Rows<QuotaShown>, AllocError>
     ensures { IfOk result (λ shown. shown ≡ map quota_shown (row_list slots.now)) }
 {
     let mut shown = Rows::new(alloc);
@@ -72,7 +72,7 @@ fn show_quotas(alloc: Global, slots: &[Slot<QuotaRows>]) -> Result<Rows<QuotaSho
 /// What lists show of the rows whose names pass, by name.
 fn show_passing<V: Listed, F: Fn(&Text) -> bool>(
     alloc: Global,
-    slots: &[Slot<V>],
+    slots: &[NameSlot<V>],
     shows: F,
 ) -> Result<Rows<V::Shown>, AllocError>
     requires { F.IsAlwaysCallable shows }

@@ -11,7 +11,7 @@ ghost use Rattle.ns_admin.specs.Viewed.{is_confined_in, overlaps_other, permits_
 ghost use Rattle.ns_tables.specs.World.{world_of};
 
 use crate::sharing::{is_confined, overlaps, permits};
-use keyed::NameTable;
+use keyed::{NameSlot, NameTable};
 use ns_equality::same_text;
 use ns_tables::{Tables, TenantRows};
 use ns_types::records::Namespace;
@@ -22,9 +22,6 @@ pub(crate) const DEFAULT: &str = "default";
 
 /// How many namespaces, pools and quotas there may be, of each.
 const MOST_ROWS: usize = 10000;
-
-/// A slot of a table by name: its key, and its row unless it is vacant.
-pub(crate) type Slot<V> = (Text, Option<V>);
 
 /// Whether it is the name of what is there from the start, and is not deleted.
 #[tactic(auto, using(ns_types::proofs::Named::text_ties))]
@@ -73,7 +70,7 @@ pub fn is_confined_in(tables: &Tables, name: &Text) -> bool
     }
 }
 
-fn overlaps_slot(slot: &Slot<TenantRows>, name: &Text, namespace: &Namespace) -> bool
+fn overlaps_slot(slot: &NameSlot<TenantRows>, name: &Text, namespace: &Namespace) -> bool
     ensures { result ≡ at_slot (overlaps_other name.now namespace.now) slot.now }
 {
     match &slot.1 {
@@ -82,7 +79,7 @@ fn overlaps_slot(slot: &Slot<TenantRows>, name: &Text, namespace: &Namespace) ->
     }
 }
 
-fn overlaps_any(slots: &[Slot<TenantRows>], name: &Text, namespace: &Namespace) -> bool
+fn overlaps_any(slots: &[NameSlot<TenantRows>], name: &Text, namespace: &Namespace) -> bool
     ensures { result ≡ list_any (at_slot (overlaps_other name.now namespace.now)) slots.now }
 {
     slots

@@ -10,17 +10,17 @@ ghost use Rattle.ns_admin.specs.Viewed.{tenant_uses_pool};
 ghost use Rattle.ns_tables.specs.World.{pool_of, world_of};
 
 use crate::held::{Asked, has_rows, looks_to_pool};
-use crate::looking::{Slot, is_default, is_full};
+use crate::looking::{is_default, is_full};
 use crate::record::RecordChange;
 use crate::sharing::names_pool;
-use keyed::{NameTable, Series};
+use keyed::{NameSlot, NameTable, Series};
 use ns_tables::{PoolRows, Tables, TenantRows};
 use ns_types::records::Pool;
 use ns_types::refusal::Refusal;
 use ns_types::text::Text;
 use std::alloc::Global;
 
-fn uses_pool(slot: &Slot<TenantRows>, pool: &Text) -> bool
+fn uses_pool(slot: &NameSlot<TenantRows>, pool: &Text) -> bool
     ensures { result ≡ at_slot (tenant_uses_pool pool.now) slot.now }
 {
     match &slot.1 {
@@ -31,7 +31,7 @@ fn uses_pool(slot: &Slot<TenantRows>, pool: &Text) -> bool
     }
 }
 
-fn any_uses_pool(slots: &[Slot<TenantRows>], pool: &Text) -> bool
+fn any_uses_pool(slots: &[NameSlot<TenantRows>], pool: &Text) -> bool
     ensures { result ≡ list_any (at_slot (tenant_uses_pool pool.now)) slots.now }
 {
     slots.iter().any(|slot| uses_pool(slot, pool))

@@ -8,14 +8,12 @@ ghost use Rattle.ns_queues.specs.Turns.{IsRight};
 ghost use Rattle.ns_tables.specs.World.{world_of};
 
 use crate::serving::served;
+use keyed::NameSlot;
 use ns_queues::Turns;
 use ns_tables::{Tables, TenantRows};
 use ns_types::key::EvalKey;
 use ns_types::text::Text;
 use ns_types::worker::{Phase, Worker};
-
-/// A namespace with what it owns, or a vacant slot.
-type TenantSlot = (Text, Option<TenantRows>);
 
 /// What a worker is busy with.
 #[derive(Clone, Copy)]
@@ -65,7 +63,7 @@ pub fn worker_at<'a>(tables: &'a Tables, number: u64, namespace: &Text) -> Optio
 }
 
 /// Whether the worker has an evaluation of the namespace.
-fn is_busy_for(slot: &TenantSlot, number: u64) -> bool
+fn is_busy_for(slot: &NameSlot<TenantRows>, number: u64) -> bool
     ensures { result ≡ is_busy_for number slot.now }
 {
     match &slot.1 {
@@ -75,7 +73,7 @@ fn is_busy_for(slot: &TenantSlot, number: u64) -> bool
 }
 
 /// The first namespace for which the worker is busy.
-fn busy_slot(slots: &[TenantSlot], number: u64) -> Option<&TenantSlot>
+fn busy_slot(slots: &[NameSlot<TenantRows>], number: u64) -> Option<&NameSlot<TenantRows>>
     ensures { option_copied result ≡ find (is_busy_for number) slots.now }
 {
     slots.iter().find(|slot| is_busy_for(slot, number))

@@ -5,12 +5,9 @@ ghost use Rattle.ns_types.specs.Working.Queue.{priority_at, served};
 ghost use Rattle.ns_broker.specs.Serving.{preferred_at};
 ghost use Rattle.ns_tables.specs.World.{world_of};
 
-use keyed::KeyQueue;
+use keyed::{KeyQueue, NumberSlot};
 use ns_tables::Tables;
 use ns_types::key::EvalKey;
-
-/// A place of a list with its key, or a vacant one.
-type KeySlot = (u64, Option<EvalKey>);
 
 /// The priority of an evaluation, or none.
 fn priority(tables: &Tables, key: &EvalKey) -> u64
@@ -26,7 +23,7 @@ fn priority(tables: &Tables, key: &EvalKey) -> u64
 fn preferred<'a>(
     tables: &Tables,
     first: Option<&'a EvalKey>,
-    slot: &'a KeySlot,
+    slot: &'a NumberSlot<EvalKey>,
 ) -> Option<&'a EvalKey>
     ensures { option_copied result
         ≡ preferred_at (priority_at (world_of tables.now)) (option_copied first.entry) slot.now }

@@ -14,16 +14,13 @@ use crate::change::Change;
 use crate::editing::set_status;
 use crate::lists::{add_ready, take_blocked};
 use crate::queueing::is_busy;
-use keyed::NumberTable;
+use keyed::{NumberSlot, NumberTable};
 use ns_equality::same_text;
 use ns_tables::{Tables, TenantRows};
 use ns_types::evaluation::{Evaluation, Status};
 use ns_types::key::EvalKey;
 use ns_types::text::Text;
 use std::alloc::AllocError;
-
-/// An evaluation with its number, or a vacant slot.
-type EvaluationSlot = (u64, Option<Evaluation>);
 
 fn stands(wanted: Status, status: Status) -> bool
     ensures { result ≡ stands wanted status }
@@ -41,7 +38,7 @@ fn is_row_of(row: &Evaluation, job: &Text, wanted: Status) -> bool
     same_text(job, &row.job) && stands(wanted, row.status)
 }
 
-fn is_of(slot: &EvaluationSlot, job: &Text, wanted: Status) -> bool
+fn is_of(slot: &NumberSlot<Evaluation>, job: &Text, wanted: Status) -> bool
     ensures { result ≡ at_slot (standing wanted job.now) slot.now }
 {
     match &slot.1 {
@@ -50,7 +47,7 @@ fn is_of(slot: &EvaluationSlot, job: &Text, wanted: Status) -> bool
     }
 }
 
-fn first_in(slots: &[EvaluationSlot], job: &Text, wanted: Status) -> Option<u64>
+fn first_in(slots: &[NumberSlot<Evaluation>], job: &Text, wanted: Status) -> Option<u64>
     ensures { result ≡ first_slot (at_slot (standing wanted job.now)) slots.now }
 {
     for slot in slots {
@@ -72,14 +69,11 @@ fn is_stored(tenant: &TenantRows, job: &Text, wanted: Status, number: u64) -> bo
     }
 }
 
-/// A number, or a vacant slot.
-type NumberSlot = (u64, Option<()>);
-
 fn first_numbered(
     tenant: &TenantRows,
     job: &Text,
     wanted: Status,
-    slots: &[NumberSlot],
+    slots: &[NumberSlot<()>],
 ) -> Option<u64>
     ensures { result ≡ first_slot (λ slot. row_passes (of_job (stands wanted) job.now)
         (rows tenant.now.evaluations.slots) slot.0) slots.now }
@@ -98,7 +92,7 @@ fn first_unchanged(
     changed: &NumberTable<Evaluation>,
     job: &Text,
     wanted: Status,
-    slots: &[NumberSlot],
+    slots: &[NumberSlot<()>],
 ) -> Option<u64>
     ensures { result ≡ first_slot (λ slot. unheld_passes (of_job (stands wanted) job.now)
         (rows tenant.now.evaluations.slots) changed.now slot.0) slots.now }

@@ -16,7 +16,7 @@ use crate::editing::set_status;
 use crate::following::add_evaluation;
 use crate::lists::{add_ready, take_out};
 use crate::looking::evaluation;
-use keyed::{KeyQueue, NumberTable};
+use keyed::{KeyQueue, NumberSlot, NumberTable};
 use ns_equality::{same_number, same_text};
 use ns_tables::{Tables, TenantRows};
 use ns_types::evaluation::{Evaluation, Status};
@@ -213,15 +213,12 @@ fn works_on(
     }
 }
 
-/// A row of a worker with its number, or a vacant slot.
-type WorkerSlot = (u64, Option<Worker>);
-
 fn any_works(
     tables: &Tables,
     change: &Change,
     namespace: &Text,
     job: &Text,
-    slots: &[WorkerSlot],
+    slots: &[NumberSlot<Worker>],
 ) -> bool
     ensures { result ≡ list_any (works_on tables.now change.now namespace.now job.now) slots.now }
 {
@@ -240,7 +237,7 @@ fn another_works(
     namespace: &Text,
     job: &Text,
     changed: &NumberTable<Worker>,
-    slots: &[WorkerSlot],
+    slots: &[NumberSlot<Worker>],
 ) -> bool
     ensures { result ≡ list_any (is_left changed.now
         (works_on tables.now change.now namespace.now job.now)) slots.now }

@@ -5,18 +5,15 @@ ghost use Rattle.keyed.specs.Queue.{passing_at};
 ghost use Rattle.ns_copies.specs.Chosen.{is_chosen};
 
 use crate::choosing::Chosen;
-use keyed::KeyQueue;
+use keyed::{KeyQueue, NumberSlot};
 use ns_types::key::EvalKey;
 use ns_types::rows::Rows;
 use std::alloc::{AllocError, Global};
 
-/// A place of a list with its key, or a vacant one.
-type KeySlot = (u64, Option<EvalKey>);
-
 /// Puts the key at this place behind the others, where its namespace is chosen.
 fn add_chosen(
     keys: &mut Rows<EvalKey>,
-    slot: &KeySlot,
+    slot: &NumberSlot<EvalKey>,
     spaces: Chosen<'_>,
 ) -> Result<(), AllocError>
     ensures { OnOk result (keys.new

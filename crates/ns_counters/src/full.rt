@@ -17,6 +17,7 @@ ghost use Rattle.ns_tables.specs.World.{tenant_of, world_of};
 
 use crate::at_bound::wakes_may_pass;
 use crate::awake::changes_awake;
+use keyed::{NameSlot, NumberSlot};
 use ns_change::{Change, PoolChange, TenantChange, evaluation};
 use ns_equality::{same_number, same_text};
 use ns_release::{
@@ -27,21 +28,6 @@ use ns_types::evaluation::Evaluation;
 use ns_types::key::EvalKey;
 use ns_types::node::{Node, Offer};
 use ns_types::text::Text;
-
-/// A changed node with its name, or one that is gone.
-type NodeSlot = (Text, Option<Node>);
-
-/// A changed pool with its name.
-type PoolSlot = (Text, Option<PoolChange>);
-
-/// A changed evaluation with its number, or one that is gone.
-type EvaluationSlot = (u64, Option<Evaluation>);
-
-/// An entry of `blocked` with its place, or a vacant slot.
-type EntrySlot = (u64, Option<EvalKey>);
-
-/// A changed namespace with its name.
-type TenantSlot = (Text, Option<TenantChange>);
 
 /// Whether a number has passed the bound. None has that fits its type.
 fn is_past(number: u64) -> bool
@@ -115,7 +101,7 @@ fn waking_passes(tables: &Tables, change: &Change, key: &EvalKey) -> bool
     }
 }
 
-fn slot_passes(tables: &Tables, change: &Change, slot: &EntrySlot) -> bool
+fn slot_passes(tables: &Tables, change: &Change, slot: &NumberSlot<EvalKey>) -> bool
     ensures { result ≡ at_slot (λ e. waking_passes (world_of tables.now) change.now e.1) slot.now }
 {
     match &slot.1 {
@@ -124,7 +110,7 @@ fn slot_passes(tables: &Tables, change: &Change, slot: &EntrySlot) -> bool
     }
 }
 
-fn any_waking_passes(tables: &Tables, change: &Change, slots: &[EntrySlot]) -> bool
+fn any_waking_passes(tables: &Tables, change: &Change, slots: &[NumberSlot<EvalKey>]) -> bool
     ensures { result
         ≡ list_any (at_slot (λ e. waking_passes (world_of tables.now) change.now e.1)) slots.now }
 {
@@ -169,7 +155,7 @@ fn is_waking_slot(
     change: &Change,
     namespace: &Text,
     number: u64,
-    slot: &EntrySlot,
+    slot: &NumberSlot<EvalKey>,
 ) -> bool
     ensures { result ≡ at_slot (λ e. same_key (namespace.now, number) e.1
         && does_wake (world_of tables.now) change.now e.1) slot.now }
@@ -185,7 +171,7 @@ fn any_waking_slot(
     change: &Change,
     namespace: &Text,
     number: u64,
-    slots: &[EntrySlot],
+    slots: &[NumberSlot<EvalKey>],
 ) -> bool
     ensures { result ≡ list_any (at_slot (λ e. same_key (namespace.now, number) e.1
         && does_wake (world_of tables.now) change.now e.1)) slots.now }
@@ -207,7 +193,7 @@ fn shows_asleep(
     change: &Change,
     namespace: &Text,
     tenant: &TenantRows,
-    slot: &EvaluationSlot,
+    slot: &NumberSlot<Evaluation>,
 ) -> bool
     ensures { result ≡ shows_asleep (world_of tables.now) change.now namespace.now
         (tenant_of tenant.now) slot.now }
@@ -224,7 +210,7 @@ fn any_shows_asleep(
     change: &Change,
     namespace: &Text,
     tenant: &TenantRows,
-    slots: &[EvaluationSlot],
+    slots: &[NumberSlot<Evaluation>],
 ) -> bool
     ensures { result ≡ list_any (shows_asleep (world_of tables.now) change.now namespace.now
         (tenant_of tenant.now)) slots.now }
@@ -274,7 +260,7 @@ fn passes_in(
         || is_at_bound(tenant.index) && touches_asleep(tables, change, namespace, tenant, changed)
 }
 
-fn tenant_passes(tables: &Tables, change: &Change, slot: &TenantSlot) -> bool
+fn tenant_passes(tables: &Tables, change: &Change, slot: &NameSlot<TenantChange>) -> bool
     ensures { result ≡ tenant_passes (world_of tables.now) change.now slot.now }
 {
     let Some(changed) = &slot.1 else {
@@ -286,7 +272,7 @@ fn tenant_passes(tables: &Tables, change: &Change, slot: &TenantSlot) -> bool
     }
 }
 
-fn any_tenant_passes(tables: &Tables, change: &Change, slots: &[TenantSlot]) -> bool
+fn any_tenant_passes(tables: &Tables, change: &Change, slots: &[NameSlot<TenantChange>]) -> bool
     ensures { result ≡ list_any (tenant_passes (world_of tables.now) change.now) slots.now }
 {
     slots.iter().any(|slot| tenant_passes(tables, change, slot))
@@ -301,7 +287,7 @@ fn tenants_pass(tables: &Tables, change: &Change) -> bool
 
 // ---- pools
 
-fn is_place_past(slot: &NodeSlot) -> bool
+fn is_place_past(slot: &NameSlot<Node>) -> bool
     ensures { result ≡ is_place_past slot.now }
 {
     match &slot.1 {
@@ -310,13 +296,13 @@ fn is_place_past(slot: &NodeSlot) -> bool
     }
 }
 
-fn any_place_past(slots: &[NodeSlot]) -> bool
+fn any_place_past(slots: &[NameSlot<Node>]) -> bool
     ensures { result ≡ list_any is_place_past slots.now }
 {
     slots.iter().any(|slot| is_place_past(slot))
 }
 
-fn places_pass(tables: &Tables, slot: &PoolSlot) -> bool
+fn places_pass(tables: &Tables, slot: &NameSlot<PoolChange>) -> bool
     ensures { result ≡ places_pass (world_of tables.now) slot.now }
 {
     let Some(changed) = &slot.1 else {
@@ -328,7 +314,7 @@ fn places_pass(tables: &Tables, slot: &PoolSlot) -> bool
     }
 }
 
-fn any_places_pass(tables: &Tables, slots: &[PoolSlot]) -> bool
+fn any_places_pass(tables: &Tables, slots: &[NameSlot<PoolChange>]) -> bool
     ensures { result ≡ list_any (places_pass (world_of tables.now)) slots.now }
 {
     slots.iter().any(|slot| places_pass(tables, slot))

@@ -16,6 +16,7 @@ ghost use Rattle.ns_tables.specs.World.{tenant_of, world_of};
 use crate::at_bound::wakes_may_pass;
 use crate::awake::changes_awake;
 use crate::full::Counters;
+use keyed::NumberSlot;
 use ns_equality::same_text;
 use ns_release::Question;
 use ns_tables::{Tables, TenantRows, is_at_bound};
@@ -23,9 +24,6 @@ use ns_types::evaluation::Evaluation;
 use ns_types::key::EvalKey;
 use ns_types::node::Offer;
 use ns_types::text::Text;
-
-/// An entry of `blocked` with its place, or a vacant slot.
-type EntrySlot = (u64, Option<EvalKey>);
 
 /// What a step gives, and nothing else.
 trait Given {
@@ -130,7 +128,7 @@ fn waking_passes<G: Given>(given: &G, tables: &Tables, key: &EvalKey) -> bool
     }
 }
 
-fn slot_passes<G: Given>(given: &G, tables: &Tables, slot: &EntrySlot) -> bool
+fn slot_passes<G: Given>(given: &G, tables: &Tables, slot: &NumberSlot<EvalKey>) -> bool
     ensures { result ≡ at_slot (λ e. given_waking_passes (world_of tables.now) (G.rooms given.now)
         (G.quotas given.now) e.1) slot.now }
 {
@@ -140,7 +138,7 @@ fn slot_passes<G: Given>(given: &G, tables: &Tables, slot: &EntrySlot) -> bool
     }
 }
 
-fn any_waking_passes<G: Given>(given: &G, tables: &Tables, slots: &[EntrySlot]) -> bool
+fn any_waking_passes<G: Given>(given: &G, tables: &Tables, slots: &[NumberSlot<EvalKey>]) -> bool
     ensures { result ≡ list_any (at_slot (λ e. given_waking_passes (world_of tables.now)
         (G.rooms given.now) (G.quotas given.now) e.1)) slots.now }
 {

@@ -13,14 +13,11 @@ ghost use Rattle.ns_types.specs.State.Resources.{IsTotal};
 ghost use Rattle.ns_live_index.specs.Naming.{AreTotals, HasNameRoom, HoldsSame, KeepsTotals, PutsQuota, PutsUse};
 ghost use Rattle.ns_live_index.specs.Naming.{has_room_at, holds_at, is_quota, row_name, total_at};
 
-use keyed::NameTable;
+use keyed::{NameSlot, NameTable};
 use ns_types::resources::{Resources, moved, none};
 use ns_types::rows::Rows;
 use ns_types::text::{Text, same_text};
 use std::alloc::{AllocError, Global};
-
-/// A name, or room for it.
-type NameSlot = (Text, Option<()>);
 
 /// What names a quota: some namespaces, of which a vacant slot is room for one, and the total of what they use. Its sums
 /// wrap.
@@ -56,7 +53,7 @@ impl QuotaNames {
     }
 
     /// The slots of the quota's namespaces, where it has some.
-    pub(crate) fn names_of(&self, quota: &Text) -> Option<&[NameSlot]>
+    pub(crate) fn names_of(&self, quota: &Text) -> Option<&[NameSlot<()>]>
         ensures { option_copied result
             ≡ option_map (λ held. entries held.names) (row_at self.now.quotas quota.now) }
     {
@@ -208,7 +205,7 @@ impl QuotaNames {
 
 // ---- the namespaces of a quota
 
-fn add_name(names: &mut Rows<Text>, slot: &NameSlot) -> Result<(), AllocError>
+fn add_name(names: &mut Rows<Text>, slot: &NameSlot<()>) -> Result<(), AllocError>
     ensures { OnOk result (names.new ≡ names.old ++ row_name slot.now) }
 {
     if slot.1.is_some() {
@@ -218,14 +215,14 @@ fn add_name(names: &mut Rows<Text>, slot: &NameSlot) -> Result<(), AllocError>
 }
 
 /// Whether there is a name.
-pub(crate) fn has_name(slots: &[NameSlot]) -> bool
+pub(crate) fn has_name(slots: &[NameSlot<()>]) -> bool
     ensures { result ≡ list_any (at_slot (λ _. true)) slots.now }
 {
     slots.iter().any(|slot| slot.1.is_some())
 }
 
 /// The names, in their order. Want of memory is the only error.
-pub(crate) fn copied_names(alloc: Global, slots: &[NameSlot]) -> Result<Rows<Text>, AllocError>
+pub(crate) fn copied_names(alloc: Global, slots: &[NameSlot<()>]) -> Result<Rows<Text>, AllocError>
     ensures { IfOk result (λ names. names ≡ flat_map row_name slots.now) }
 {
     let mut names = Rows::new(alloc);

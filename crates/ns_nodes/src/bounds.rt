@@ -12,8 +12,9 @@ ghost use Rattle.ns_counters.specs.Bounds.{is_at_bound};
 ghost use Rattle.ns_counters.specs.Given.{given_room_passes, left_quota_passes};
 ghost use Rattle.ns_tables.specs.World.{tenant_of, world_of};
 
-use crate::losing::{NumberSlot, NumbersSlot, numbers_pass_at};
+use crate::losing::numbers_pass_at;
 use crate::removed::is_ready;
+use keyed::{NameSlot, NumberSlot, NumberTable};
 use ns_change::is_live_on;
 use ns_counters::{given_room_passes, is_at_bound, left_quota_passes};
 use ns_equality::{is_free, same_offer};
@@ -63,7 +64,7 @@ pub(crate) fn freed_passes(
 
 // ---- allocations that are lost
 
-fn is_live_at(pool: &Text, node: &Text, tenant: &TenantRows, slot: &NumberSlot) -> bool
+fn is_live_at(pool: &Text, node: &Text, tenant: &TenantRows, slot: &NumberSlot<()>) -> bool
     ensures { result ≡ is_live_at pool.now node.now (tenant_of tenant.now) slot.now }
 {
     match tenant.allocations.get(slot.0) {
@@ -73,7 +74,7 @@ fn is_live_at(pool: &Text, node: &Text, tenant: &TenantRows, slot: &NumberSlot) 
 }
 
 /// Whether the namespace has an allocation that is live on the node, by the numbers that the index has of it.
-fn any_is_live(pool: &Text, node: &Text, tenant: &TenantRows, slots: &[NumberSlot]) -> bool
+fn any_is_live(pool: &Text, node: &Text, tenant: &TenantRows, slots: &[NumberSlot<()>]) -> bool
     ensures { result ≡ list_any (is_live_at pool.now node.now (tenant_of tenant.now)) slots.now }
 {
     slots
@@ -86,7 +87,7 @@ fn own_passes(
     pool: &Text,
     node: &Text,
     tenant: &TenantRows,
-    slots: &[NumberSlot],
+    slots: &[NumberSlot<()>],
 ) -> bool
     ensures { let t = tenant_of tenant.now in
         result ≡ (is_at_bound t.index || numbers_pass_at pool.now node.now t slots.now
@@ -102,7 +103,7 @@ fn tenant_passes(
     pool: &Text,
     node: &Text,
     tenant: &TenantRows,
-    slots: &[NumberSlot],
+    slots: &[NumberSlot<()>],
 ) -> bool
     ensures { result ≡ tenant_passes_at (world_of tables.now) pool.now node.now
         (tenant_of tenant.now) slots.now }
@@ -110,7 +111,12 @@ fn tenant_passes(
     any_is_live(pool, node, tenant, slots) && own_passes(tables, pool, node, tenant, slots)
 }
 
-fn loss_passes_at(tables: &Tables, pool: &Text, node: &Text, slot: &NumbersSlot) -> bool
+fn loss_passes_at(
+    tables: &Tables,
+    pool: &Text,
+    node: &Text,
+    slot: &NameSlot<NumberTable<()>>,
+) -> bool
     ensures { result ≡ loss_passes_at (world_of tables.now) pool.now node.now slot.now }
 {
     let Some(numbers) = &slot.1 else {
@@ -122,7 +128,12 @@ fn loss_passes_at(tables: &Tables, pool: &Text, node: &Text, slot: &NumbersSlot)
     }
 }
 
-fn any_loss_passes(tables: &Tables, pool: &Text, node: &Text, slots: &[NumbersSlot]) -> bool
+fn any_loss_passes(
+    tables: &Tables,
+    pool: &Text,
+    node: &Text,
+    slots: &[NameSlot<NumberTable<()>>],
+) -> bool
     ensures { result
         ≡ list_any (loss_passes_at (world_of tables.now) pool.now node.now) slots.now }
 {

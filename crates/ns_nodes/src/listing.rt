@@ -9,6 +9,7 @@ ghost use Rattle.ns_live_index.specs.Index.{IsRight};
 ghost use Rattle.ns_nodes.specs.Listed.{LoadsFit, node_shown, shown_at};
 ghost use Rattle.ns_tables.specs.World.{world_of};
 
+use keyed::NameSlot;
 use ns_change::copied_node;
 use ns_live_index::Live;
 use ns_tables::Tables;
@@ -18,9 +19,6 @@ use ns_types::reply::{Content, NodeShown};
 use ns_types::rows::Rows;
 use ns_types::text::Text;
 use std::alloc::AllocError;
-
-/// A node with its name, or a vacant slot.
-type NodeSlot = (Text, Option<Node>);
 
 fn node_shown(live: &Live, pool: &Text, name: &Text, node: &Node) -> Result<NodeShown, AllocError>
     ensures { (w : World) → IsRight w live.now → LoadsFit w pool.now →
@@ -38,7 +36,7 @@ fn add_shown(
     shown: &mut Rows<NodeShown>,
     live: &Live,
     pool: &Text,
-    slot: &NodeSlot,
+    slot: &NameSlot<Node>,
 ) -> Result<(), AllocError>
     ensures { (w : World) → IsRight w live.now → LoadsFit w pool.now →
         OnOk result (shown.new ≡ shown.old ++ shown_at w pool.now slot.now) }
@@ -53,7 +51,7 @@ fn add_all_shown(
     shown: &mut Rows<NodeShown>,
     live: &Live,
     pool: &Text,
-    slots: &[NodeSlot],
+    slots: &[NameSlot<Node>],
 ) -> Result<(), AllocError>
     ensures { (w : World) → IsRight w live.now → LoadsFit w pool.now →
         OnOk result (shown.new ≡ shown.old ++ flat_map (shown_at w pool.now) slots.now) }

@@ -10,7 +10,7 @@ ghost use Rattle.ns_nodes.specs.Losing.{is_last_of_job, is_losing, key_at, losin
 ghost use Rattle.ns_nodes.specs.Losing.{looked, numbers_pass_at, with_losing};
 ghost use Rattle.ns_tables.specs.World.{tenant_of, world_of};
 
-use keyed::{NameTable, NumberTable};
+use keyed::{NameSlot, NameTable, NumberSlot, NumberTable};
 use ns_change::is_live_on;
 use ns_equality::same_text;
 use ns_live_index::Live;
@@ -20,15 +20,6 @@ use ns_types::key::EvalKey;
 use ns_types::rows::Rows;
 use ns_types::text::Text;
 use std::alloc::{AllocError, Global};
-
-/// The number of an allocation that is live on the node, or a vacant slot.
-pub(crate) type NumberSlot = (u64, Option<()>);
-
-/// A namespace with the numbers of its allocations that are live on the node, or a vacant slot.
-pub(crate) type NumbersSlot = (Text, Option<NumberTable<()>>);
-
-/// A job's id with the number of its allocation, or a vacant slot.
-type JobSlot = (Text, Option<u64>);
 
 // ---- numbers
 
@@ -40,7 +31,13 @@ fn is_of_job(pool: &Text, node: &Text, job: &Text, row: &Allocation) -> bool
 }
 
 /// Whether the row at the number is of the job, and live on the node.
-fn is_losing(pool: &Text, node: &Text, job: &Text, tenant: &TenantRows, slot: &NumberSlot) -> bool
+fn is_losing(
+    pool: &Text,
+    node: &Text,
+    job: &Text,
+    tenant: &TenantRows,
+    slot: &NumberSlot<()>,
+) -> bool
     ensures { result
         ≡ is_losing pool.now node.now job.now (looked (tenant_of tenant.now) slot.now) }
 {
@@ -55,7 +52,7 @@ fn any_is_losing(
     node: &Text,
     job: &Text,
     tenant: &TenantRows,
-    slots: &[NumberSlot],
+    slots: &[NumberSlot<()>],
 ) -> bool
     ensures { let t = tenant_of tenant.now in
         result ≡ list_any (λ slot. is_losing pool.now node.now job.now (looked t slot)) slots.now }
@@ -71,7 +68,7 @@ fn is_last(
     node: &Text,
     tenant: &TenantRows,
     row: &Allocation,
-    later: &[NumberSlot],
+    later: &[NumberSlot<()>],
 ) -> bool
     ensures { let t = tenant_of tenant.now in
         let is_of = is_losing pool.now node.now row.now.job in
@@ -86,8 +83,8 @@ fn is_last_of_job(
     pool: &Text,
     node: &Text,
     tenant: &TenantRows,
-    slot: &NumberSlot,
-    later: &[NumberSlot],
+    slot: &NumberSlot<()>,
+    later: &[NumberSlot<()>],
 ) -> bool
     ensures { let t = tenant_of tenant.now in
         result ≡ is_last_of_job pool.now node.now (looked t slot.now) (map (looked t) later.now) }
@@ -104,7 +101,7 @@ pub(crate) fn numbers_pass_at(
     pool: &Text,
     node: &Text,
     tenant: &TenantRows,
-    slots: &[NumberSlot],
+    slots: &[NumberSlot<()>],
 ) -> bool
     ensures { result ≡ numbers_pass_at pool.now node.now (tenant_of tenant.now) slots.now }
 {
@@ -148,7 +145,7 @@ fn put_losing_at(
     pool: &Text,
     node: &Text,
     tenant: &TenantRows,
-    slot: &NumberSlot,
+    slot: &NumberSlot<()>,
 ) -> Result<(), AllocError>
     ensures { let row = looked (tenant_of tenant.now) slot.now in
         OnOk result (losing.new ≡ with_losing pool.now node.now losing.old row) }
@@ -165,7 +162,7 @@ fn losing_numbers(
     pool: &Text,
     node: &Text,
     tenant: &TenantRows,
-    slots: &[NumberSlot],
+    slots: &[NumberSlot<()>],
 ) -> Result<NameTable<u64>, AllocError>
     ensures { let rows = map (looked (tenant_of tenant.now)) slots.now in
         IfOk result (λ losing. losing ≡ fold (with_losing pool.now node.now) empty rows) }
@@ -177,7 +174,11 @@ fn losing_numbers(
     Ok(losing)
 }
 
-fn add_key(keys: &mut Rows<EvalKey>, namespace: &Text, slot: &JobSlot) -> Result<(), AllocError>
+fn add_key(
+    keys: &mut Rows<EvalKey>,
+    namespace: &Text,
+    slot: &NameSlot<u64>,
+) -> Result<(), AllocError>
     ensures { OnOk result (keys.new ≡ keys.old ++ key_at namespace.now slot.now) }
 {
     if let Some(number) = &slot.1 {
@@ -186,7 +187,11 @@ fn add_key(keys: &mut Rows<EvalKey>, namespace: &Text, slot: &JobSlot) -> Result
     Ok(())
 }
 
-fn add_keys(keys: &mut Rows<EvalKey>, namespace: &Text, slots: &[JobSlot]) -> Result<(), AllocError>
+fn add_keys(
+    keys: &mut Rows<EvalKey>,
+    namespace: &Text,
+    slots: &[NameSlot<u64>],
+) -> Result<(), AllocError>
     ensures { OnOk result (keys.new ≡ keys.old ++ flat_map (key_at namespace.now) slots.now) }
 {
     for slot in slots {
@@ -200,7 +205,7 @@ fn add_keys_at(
     tables: &Tables,
     pool: &Text,
     node: &Text,
-    slot: &NumbersSlot,
+    slot: &NameSlot<NumberTable<()>>,
 ) -> Result<(), AllocError>
     ensures { OnOk result (keys.new
         ≡ keys.old ++ losing_keys_at (world_of tables.now) pool.now node.now slot.now) }
@@ -220,7 +225,7 @@ fn add_all_keys(
     tables: &Tables,
     pool: &Text,
     node: &Text,
-    slots: &[NumbersSlot],
+    slots: &[NameSlot<NumberTable<()>>],
 ) -> Result<(), AllocError>
     ensures { OnOk result (keys.new ≡ keys.old
         ++ flat_map (losing_keys_at (world_of tables.now) pool.now node.now) slots.now) }

@@ -8,7 +8,7 @@ ghost use Rattle.ns_live_index.specs.Index.{IsRight};
 ghost use Rattle.ns_nodes.specs.Losing.{IsLiveSet, lost_row, slot_key, slot_keys};
 ghost use Rattle.ns_tables.specs.World.{world_of};
 
-use crate::losing::{NumberSlot, NumbersSlot};
+use keyed::{NameSlot, NumberSlot, NumberTable};
 use ns_change::{Change, set_client};
 use ns_live_index::Live;
 use ns_tables::Tables;
@@ -18,7 +18,11 @@ use ns_types::rows::Rows;
 use ns_types::text::Text;
 use std::alloc::AllocError;
 
-fn add_slot(keys: &mut Rows<EvalKey>, namespace: &Text, slot: &NumberSlot) -> Result<(), AllocError>
+fn add_slot(
+    keys: &mut Rows<EvalKey>,
+    namespace: &Text,
+    slot: &NumberSlot<()>,
+) -> Result<(), AllocError>
     ensures { OnOk result (keys.new ≡ keys.old ++ slot_key namespace.now slot.now) }
 {
     if slot.1.is_some() {
@@ -30,7 +34,7 @@ fn add_slot(keys: &mut Rows<EvalKey>, namespace: &Text, slot: &NumberSlot) -> Re
 fn add_slots(
     keys: &mut Rows<EvalKey>,
     namespace: &Text,
-    slots: &[NumberSlot],
+    slots: &[NumberSlot<()>],
 ) -> Result<(), AllocError>
     ensures { OnOk result (keys.new ≡ keys.old ++ flat_map (slot_key namespace.now) slots.now) }
 {
@@ -40,7 +44,10 @@ fn add_slots(
     Ok(())
 }
 
-fn add_namespace(keys: &mut Rows<EvalKey>, slot: &NumbersSlot) -> Result<(), AllocError>
+fn add_namespace(
+    keys: &mut Rows<EvalKey>,
+    slot: &NameSlot<NumberTable<()>>,
+) -> Result<(), AllocError>
     ensures { OnOk result (keys.new ≡ keys.old ++ slot_keys slot.now) }
 {
     if let Some(numbers) = &slot.1 {
@@ -49,7 +56,10 @@ fn add_namespace(keys: &mut Rows<EvalKey>, slot: &NumbersSlot) -> Result<(), All
     Ok(())
 }
 
-fn add_namespaces(keys: &mut Rows<EvalKey>, slots: &[NumbersSlot]) -> Result<(), AllocError>
+fn add_namespaces(
+    keys: &mut Rows<EvalKey>,
+    slots: &[NameSlot<NumberTable<()>>],
+) -> Result<(), AllocError>
     ensures { OnOk result (keys.new ≡ keys.old ++ flat_map slot_keys slots.now) }
 {
     for slot in slots {

@@ -9,17 +9,11 @@ ghost use Rattle.ns_types.specs.State.Rows.{evaluation_at};
 ghost use Rattle.ns_types.specs.declared.evaluation.Evaluation.{Evaluation};
 ghost use Rattle.ns_tables.specs.World.{world_of};
 
-use keyed::NumberTable;
+use keyed::{NameSlot, NumberSlot, NumberTable};
 use ns_change::{Settled, SettledTenant};
 use ns_tables::{Tables, TenantRows};
 use ns_types::evaluation::Evaluation;
 use ns_types::text::Text;
-
-/// A changed evaluation with its number, or one that is gone.
-type EvaluationSlot = (u64, Option<Evaluation>);
-
-/// A changed namespace with its name.
-type TenantSlot = (Text, Option<SettledTenant>);
 
 /// The evaluation of that number, as the step leaves it.
 pub(crate) fn evaluation_after<'a>(
@@ -63,7 +57,7 @@ fn moves_slot<W: Watch>(
     watch: &W,
     namespace: &Text,
     before: &NumberTable<Evaluation>,
-    slot: &EvaluationSlot,
+    slot: &NumberSlot<Evaluation>,
 ) -> bool
     ensures { result ≡ moves_slot (W.moves watch.now) namespace.now before.now slot.now }
 {
@@ -74,7 +68,7 @@ fn any_moves<W: Watch>(
     watch: &W,
     namespace: &Text,
     before: &NumberTable<Evaluation>,
-    slots: &[EvaluationSlot],
+    slots: &[NumberSlot<Evaluation>],
 ) -> bool
     ensures { result
         ≡ list_any (moves_slot (W.moves watch.now) namespace.now before.now) slots.now }
@@ -85,7 +79,7 @@ fn any_moves<W: Watch>(
 }
 
 /// Whether a changed evaluation of the namespace moves.
-fn moves_in<W: Watch>(watch: &W, tables: &Tables, slot: &TenantSlot) -> bool
+fn moves_in<W: Watch>(watch: &W, tables: &Tables, slot: &NameSlot<SettledTenant>) -> bool
     ensures { result ≡ moves_in (W.moves watch.now) tables.now.tenants slot.now }
 {
     match (tables.tenants.get(&slot.0), &slot.1) {
@@ -99,7 +93,7 @@ fn moves_in<W: Watch>(watch: &W, tables: &Tables, slot: &TenantSlot) -> bool
     }
 }
 
-fn any_moves_in<W: Watch>(watch: &W, tables: &Tables, slots: &[TenantSlot]) -> bool
+fn any_moves_in<W: Watch>(watch: &W, tables: &Tables, slots: &[NameSlot<SettledTenant>]) -> bool
     ensures { result ≡ list_any (moves_in (W.moves watch.now) tables.now.tenants) slots.now }
 {
     slots.iter().any(|slot| moves_in(watch, tables, slot))

@@ -10,15 +10,12 @@ ghost use Rattle.ns_types.specs.State.Rows.{World};
 ghost use Rattle.ns_types.specs.Working.Looks.{row_of};
 ghost use Rattle.ns_tables.specs.World.{world_of};
 
-use keyed::{NameTable, NumberTable};
+use keyed::{NameTable, NumberSlot, NumberTable};
 use ns_change::Settled;
 use ns_tables::Tables;
 use ns_types::text::Text;
 use ns_types::worker::Worker;
 use std::alloc::{AllocError, Global};
-
-/// A changed row of a worker with its number, or one that is gone.
-type WorkerSlot = (u64, Option<Worker>);
 
 /// The namespaces for which each worker is busy, by its number. A vacant slot is room.
 #[derive(Drop)]
@@ -89,7 +86,7 @@ impl BusyWorkers {
     }
 
     /// The worker is busy for the namespace from now on, or no longer, as its changed row says. It takes no memory.
-    fn put(&mut self, namespace: &Text, slot: &WorkerSlot)
+    fn put(&mut self, namespace: &Text, slot: &NumberSlot<Worker>)
         requires { IsTrue (is_some slot.now.1)
             → IsTrue (has_room self.old slot.now.0 namespace.now) }
         ensures { Puts slot.now.0 namespace.now (is_some slot.now.1) self.old self.new }

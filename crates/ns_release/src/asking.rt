@@ -11,6 +11,7 @@ ghost use Rattle.ns_release.specs.Released.{released_rooms, room_at, rooms_at, r
 ghost use Rattle.ns_tables.specs.World.{pool_of, tenant_of, world_of};
 
 use crate::releasing::{ended, gives_itself, relimits};
+use keyed::{NameSlot, NumberSlot};
 use ns_change::{Change, PoolChange, TenantChange, node};
 use ns_equality::is_free;
 use ns_tables::{PoolRows, Tables, TenantRows};
@@ -18,21 +19,6 @@ use ns_types::allocation::Allocation;
 use ns_types::node::{Node, Offer};
 use ns_types::records::Quota;
 use ns_types::text::Text;
-
-/// A changed node with its name, or one that is gone.
-type NodeSlot = (Text, Option<Node>);
-
-/// A changed pool with its name.
-type PoolSlot = (Text, Option<PoolChange>);
-
-/// A changed allocation with its number, or one that is gone.
-type AllocationSlot = (u64, Option<Allocation>);
-
-/// A changed namespace with its name.
-type TenantSlot = (Text, Option<TenantChange>);
-
-/// A changed record with its quota's name, or none.
-type QuotaSlot = (Text, Option<Quota>);
 
 /// A question of what is released.
 pub trait Question {
@@ -71,7 +57,7 @@ impl Question for Anything {
 // ---- room
 
 /// Whether a changed node gives such room.
-fn gives<Q: Question>(question: &Q, pool: &Text, rows: &PoolRows, slot: &NodeSlot) -> bool
+fn gives<Q: Question>(question: &Q, pool: &Text, rows: &PoolRows, slot: &NameSlot<Node>) -> bool
     ensures { result
         ≡ list_any (Q.of_room question.now) (rooms_at pool.now (pool_of rows.now) slot.now) }
 {
@@ -81,7 +67,7 @@ fn gives<Q: Question>(question: &Q, pool: &Text, rows: &PoolRows, slot: &NodeSlo
     }
 }
 
-fn any_gives<Q: Question>(question: &Q, pool: &Text, rows: &PoolRows, slots: &[NodeSlot]) -> bool
+fn any_gives<Q: Question>(question: &Q, pool: &Text, rows: &PoolRows, slots: &[NameSlot<Node>]) -> bool
     ensures { result ≡ list_any (λ slot. list_any (Q.of_room question.now)
         (rooms_at pool.now (pool_of rows.now) slot)) slots.now }
 {
@@ -89,7 +75,7 @@ fn any_gives<Q: Question>(question: &Q, pool: &Text, rows: &PoolRows, slots: &[N
 }
 
 /// Whether a changed node of the pool gives such room.
-fn pool_gives<Q: Question>(question: &Q, tables: &Tables, slot: &PoolSlot) -> bool
+fn pool_gives<Q: Question>(question: &Q, tables: &Tables, slot: &NameSlot<PoolChange>) -> bool
     ensures { result
         ≡ list_any (Q.of_room question.now) (rooms_of_pool (world_of tables.now) slot.now) }
 {
@@ -123,7 +109,7 @@ fn leaves<Q: Question>(
     tables: &Tables,
     change: &Change,
     tenant: &TenantRows,
-    slot: &AllocationSlot,
+    slot: &NumberSlot<Allocation>,
 ) -> bool
     ensures { result ≡ list_any (Q.of_room question.now)
         (rooms_ended (view tables.now change.now) (tenant_of tenant.now) slot.now) }
@@ -139,7 +125,7 @@ fn any_leaves<Q: Question>(
     tables: &Tables,
     change: &Change,
     tenant: &TenantRows,
-    slots: &[AllocationSlot],
+    slots: &[NumberSlot<Allocation>],
 ) -> bool
     ensures { result ≡ list_any (λ slot. list_any (Q.of_room question.now)
         (rooms_ended (view tables.now change.now) (tenant_of tenant.now) slot)) slots.now }
@@ -154,7 +140,7 @@ fn tenant_leaves<Q: Question>(
     question: &Q,
     tables: &Tables,
     change: &Change,
-    slot: &TenantSlot,
+    slot: &NameSlot<TenantChange>,
 ) -> bool
     ensures { result ≡ list_any (Q.of_room question.now)
         (rooms_ended_in (world_of tables.now) (view tables.now change.now) slot.now) }
@@ -174,7 +160,7 @@ fn tenant_leaves<Q: Question>(
     }
 }
 
-fn any_pool_gives<Q: Question>(question: &Q, tables: &Tables, slots: &[PoolSlot]) -> bool
+fn any_pool_gives<Q: Question>(question: &Q, tables: &Tables, slots: &[NameSlot<PoolChange>]) -> bool
     ensures { result ≡ list_any (λ slot. list_any (Q.of_room question.now)
         (rooms_of_pool (world_of tables.now) slot)) slots.now }
 {
@@ -185,7 +171,7 @@ fn any_tenant_leaves<Q: Question>(
     question: &Q,
     tables: &Tables,
     change: &Change,
-    slots: &[TenantSlot],
+    slots: &[NameSlot<TenantChange>],
 ) -> bool
     ensures { result ≡ list_any (λ slot. list_any (Q.of_room question.now)
         (rooms_ended_in (world_of tables.now) (view tables.now change.now) slot)) slots.now }
@@ -216,21 +202,21 @@ fn is_own<Q: Question>(question: &Q, tenant: &TenantRows) -> bool
 }
 
 /// Whether the allocation ended, in a namespace of such a quota.
-fn frees<Q: Question>(question: &Q, tenant: &TenantRows, slot: &AllocationSlot) -> bool
+fn frees<Q: Question>(question: &Q, tenant: &TenantRows, slot: &NumberSlot<Allocation>) -> bool
     ensures { result
         ≡ list_any (Q.of_quota question.now) (quotas_ended (tenant_of tenant.now) slot.now) }
 {
     ended(tenant, slot).is_some() && is_own(question, tenant)
 }
 
-fn any_frees<Q: Question>(question: &Q, tenant: &TenantRows, slots: &[AllocationSlot]) -> bool
+fn any_frees<Q: Question>(question: &Q, tenant: &TenantRows, slots: &[NumberSlot<Allocation>]) -> bool
     ensures { result ≡ list_any (λ slot. list_any (Q.of_quota question.now)
         (quotas_ended (tenant_of tenant.now) slot)) slots.now }
 {
     slots.iter().any(|slot| frees(question, tenant, slot))
 }
 
-fn tenant_frees<Q: Question>(question: &Q, tables: &Tables, slot: &TenantSlot) -> bool
+fn tenant_frees<Q: Question>(question: &Q, tables: &Tables, slot: &NameSlot<TenantChange>) -> bool
     ensures { result
         ≡ list_any (Q.of_quota question.now) (quotas_ended_in (world_of tables.now) slot.now) }
 {
@@ -243,7 +229,7 @@ fn tenant_frees<Q: Question>(question: &Q, tables: &Tables, slot: &TenantSlot) -
     }
 }
 
-fn any_tenant_frees<Q: Question>(question: &Q, tables: &Tables, slots: &[TenantSlot]) -> bool
+fn any_tenant_frees<Q: Question>(question: &Q, tables: &Tables, slots: &[NameSlot<TenantChange>]) -> bool
     ensures { result ≡ list_any (λ slot. list_any (Q.of_quota question.now)
         (quotas_ended_in (world_of tables.now) slot)) slots.now }
 {
@@ -253,14 +239,14 @@ fn any_tenant_frees<Q: Question>(question: &Q, tables: &Tables, slots: &[TenantS
 }
 
 /// Whether the record changes the limits of such a quota.
-fn is_relimited<Q: Question>(question: &Q, tables: &Tables, slot: &QuotaSlot) -> bool
+fn is_relimited<Q: Question>(question: &Q, tables: &Tables, slot: &NameSlot<Quota>) -> bool
     ensures { result
         ≡ list_any (Q.of_quota question.now) (quota_relimited (world_of tables.now) slot.now) }
 {
     relimits(tables, slot) && question.is_quota(&slot.0)
 }
 
-fn any_relimited<Q: Question>(question: &Q, tables: &Tables, slots: &[QuotaSlot]) -> bool
+fn any_relimited<Q: Question>(question: &Q, tables: &Tables, slots: &[NameSlot<Quota>]) -> bool
     ensures { result ≡ list_any (λ slot. list_any (Q.of_quota question.now)
         (quota_relimited (world_of tables.now) slot)) slots.now }
 {

@@ -6,18 +6,13 @@ ghost use Rattle.ns_types.specs.State.Rows.{is_live};
 ghost use Rattle.ns_release.specs.Released.{differs, ended_list, ended_one, gives_itself, relimits};
 ghost use Rattle.ns_tables.specs.World.{pool_of, tenant_of, world_of};
 
+use keyed::{NameSlot, NumberSlot};
 use ns_equality::{changes_limits, is_free, same_offer};
 use ns_tables::{PoolRows, Tables, TenantRows};
 use ns_types::allocation::Allocation;
 use ns_types::node::Node;
 use ns_types::records::Quota;
 use ns_types::text::Text;
-
-/// A changed allocation with its number, or one that is gone.
-type AllocationSlot = (u64, Option<Allocation>);
-
-/// A changed record with its quota's name, or none.
-type QuotaSlot = (Text, Option<Quota>);
 
 // ---- nodes that give room
 
@@ -50,7 +45,7 @@ fn lives_on(row: Option<&Allocation>) -> bool
 }
 
 /// The allocation as it was, if it was live and is not live any more.
-pub fn ended<'a>(tenant: &'a TenantRows, slot: &AllocationSlot) -> Option<&'a Allocation>
+pub fn ended<'a>(tenant: &'a TenantRows, slot: &NumberSlot<Allocation>) -> Option<&'a Allocation>
     ensures { ended_one (tenant_of tenant.now) slot.now.0 slot.now.1
         ≡ ended_list (tenant_of tenant.now) (option_copied result) }
 {
@@ -64,7 +59,7 @@ pub fn ended<'a>(tenant: &'a TenantRows, slot: &AllocationSlot) -> Option<&'a Al
 // ---- limits that change
 
 /// Whether the record changes the limits of its quota. One that is not there has none.
-pub fn relimits(tables: &Tables, slot: &QuotaSlot) -> bool
+pub fn relimits(tables: &Tables, slot: &NameSlot<Quota>) -> bool
     ensures { result ≡ relimits (world_of tables.now) slot.now }
 {
     let Some(quota) = &slot.1 else {

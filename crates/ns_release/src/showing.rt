@@ -10,7 +10,7 @@ ghost use Rattle.ns_release.specs.Shown.{Kind, allocations_shown, changes_job_sl
 ghost use Rattle.ns_release.specs.Shown.{evaluations_shown};
 ghost use Rattle.ns_tables.specs.World.{tenant_of};
 
-use keyed::NumberTable;
+use keyed::{NameSlot, NumberTable};
 use ns_equality::{same_allocation, same_evaluation, same_job};
 use ns_tables::TenantRows;
 use ns_types::allocation::Allocation;
@@ -18,9 +18,6 @@ use ns_types::evaluation::Evaluation;
 use ns_types::event::Topic;
 use ns_types::job::Job;
 use ns_types::text::Text;
-
-/// A changed job with its id, or one that is gone.
-type JobSlot = (Text, Option<Job>);
 
 /// A row that replies show, under its number in a namespace.
 pub trait Shown: Drop {
@@ -135,7 +132,7 @@ fn has_job(tenant: &TenantRows, id: &Text) -> bool
 }
 
 /// Whether the job is new, shown otherwise, or gone.
-pub fn changes_job_slot(tenant: &TenantRows, slot: &JobSlot) -> bool
+pub fn changes_job_slot(tenant: &TenantRows, slot: &NameSlot<Job>) -> bool
     ensures { result ≡ changes_job_slot (tenant_of tenant.now) slot.now }
 {
     match &slot.1 {
@@ -145,7 +142,7 @@ pub fn changes_job_slot(tenant: &TenantRows, slot: &JobSlot) -> bool
 }
 
 /// Whether a job is new, shown otherwise, or gone.
-pub fn any_job(tenant: &TenantRows, slots: &[JobSlot]) -> bool
+pub fn any_job(tenant: &TenantRows, slots: &[NameSlot<Job>]) -> bool
     ensures { result ≡ list_any (changes_job_slot (tenant_of tenant.now)) slots.now }
 {
     slots.iter().any(|slot| changes_job_slot(tenant, slot))

@@ -26,9 +26,6 @@ use ns_types::rows::Rows;
 use ns_types::text::Text;
 use std::alloc::{AllocError, Global};
 
-/// A changed namespace with its name.
-type TenantSlot = (Text, Option<TenantChange>);
-
 /// The events of a namespace, by that index.
 fn events_at(
     alloc: Global,

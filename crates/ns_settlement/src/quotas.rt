@@ -4,6 +4,7 @@ ghost use Rattle.std.specs.Prelude.{◌≡◌, ◌++◌, flat_map, IfOk, OnOk};
 ghost use Rattle.ns_release.specs.Released.{quota_relimited, quotas_ended, quotas_ended_in, released_quotas};
 ghost use Rattle.ns_tables.specs.World.{tenant_of, world_of};
 
+use keyed::{NameSlot, NumberSlot};
 use ns_change::{Change, TenantChange};
 use ns_release::{ended, relimits};
 use ns_tables::{Tables, TenantRows};
@@ -13,22 +14,13 @@ use ns_types::rows::Rows;
 use ns_types::text::Text;
 use std::alloc::AllocError;
 
-/// A changed allocation with its number, or one that is gone.
-type AllocationSlot = (u64, Option<Allocation>);
-
-/// A changed namespace with its name.
-type TenantSlot = (Text, Option<TenantChange>);
-
-/// A changed record with its quota's name, or none.
-type QuotaSlot = (Text, Option<Quota>);
-
 // ---- allocations that end
 
 /// The quota of a namespace that lost an allocation.
 fn add_quota(
     quotas: &mut Rows<Text>,
     tenant: &TenantRows,
-    slot: &AllocationSlot,
+    slot: &NumberSlot<Allocation>,
 ) -> Result<(), AllocError>
     ensures { OnOk result (quotas.new ≡ quotas.old
         ++ quotas_ended (tenant_of tenant.now) slot.now) }
@@ -45,7 +37,7 @@ fn add_quota(
 fn add_quotas(
     quotas: &mut Rows<Text>,
     tenant: &TenantRows,
-    slots: &[AllocationSlot],
+    slots: &[NumberSlot<Allocation>],
 ) -> Result<(), AllocError>
     ensures { OnOk result (quotas.new ≡ quotas.old
         ++ flat_map (quotas_ended (tenant_of tenant.now)) slots.now) }
@@ -59,7 +51,7 @@ fn add_quotas(
 fn add_quotas_of(
     quotas: &mut Rows<Text>,
     tables: &Tables,
-    slot: &TenantSlot,
+    slot: &NameSlot<TenantChange>,
 ) -> Result<(), AllocError>
     ensures { OnOk result (quotas.new ≡ quotas.old
         ++ quotas_ended_in (world_of tables.now) slot.now) }
@@ -76,7 +68,7 @@ fn add_quotas_of(
 fn add_all_left(
     quotas: &mut Rows<Text>,
     tables: &Tables,
-    slots: &[TenantSlot],
+    slots: &[NameSlot<TenantChange>],
 ) -> Result<(), AllocError>
     ensures { OnOk result (quotas.new ≡ quotas.old
         ++ flat_map (quotas_ended_in (world_of tables.now)) slots.now) }
@@ -92,7 +84,7 @@ fn add_all_left(
 fn add_relimited(
     quotas: &mut Rows<Text>,
     tables: &Tables,
-    slot: &QuotaSlot,
+    slot: &NameSlot<Quota>,
 ) -> Result<(), AllocError>
     ensures { OnOk result (quotas.new ≡ quotas.old
         ++ quota_relimited (world_of tables.now) slot.now) }
@@ -107,7 +99,7 @@ fn add_relimited(
 fn add_all_relimited(
     quotas: &mut Rows<Text>,
     tables: &Tables,
-    slots: &[QuotaSlot],
+    slots: &[NameSlot<Quota>],
 ) -> Result<(), AllocError>
     ensures { OnOk result (quotas.new ≡ quotas.old
         ++ flat_map (quota_relimited (world_of tables.now)) slots.now) }

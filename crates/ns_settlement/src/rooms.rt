@@ -7,6 +7,7 @@ ghost use Rattle.ns_release.specs.Released.{rooms_ended, rooms_ended_in, rooms_o
 ghost use Rattle.ns_tables.specs.World.{pool_of, tenant_of, world_of};
 ghost use Rattle.ns_change.specs.Changed.{view};
 
+use keyed::{NameSlot, NumberSlot};
 use ns_change::{Change, PoolChange, TenantChange, node};
 use ns_equality::{class_of, is_free};
 use ns_release::{ended, gives_itself};
@@ -19,18 +20,6 @@ use std::alloc::{AllocError, Global};
 
 /// A released class with its pool.
 pub type Room = (Text, Class);
-
-/// A changed node with its name, or one that is gone.
-type NodeSlot = (Text, Option<Node>);
-
-/// A changed pool with its name.
-type PoolSlot = (Text, Option<PoolChange>);
-
-/// A changed allocation with its number, or one that is gone.
-type AllocationSlot = (u64, Option<Allocation>);
-
-/// A changed namespace with its name.
-type TenantSlot = (Text, Option<TenantChange>);
 
 fn add_room(
     rooms: &mut Rows<Room>,
@@ -49,7 +38,7 @@ fn add_changed(
     alloc: Global,
     pool: &Text,
     rows: &PoolRows,
-    slot: &NodeSlot,
+    slot: &NameSlot<Node>,
 ) -> Result<(), AllocError>
     ensures { OnOk result (rooms.new ≡ rooms.old ++ rooms_at pool.now (pool_of rows.now) slot.now) }
 {
@@ -66,7 +55,7 @@ fn add_all_changed(
     alloc: Global,
     pool: &Text,
     rows: &PoolRows,
-    slots: &[NodeSlot],
+    slots: &[NameSlot<Node>],
 ) -> Result<(), AllocError>
     ensures { OnOk result (rooms.new ≡ rooms.old
         ++ flat_map (rooms_at pool.now (pool_of rows.now)) slots.now) }
@@ -78,7 +67,7 @@ fn add_all_changed(
 }
 
 /// The classes of a pool's nodes that give room themselves.
-fn add_pool(rooms: &mut Rows<Room>, tables: &Tables, slot: &PoolSlot) -> Result<(), AllocError>
+fn add_pool(rooms: &mut Rows<Room>, tables: &Tables, slot: &NameSlot<PoolChange>) -> Result<(), AllocError>
     ensures { OnOk result (rooms.new ≡ rooms.old ++ rooms_of_pool (world_of tables.now) slot.now) }
 {
     if let Some(change) = &slot.1 {
@@ -89,7 +78,7 @@ fn add_pool(rooms: &mut Rows<Room>, tables: &Tables, slot: &PoolSlot) -> Result<
     Ok(())
 }
 
-fn add_pools(rooms: &mut Rows<Room>, tables: &Tables, slots: &[PoolSlot]) -> Result<(), AllocError>
+fn add_pools(rooms: &mut Rows<Room>, tables: &Tables, slots: &[NameSlot<PoolChange>]) -> Result<(), AllocError>
     ensures { OnOk result (rooms.new ≡ rooms.old
         ++ flat_map (rooms_of_pool (world_of tables.now)) slots.now) }
 {
@@ -122,7 +111,7 @@ fn add_ended(
     tables: &Tables,
     change: &Change,
     tenant: &TenantRows,
-    slot: &AllocationSlot,
+    slot: &NumberSlot<Allocation>,
 ) -> Result<(), AllocError>
     ensures { OnOk result (rooms.new ≡ rooms.old
         ++ rooms_ended (view tables.now change.now) (tenant_of tenant.now) slot.now) }
@@ -138,7 +127,7 @@ fn add_all_ended(
     tables: &Tables,
     change: &Change,
     tenant: &TenantRows,
-    slots: &[AllocationSlot],
+    slots: &[NumberSlot<Allocation>],
 ) -> Result<(), AllocError>
     ensures { OnOk result (rooms.new ≡ rooms.old
         ++ flat_map (rooms_ended (view tables.now change.now) (tenant_of tenant.now)) slots.now) }
@@ -153,7 +142,7 @@ fn add_tenant(
     rooms: &mut Rows<Room>,
     tables: &Tables,
     change: &Change,
-    slot: &TenantSlot,
+    slot: &NameSlot<TenantChange>,
 ) -> Result<(), AllocError>
     ensures { OnOk result (rooms.new ≡ rooms.old
         ++ rooms_ended_in (world_of tables.now) (view tables.now change.now) slot.now) }
@@ -176,7 +165,7 @@ fn add_tenants(
     rooms: &mut Rows<Room>,
     tables: &Tables,
     change: &Change,
-    slots: &[TenantSlot],
+    slots: &[NameSlot<TenantChange>],
 ) -> Result<(), AllocError>
     ensures { OnOk result (rooms.new ≡ rooms.old ++ flat_map
         (rooms_ended_in (world_of tables.now) (view tables.now change.now)) slots.now) }

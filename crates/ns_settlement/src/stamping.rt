@@ -8,7 +8,7 @@ ghost use Rattle.ns_release.specs.Shown.{changes_job_slot, changes_slot};
 ghost use Rattle.ns_settlement.specs.Stamped.{job_topic, made_at, stamped_row, stamped_slot, events_for, topic_at, touches};
 ghost use Rattle.ns_tables.specs.World.{tenant_of};
 
-use keyed::NumberTable;
+use keyed::{NameSlot, NumberTable};
 use ns_change::TenantChange;
 use ns_release::{Shown, any_job, any_row, changes_job_slot, changes_row, changes_slot};
 use ns_tables::TenantRows;
@@ -17,9 +17,6 @@ use ns_types::job::Job;
 use ns_types::rows::Rows;
 use ns_types::text::Text;
 use std::alloc::AllocError;
-
-/// A changed job with its id, or one that is gone.
-type JobSlot = (Text, Option<Job>);
 
 /// An event of each changed row, by number.
 pub fn publish_rows<R: Shown>(
@@ -86,7 +83,7 @@ pub fn stamp_rows<R: Shown>(
 
 // ---- jobs
 
-fn is_deregistered(slot: &JobSlot) -> bool
+fn is_deregistered(slot: &NameSlot<Job>) -> bool
     ensures { result ≡ option_map_or (λ job. job.stop) slot.now.1 true }
 {
     match &slot.1 {
@@ -95,7 +92,7 @@ fn is_deregistered(slot: &JobSlot) -> bool
     }
 }
 
-fn job_topic(slot: &JobSlot) -> Result<Topic, AllocError>
+fn job_topic(slot: &NameSlot<Job>) -> Result<Topic, AllocError>
     ensures { IfOk result (λ topic. topic ≡ job_topic slot.now) }
 {
     let id = slot.0.clone()?;
@@ -111,7 +108,7 @@ pub fn publish_jobs(
     events: &mut Rows<Event>,
     tenant: &TenantRows,
     index: u64,
-    slots: &[JobSlot],
+    slots: &[NameSlot<Job>],
 ) -> Result<(), AllocError>
     ensures { OnOk result (events.new ≡ events.old
         ++ events_for index job_topic (changes_job_slot (tenant_of tenant.now)) slots.now) }

@@ -8,6 +8,7 @@ ghost use Rattle.ns_tables.specs.World.{world_of};
 
 use crate::reached::woken_through;
 use crate::rooms::Room;
+use keyed::NumberSlot;
 use ns_change::Change;
 use ns_queues::Turns;
 use ns_release::{does_wake, releases};
@@ -17,15 +18,12 @@ use ns_types::rows::Rows;
 use ns_types::text::Text;
 use std::alloc::AllocError;
 
-/// A place of a list with its key, or a vacant one.
-type KeySlot = (u64, Option<EvalKey>);
-
 /// Puts the entry at this place behind the others, where the step wakes it.
 fn add_woken(
     keys: &mut Rows<EvalKey>,
     tables: &Tables,
     change: &Change,
-    slot: &KeySlot,
+    slot: &NumberSlot<EvalKey>,
 ) -> Result<(), AllocError>
     ensures { OnOk result (keys.new
         ≡ keys.old ++ passing_at (does_wake (world_of tables.now) change.now) slot.now) }

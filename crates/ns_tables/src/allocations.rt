@@ -10,7 +10,7 @@ ghost use Rattle.ns_tables.specs.Allocations.{live_use, row_use, rows_use};
 ghost use Rattle.ns_tables.specs.Filing.{AreNumbersUnder, allocation_job};
 
 use crate::filing::{AllocationJob, clear, refile, reserve_all};
-use keyed::{KeySet, NumberTable};
+use keyed::{KeySet, NumberSlot, NumberTable};
 use ns_types::allocation::Allocation;
 use ns_types::resources::{Resources, moved, none};
 use ns_types::text::Text;
@@ -53,9 +53,6 @@ impl Model for AllocationTable {
     ghost invariant = { λ t. IsKept t.jobs t.live t.slots };
 }
 
-/// An allocation with its number, or a vacant slot.
-type AllocationSlot = (u64, Option<Allocation>);
-
 /// What the row takes, if it is live.
 fn row_use(row: Option<&Allocation>) -> Resources
     ensures { result ≡ row_use (option_copied row.entry) }
@@ -70,7 +67,7 @@ fn row_use(row: Option<&Allocation>) -> Resources
 fn total_after(
     total: Resources,
     slots: &NumberTable<Allocation>,
-    changes: &[AllocationSlot],
+    changes: &[NumberSlot<Allocation>],
 ) -> Resources
     requires { IsCounted total }
     ensures counted { IsCounted result }

@@ -13,14 +13,11 @@ ghost use Rattle.ns_tables.specs.Filing.{HasRoomAt, IsIndexOf, allocation_job, e
 ghost use Rattle.ns_types.specs.State.Rows.{is_blocked, is_pending};
 ghost use Rattle.ns_tables.specs.Filing.{is_filed, is_left, job_where, name_at, stands_under};
 
-use keyed::{KeySet, NumberTable};
+use keyed::{KeySet, NumberSlot, NumberTable};
 use ns_types::allocation::Allocation;
 use ns_types::evaluation::{Evaluation, Status};
 use ns_types::text::{Text, same_text};
 use std::alloc::{AllocError, Global};
-
-/// A changed row with its number, or one that is gone.
-type Slot<V> = (u64, Option<V>);
 
 /// A name under which numbers of rows stand.
 pub(crate) trait Filing {
@@ -115,7 +112,7 @@ fn stands_under<F: Filing>(name: &Text, row: Option<&F::Row>) -> bool
 fn reserve<F: Filing>(
     numbers: &mut KeySet,
     alloc: Global,
-    slot: &Slot<F::Row>,
+    slot: &NumberSlot<F::Row>,
 ) -> Result<(), AllocError>
     ensures same { Keeps holds_key has_key_room numbers.old numbers.new }
     ensures ok { OnOk result (HasRoomAt F.name_of numbers.new slot.now) }
@@ -130,7 +127,7 @@ fn reserve<F: Filing>(
 pub(crate) fn reserve_all<F: Filing>(
     numbers: &mut KeySet,
     alloc: Global,
-    slots: &[Slot<F::Row>],
+    slots: &[NumberSlot<F::Row>],
 ) -> Result<(), AllocError>
     ensures same { Keeps holds_key has_key_room numbers.old numbers.new }
     ensures ok { OnOk result (Each (HasRoomAt F.name_of numbers.new) slots.now) }
@@ -142,7 +139,7 @@ pub(crate) fn reserve_all<F: Filing>(
 }
 
 /// Takes the room for the number of the slot's row away again, unless it stands there.
-pub(crate) fn clear<F: Filing>(numbers: &mut KeySet, slot: &Slot<F::Row>)
+pub(crate) fn clear<F: Filing>(numbers: &mut KeySet, slot: &NumberSlot<F::Row>)
     ensures { (key : Key) → holds_key numbers.new key ≡ holds_key numbers.old key }
 {
     if let Some(name) = name_at::<F>(slot.1.as_ref()) {
@@ -152,7 +149,7 @@ pub(crate) fn clear<F: Filing>(numbers: &mut KeySet, slot: &Slot<F::Row>)
 
 // ---- changes
 
-fn insert<F: Filing>(numbers: &mut KeySet, slot: &Slot<F::Row>)
+fn insert<F: Filing>(numbers: &mut KeySet, slot: &NumberSlot<F::Row>)
     requires { HasRoomAt F.name_of numbers.old slot.now }
     ensures held { (key : Key) → holds_key numbers.new key
         ≡ (is_filed F.name_of slot.now key || holds_key numbers.old key) }
@@ -164,7 +161,7 @@ fn insert<F: Filing>(numbers: &mut KeySet, slot: &Slot<F::Row>)
     }
 }
 
-fn insert_all<F: Filing>(numbers: &mut KeySet, slots: &[Slot<F::Row>])
+fn insert_all<F: Filing>(numbers: &mut KeySet, slots: &[NumberSlot<F::Row>])
     requires { Each (HasRoomAt F.name_of numbers.old) slots.now }
     ensures { (key : Key) → holds_key numbers.new key
         ≡ (list_any (λ slot. is_filed F.name_of slot key) slots.now || holds_key numbers.old key) }
@@ -175,7 +172,7 @@ fn insert_all<F: Filing>(numbers: &mut KeySet, slots: &[Slot<F::Row>])
 }
 
 /// Takes the number out from under the name of the row before, unless the slot's row stands there.
-fn leave<F: Filing>(numbers: &mut KeySet, before: &NumberTable<F::Row>, slot: &Slot<F::Row>)
+fn leave<F: Filing>(numbers: &mut KeySet, before: &NumberTable<F::Row>, slot: &NumberSlot<F::Row>)
     ensures { (key : Key) → holds_key numbers.new key
         ≡ (not (is_left F.name_of before.now slot.now key) && holds_key numbers.old key) }
 {
@@ -186,7 +183,7 @@ fn leave<F: Filing>(numbers: &mut KeySet, before: &NumberTable<F::Row>, slot: &S
     }
 }
 
-fn leave_all<F: Filing>(numbers: &mut KeySet, before: &NumberTable<F::Row>, slots: &[Slot<F::Row>])
+fn leave_all<F: Filing>(numbers: &mut KeySet, before: &NumberTable<F::Row>, slots: &[NumberSlot<F::Row>])
     ensures { (key : Key) → holds_key numbers.new key
         ≡ (not (list_any (λ slot. is_left F.name_of before.now slot key) slots.now)
         && holds_key numbers.old key) }

@@ -12,13 +12,11 @@ ghost use Rattle.ns_types.specs.State.Tables.{any_row};
 ghost use Rattle.ns_tables.specs.World.{world_of};
 
 use crate::permits;
+use keyed::NameSlot;
 use ns_equality::{has_name, same_text};
 use ns_tables::{Tables, TenantRows};
 use ns_types::records::Namespace;
 use ns_types::text::Text;
-
-/// A slot of the table of namespaces: its key, and its row unless it is vacant.
-type Slot = (Text, Option<TenantRows>);
 
 fn permits_any(namespace: &Namespace, pools: &[Text]) -> bool
     ensures { result ≡ list_any (permits namespace.now) pools.now }
@@ -78,7 +76,7 @@ fn intrudes(other: &Namespace, pools: &[Text], quotas: &[Text]) -> bool
     permits_any(other, pools) || has_name(pools, &other.default_pool) || names_any(other, quotas)
 }
 
-fn other_intrudes(slot: &Slot, namespace: &Text, pools: &[Text], quotas: &[Text]) -> bool
+fn other_intrudes(slot: &NameSlot<TenantRows>, namespace: &Text, pools: &[Text], quotas: &[Text]) -> bool
     ensures { result ≡ at_slot (other_intrudes namespace.now pools.now quotas.now) slot.now }
 {
     match &slot.1 {
@@ -89,7 +87,7 @@ fn other_intrudes(slot: &Slot, namespace: &Text, pools: &[Text], quotas: &[Text]
     }
 }
 
-fn some_intrudes(slots: &[Slot], namespace: &Text, pools: &[Text], quotas: &[Text]) -> bool
+fn some_intrudes(slots: &[NameSlot<TenantRows>], namespace: &Text, pools: &[Text], quotas: &[Text]) -> bool
     ensures { result ≡ list_any (at_slot (other_intrudes namespace.now pools.now quotas.now)) slots.now }
 {
     slots

@@ -8,18 +8,13 @@ ghost use Rattle.ns_tables.specs.World.{tenant_of};
 ghost use Rattle.ns_admin.specs.Straying.{allocation_strays, evaluation_strays, worker_strays};
 ghost use Rattle.ns_admin.specs.Straying.{has_allocation_astray, has_evaluation_astray, has_worker_astray};
 
+use keyed::NumberSlot;
 use ns_equality::has_name;
 use ns_tables::TenantRows;
 use ns_types::allocation::{Allocation, ClientStatus};
 use ns_types::evaluation::{Evaluation, Status};
 use ns_types::text::Text;
 use ns_types::worker::Worker;
-
-type EvaluationSlot = (u64, Option<Evaluation>);
-
-type WorkerSlot = (u64, Option<Worker>);
-
-type AllocationSlot = (u64, Option<Allocation>);
 
 // ---- rows
 
@@ -35,7 +30,7 @@ fn is_held(client: ClientStatus) -> bool
     matches!(client, ClientStatus::Pending | ClientStatus::Running)
 }
 
-fn evaluation_strays(slot: &EvaluationSlot, pools: &[Text]) -> bool
+fn evaluation_strays(slot: &NumberSlot<Evaluation>, pools: &[Text]) -> bool
     ensures { result ≡ at_slot (evaluation_strays pools.now) slot.now }
 {
     match &slot.1 {
@@ -44,7 +39,7 @@ fn evaluation_strays(slot: &EvaluationSlot, pools: &[Text]) -> bool
     }
 }
 
-fn worker_strays(slot: &WorkerSlot, pools: &[Text]) -> bool
+fn worker_strays(slot: &NumberSlot<Worker>, pools: &[Text]) -> bool
     ensures { result ≡ at_slot (worker_strays pools.now) slot.now }
 {
     let Some(worker) = &slot.1 else {
@@ -56,7 +51,7 @@ fn worker_strays(slot: &WorkerSlot, pools: &[Text]) -> bool
     }
 }
 
-fn allocation_strays(slot: &AllocationSlot, pools: &[Text]) -> bool
+fn allocation_strays(slot: &NumberSlot<Allocation>, pools: &[Text]) -> bool
     ensures { result ≡ at_slot (allocation_strays pools.now) slot.now }
 {
     match &slot.1 {
@@ -67,19 +62,19 @@ fn allocation_strays(slot: &AllocationSlot, pools: &[Text]) -> bool
 
 // ---- some row
 
-fn any_evaluation_strays(slots: &[EvaluationSlot], pools: &[Text]) -> bool
+fn any_evaluation_strays(slots: &[NumberSlot<Evaluation>], pools: &[Text]) -> bool
     ensures { result ≡ list_any (at_slot (evaluation_strays pools.now)) slots.now }
 {
     slots.iter().any(|slot| evaluation_strays(slot, pools))
 }
 
-fn any_worker_strays(slots: &[WorkerSlot], pools: &[Text]) -> bool
+fn any_worker_strays(slots: &[NumberSlot<Worker>], pools: &[Text]) -> bool
     ensures { result ≡ list_any (at_slot (worker_strays pools.now)) slots.now }
 {
     slots.iter().any(|slot| worker_strays(slot, pools))
 }
 
-fn any_allocation_strays(slots: &[AllocationSlot], pools: &[Text]) -> bool
+fn any_allocation_strays(slots: &[NumberSlot<Allocation>], pools: &[Text]) -> bool
     ensures { result ≡ list_any (at_slot (allocation_strays pools.now)) slots.now }
 {
     slots.iter().any(|slot| allocation_strays(slot, pools))

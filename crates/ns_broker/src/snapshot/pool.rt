@@ -8,6 +8,7 @@ ghost use Rattle.ns_broker.specs.Seen.{AreNodesOf, IsNodeOf, node_at_slot};
 ghost use Rattle.ns_tables.specs.World.{world_of};
 
 use crate::snapshot::placed::live_on;
+use keyed::NameSlot;
 use ns_change::copied_node;
 use ns_live_index::Live;
 use ns_tables::Tables;
@@ -17,9 +18,6 @@ use ns_types::shared::Shared;
 use ns_types::snapshot::PoolNode;
 use ns_types::text::Text;
 use std::alloc::AllocError;
-
-/// A node with its name, or a vacant slot.
-type NodeSlot = (Text, Option<Node>);
 
 fn made_node(
     tables: &Tables,
@@ -74,7 +72,7 @@ fn add_node(
     tables: &Tables,
     live: &mut Live,
     pool: &Text,
-    slot: &NodeSlot,
+    slot: &NameSlot<Node>,
 ) -> Result<(), AllocError>
     requires right { IsRight (world_of tables.now) live.old }
     requires there { IsNodeOf (world_of tables.now) pool.now slot.now }
@@ -92,7 +90,7 @@ fn nodes_in(
     tables: &Tables,
     live: &mut Live,
     pool: &Text,
-    slots: &[NodeSlot],
+    slots: &[NameSlot<Node>],
 ) -> Result<Rows<Shared<PoolNode>>, AllocError>
     requires right { IsRight (world_of tables.now) live.old }
     requires there { AreNodesOf (world_of tables.now) pool.now slots.now }
