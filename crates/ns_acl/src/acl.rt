@@ -8,7 +8,7 @@ ghost use Rattle.ns_types.specs.Steps.{opening_acl};
 ghost use Rattle.ns_acl.specs.Bearers.{bearer_of};
 ghost use Rattle.ns_acl.specs.Tokens.{is_taken};
 
-use crate::bearer::{Bearer, of_token};
+use crate::bearer::{TokenBearer, of_token};
 use crate::copying::{copied_policies, copied_tokens};
 use crate::gathering::Gathered;
 use crate::shown::policy_content;
@@ -115,14 +115,14 @@ impl Acl {
     }
 
     /// Whom the secret stands for. Without one it is the policy `anonymous`.
-    fn bearer<'a>(&'a self, secret: Option<&Text>) -> Bearer<'a>
+    fn bearer<'a>(&'a self, secret: Option<&Text>) -> TokenBearer<'a>
         ensures { bearer_of result ≡ bearer self.now (option_copied secret.entry) }
     {
         let Some(secret) = secret else {
-            return Bearer::Holder(self.anonymous.as_slice());
+            return TokenBearer::Holder(self.anonymous.as_slice());
         };
         match self.tokens.get(secret) {
-            None => Bearer::Unknown,
+            None => TokenBearer::Unknown,
             Some(token) => of_token(token),
         }
     }
@@ -145,9 +145,9 @@ impl Acl {
         ensures { result ≡ rights_of self.now (option_copied secret.entry) namespace.now }
     {
         match self.bearer(secret) {
-            Bearer::Unknown => NO_RIGHTS,
-            Bearer::Manager => ALL_RIGHTS,
-            Bearer::Holder(policies) => {
+            TokenBearer::Unknown => NO_RIGHTS,
+            TokenBearer::Manager => ALL_RIGHTS,
+            TokenBearer::Holder(policies) => {
                 rights_in(self.granted(RuleKind::Namespace, policies, namespace))
             }
         }
@@ -158,15 +158,15 @@ impl Acl {
         ensures { result ≡ pool_rights_of self.now (option_copied secret.entry) pool.now }
     {
         match self.bearer(secret) {
-            Bearer::Unknown => PoolRights {
+            TokenBearer::Unknown => PoolRights {
                 read: false,
                 write: false,
             },
-            Bearer::Manager => PoolRights {
+            TokenBearer::Manager => PoolRights {
                 read: true,
                 write: true,
             },
-            Bearer::Holder(policies) => {
+            TokenBearer::Holder(policies) => {
                 let grants = self.granted(RuleKind::Pool, policies, pool);
                 PoolRights {
                     read: grants.read_pool,
@@ -181,8 +181,8 @@ impl Acl {
         ensures { result ≡ is_known self.now (option_copied secret.entry) }
     {
         match self.bearer(secret) {
-            Bearer::Unknown => false,
-            Bearer::Manager | Bearer::Holder(_) => true,
+            TokenBearer::Unknown => false,
+            TokenBearer::Manager | TokenBearer::Holder(_) => true,
         }
     }
 
@@ -191,8 +191,8 @@ impl Acl {
         ensures { result ≡ is_manager self.now (option_copied secret.entry) }
     {
         match self.bearer(secret) {
-            Bearer::Manager => true,
-            Bearer::Unknown | Bearer::Holder(_) => false,
+            TokenBearer::Manager => true,
+            TokenBearer::Unknown | TokenBearer::Holder(_) => false,
         }
     }
 

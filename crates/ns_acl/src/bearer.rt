@@ -9,7 +9,7 @@ use ns_types::text::Text;
 
 /// Whom a secret stands for.
 #[derive(Clone, Copy)]
-pub(crate) enum Bearer<'a> {
+pub(crate) enum TokenBearer<'a> {
     Unknown,
     Manager,
     /// Of the policies with these names.
@@ -17,11 +17,11 @@ pub(crate) enum Bearer<'a> {
 }
 
 /// Whom a token's secret stands for.
-pub(crate) fn of_token(token: &Token) -> Bearer<'_>
+pub(crate) fn of_token(token: &Token) -> TokenBearer<'_>
     ensures { bearer_of result ≡ bearer_with token.now.kind token.now.policies }
 {
     match token.kind {
-        TokenKind::Management => Bearer::Manager,
-        TokenKind::Client => Bearer::Holder(token.policies.as_slice()),
+        TokenKind::Management => TokenBearer::Manager,
+        TokenKind::Client => TokenBearer::Holder(token.policies.as_slice()),
     }
 }

@@ -26,19 +26,19 @@ use ns_types::worker::Worker;
 
 /// The pools that are asked for.
 #[derive(Clone, Copy)]
-pub(crate) enum Asked<'a> {
+pub(crate) enum AskedPools<'a> {
     Named(&'a Text),
     /// Those that the first record permits, and the second does not.
     Withdrawn(&'a Namespace, &'a Namespace),
 }
 
-impl Asked<'_> {
+impl AskedPools<'_> {
     fn passes(&self, pool: &Text) -> bool
         ensures { result ≡ passes self.now pool.now }
     {
         match self {
-            Asked::Named(name) => same_text(name, pool),
-            Asked::Withdrawn(old, new) => is_withdrawn(old, new, pool),
+            AskedPools::Named(name) => same_text(name, pool),
+            AskedPools::Withdrawn(old, new) => is_withdrawn(old, new, pool),
         }
     }
 }
@@ -51,7 +51,7 @@ fn is_open(evaluation: &Evaluation) -> bool
     matches!(evaluation.status, Status::Pending | Status::Blocked)
 }
 
-fn is_job_in(slot: &NameSlot<Job>, asked: &Asked) -> bool
+fn is_job_in(slot: &NameSlot<Job>, asked: &AskedPools) -> bool
     ensures { result ≡ at_slot (job_in (passes asked.now)) slot.now }
 {
     match &slot.1 {
@@ -69,7 +69,7 @@ fn is_unfinished(slot: &NumberSlot<Evaluation>) -> bool
     }
 }
 
-fn is_open_in(slot: &NumberSlot<Evaluation>, asked: &Asked) -> bool
+fn is_open_in(slot: &NumberSlot<Evaluation>, asked: &AskedPools) -> bool
     ensures { result ≡ at_slot (open_in (passes asked.now)) slot.now }
 {
     match &slot.1 {
@@ -78,7 +78,7 @@ fn is_open_in(slot: &NumberSlot<Evaluation>, asked: &Asked) -> bool
     }
 }
 
-fn keeps_in(worker: &Worker, asked: &Asked) -> bool
+fn keeps_in(worker: &Worker, asked: &AskedPools) -> bool
     ensures { result ≡ option_map_or (λ kept. passes asked.now kept.pool) worker.now.kept false }
 {
     match worker.kept() {
@@ -87,7 +87,7 @@ fn keeps_in(worker: &Worker, asked: &Asked) -> bool
     }
 }
 
-fn is_kept_in(slot: &NumberSlot<Worker>, asked: &Asked) -> bool
+fn is_kept_in(slot: &NumberSlot<Worker>, asked: &AskedPools) -> bool
     ensures { result ≡ at_slot (kept_in (passes asked.now)) slot.now }
 {
     match &slot.1 {
@@ -105,7 +105,7 @@ fn lives(slot: &NumberSlot<Allocation>) -> bool
     }
 }
 
-fn is_live_in(slot: &NumberSlot<Allocation>, asked: &Asked) -> bool
+fn is_live_in(slot: &NumberSlot<Allocation>, asked: &AskedPools) -> bool
     ensures { result ≡ at_slot (live_in (passes asked.now)) slot.now }
 {
     match &slot.1 {
@@ -116,7 +116,7 @@ fn is_live_in(slot: &NumberSlot<Allocation>, asked: &Asked) -> bool
 
 // ---- some row
 
-fn any_job_in(slots: &[NameSlot<Job>], asked: &Asked) -> bool
+fn any_job_in(slots: &[NameSlot<Job>], asked: &AskedPools) -> bool
     ensures { result ≡ list_any (at_slot (job_in (passes asked.now))) slots.now }
 {
     slots.iter().any(|slot| is_job_in(slot, asked))
@@ -128,13 +128,13 @@ fn any_unfinished(slots: &[NumberSlot<Evaluation>]) -> bool
     slots.iter().any(|slot| is_unfinished(slot))
 }
 
-fn any_open_in(slots: &[NumberSlot<Evaluation>], asked: &Asked) -> bool
+fn any_open_in(slots: &[NumberSlot<Evaluation>], asked: &AskedPools) -> bool
     ensures { result ≡ list_any (at_slot (open_in (passes asked.now))) slots.now }
 {
     slots.iter().any(|slot| is_open_in(slot, asked))
 }
 
-fn any_kept_in(slots: &[NumberSlot<Worker>], asked: &Asked) -> bool
+fn any_kept_in(slots: &[NumberSlot<Worker>], asked: &AskedPools) -> bool
     ensures { result ≡ list_any (at_slot (kept_in (passes asked.now))) slots.now }
 {
     slots.iter().any(|slot| is_kept_in(slot, asked))
@@ -146,13 +146,13 @@ fn any_lives(slots: &[NumberSlot<Allocation>]) -> bool
     slots.iter().any(|slot| lives(slot))
 }
 
-fn any_live_in(slots: &[NumberSlot<Allocation>], asked: &Asked) -> bool
+fn any_live_in(slots: &[NumberSlot<Allocation>], asked: &AskedPools) -> bool
     ensures { result ≡ list_any (at_slot (live_in (passes asked.now))) slots.now }
 {
     slots.iter().any(|slot| is_live_in(slot, asked))
 }
 
-fn any_there<V>(slots: &[(Text, Option<V>)]) -> bool
+fn any_there<V>(slots: &[NameSlot<V>]) -> bool
     ensures { result ≡ list_any (at_slot (λ e. true)) slots.now }
 {
     slots.iter().any(|slot| slot.1.is_some())
@@ -167,7 +167,7 @@ pub(crate) fn has_rows<V: Drop>(table: &NameTable<V>) -> bool
     any_there(table.as_slice())
 }
 
-fn has_job_in(tenant: &TenantRows, asked: &Asked) -> bool
+fn has_job_in(tenant: &TenantRows, asked: &AskedPools) -> bool
     ensures { result ≡ has_job_in (passes asked.now) (tenant_of tenant.now) }
 {
     any_job_in(tenant.jobs.as_slice(), asked)
@@ -179,13 +179,13 @@ fn has_open(tenant: &TenantRows) -> bool
     any_unfinished(tenant.evaluations.rows().as_slice())
 }
 
-fn has_open_in(tenant: &TenantRows, asked: &Asked) -> bool
+fn has_open_in(tenant: &TenantRows, asked: &AskedPools) -> bool
     ensures { result ≡ has_open_in (passes asked.now) (tenant_of tenant.now) }
 {
     any_open_in(tenant.evaluations.rows().as_slice(), asked)
 }
 
-fn has_kept_in(tenant: &TenantRows, asked: &Asked) -> bool
+fn has_kept_in(tenant: &TenantRows, asked: &AskedPools) -> bool
     ensures { result ≡ has_kept_in (passes asked.now) (tenant_of tenant.now) }
 {
     any_kept_in(tenant.workers.as_slice(), asked)
@@ -197,7 +197,7 @@ fn has_live(tenant: &TenantRows) -> bool
     any_lives(tenant.allocations.as_slice())
 }
 
-fn has_live_in(tenant: &TenantRows, asked: &Asked) -> bool
+fn has_live_in(tenant: &TenantRows, asked: &AskedPools) -> bool
     ensures { result ≡ has_live_in (passes asked.now) (tenant_of tenant.now) }
 {
     any_live_in(tenant.allocations.as_slice(), asked)
@@ -206,14 +206,14 @@ fn has_live_in(tenant: &TenantRows, asked: &Asked) -> bool
 // ---- in a namespace
 
 /// Whether a job, an open evaluation or a kept snapshot of the namespace names a pool that is asked for.
-pub(crate) fn looks_to_pool(tenant: &TenantRows, asked: &Asked) -> bool
+pub(crate) fn looks_to_pool(tenant: &TenantRows, asked: &AskedPools) -> bool
     ensures { result ≡ looks_to_pool (passes asked.now) (tenant_of tenant.now) }
 {
     has_job_in(tenant, asked) || has_open_in(tenant, asked) || has_kept_in(tenant, asked)
 }
 
 /// Whether one of these or a live allocation of the namespace names a pool that is asked for.
-fn uses_pool(tenant: &TenantRows, asked: &Asked) -> bool
+fn uses_pool(tenant: &TenantRows, asked: &AskedPools) -> bool
     ensures { result ≡ uses_pool (passes asked.now) (tenant_of tenant.now) }
 {
     looks_to_pool(tenant, asked) || has_live_in(tenant, asked)
@@ -230,7 +230,7 @@ fn has_unfinished(tenant: &TenantRows) -> bool
 pub(crate) fn forbids_put(tenant: &TenantRows, new: &Namespace) -> bool
     ensures { result ≡ forbids_put new.now (tenant_of tenant.now) }
 {
-    let withdrawn = Asked::Withdrawn(&tenant.namespace, new);
+    let withdrawn = AskedPools::Withdrawn(&tenant.namespace, new);
     uses_pool(tenant, &withdrawn) || !same_quota(&tenant.namespace, new) && has_unfinished(tenant)
 }
 

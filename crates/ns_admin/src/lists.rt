@@ -15,7 +15,7 @@ use ns_types::text::Text;
 use std::alloc::{AllocError, Global};
 
 /// A row that lists by name show.
-trait Listed {
+trait ListedByName {
     ghost use Rattle.ns_types.specs.State.Names.{Name};
 
     type Shown: Drop;
@@ -26,7 +26,7 @@ trait Listed {
         ensures { IfOk result (λ shown. shown ≡ listed (name.now, self.now)) };
 }
 
-impl Listed for TenantRows {
+impl ListedByName for TenantRows {
     type Shown = NamespaceShown;
 
     ghost listed = { namespace_shown };
@@ -39,7 +39,7 @@ impl Listed for TenantRows {
     }
 }
 
-impl Listed for PoolRows {
+impl ListedByName for PoolRows {
     type Shown = PoolShown;
 
     ghost listed = { pool_shown };
@@ -70,7 +70,7 @@ fn show_quotas(alloc: Global, slots: &[NameSlot<QuotaRows>]) -> Result<Rows<Quot
 }
 
 /// What lists show of the rows whose names pass, by name.
-fn show_passing<V: Listed, F: Fn(&Text) -> bool>(
+fn show_passing<V: ListedByName, F: Fn(&Text) -> bool>(
     alloc: Global,
     slots: &[NameSlot<V>],
     shows: F,

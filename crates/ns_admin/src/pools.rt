@@ -9,7 +9,7 @@ ghost use Rattle.ns_admin.specs.Recorded.{PreparesRecord};
 ghost use Rattle.ns_admin.specs.Viewed.{tenant_uses_pool};
 ghost use Rattle.ns_tables.specs.World.{pool_of, world_of};
 
-use crate::held::{Asked, has_rows, looks_to_pool};
+use crate::held::{AskedPools, has_rows, looks_to_pool};
 use crate::looking::{is_default, is_full};
 use crate::record::RecordChange;
 use crate::sharing::names_pool;
@@ -25,7 +25,7 @@ fn uses_pool(slot: &NameSlot<TenantRows>, pool: &Text) -> bool
 {
     match &slot.1 {
         Some(tenant) => {
-            names_pool(pool, &tenant.namespace) || looks_to_pool(tenant, &Asked::Named(pool))
+            names_pool(pool, &tenant.namespace) || looks_to_pool(tenant, &AskedPools::Named(pool))
         }
         None => false,
     }

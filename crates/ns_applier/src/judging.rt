@@ -17,7 +17,7 @@ use crate::losing::Evicting;
 use crate::view::Present;
 use ns_live_index::Live;
 use ns_place::marking::Marked;
-use ns_renewal::{Counted, numbers_pass};
+use ns_renewal::{CountedEvictions, numbers_pass};
 use ns_tables::Tables;
 use ns_types::plan::Plan;
 use ns_types::snapshot::Snapshot;
@@ -45,7 +45,7 @@ fn evaluations_pass(
         nodes,
     };
     let placements = plan.placing.placements.as_slice();
-    numbers_pass(tables, Counted::new(placements, evicting))
+    numbers_pass(tables, CountedEvictions::new(placements, evicting))
 }
 
 /// Whether a counter passes its bound once the plan is done on the nodes at those places of the snapshot, which do their

@@ -3,7 +3,7 @@
 use crate::view::Present;
 use ns_place::marking::Marked;
 use ns_plan::counts;
-use ns_renewal::Counts;
+use ns_renewal::CountsEviction;
 use ns_types::plan::{Eviction, Placement};
 use ns_types::snapshot::Snapshot;
 
@@ -17,7 +17,7 @@ pub(crate) struct Evicting<'a> {
     pub(crate) nodes: &'a Marked<'a>,
 }
 
-impl<'a> Counts for Evicting<'a> {
+impl<'a> CountsEviction for Evicting<'a> {
     ghost use Rattle.ns_plan.specs.After.{after_stops};
     ghost use Rattle.ns_applier.specs.Losing.{is_victim};
 

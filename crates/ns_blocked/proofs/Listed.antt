@@ -18,7 +18,7 @@ use Rattle.ns_types.proofs.Named.{numbers, one_number, same_key_refl, same_numbe
 use Rattle.ns_types.proofs.TableRows.{entries_empty, some_row}
 use Rattle.ns_types.proofs.Tables.{any_row-none, each_row, entries-table_of, get-table_of, tied}
 use Rattle.ns_types.proofs.Tests.{not_Some, same_Some}
-use Rattle.ns_blocked.specs.declared.entry.Entry.{Entry}
+use Rattle.ns_blocked.specs.declared.entry.BlockedEvaluation.{BlockedEvaluation}
 use Rattle.ns_blocked.specs.declared.entry.Waiting.{Waiting}
 use Rattle.ns_blocked.specs.declared.entry.Waits.{Waits}
 use Rattle.ns_blocked.specs.declared.groups.Groups.{Groups}
@@ -62,12 +62,12 @@ chosen_filter p (e ∷ xs) = ap (with_row e.0 (cond (p e.1) (Some e.1) None)) (c
     by true = refl
     by false = refl
 
-chosen_rows : (waits : Waits) (xs : List (ℕ × Entry)) →
+chosen_rows : (waits : Waits) (xs : List (ℕ × BlockedEvaluation)) →
     row_list (map (λ e. (e.0, row_for waits (Some e.1))) xs) ≡ map (λ e. (e.0, row_of e.1)) (filter (λ e. same_waits waits e.1.waits) xs)
 chosen_rows waits [] = refl
 chosen_rows waits (e ∷ xs) = ap (with_row e.0 (row_for waits (Some e.1))) (chosen_rows waits xs) ∙ by (same_waits waits e.1.waits)
   where
-    rest : List (ℕ × Entry)
+    rest : List (ℕ × BlockedEvaluation)
     rest = filter (λ e. same_waits waits e.1.waits) xs
 
     by : (b : Bool) → with_row e.0 (cond b (Some (row_of e.1)) None) (map (λ e. (e.0, row_of e.1)) rest) ≡ map (λ e. (e.0, row_of e.1)) (cond b (e ∷ rest) rest)
@@ -82,7 +82,7 @@ group_is b next h waits = sym (entries-rows (group_of b.groups waits))
     ∙ group_slot b.groups waits n ∙ h.grouped waits n ∙ ap (row_for waits) (sym (place_row b n)) ∙ by (get (by_place b) n))
     ∙ chosen_rows waits (entries (by_place b))
   where
-    by : (r : Option Entry) → row_for waits r ≡ flat (option_map (λ e. row_for waits (Some e)) r)
+    by : (r : Option BlockedEvaluation) → row_for waits r ≡ flat (option_map (λ e. row_for waits (Some e)) r)
     by None = refl
     by (Some e) = refl
 
@@ -90,21 +90,21 @@ group_is b next h waits = sym (entries-rows (group_of b.groups waits))
 
 has_listed : (b : Index) (key : Key) → has_key (map (λ e. e.key) (values (by_place b))) key ≡ any_row (λ _ e. same_key key e.key) (by_place b)
 unfolding any_row
-has_listed b key = any_map (same_key key) (λ (e : Entry). e.key) (values (by_place b))
-    ∙ any_map (λ (e : Entry). same_key key e.key) (λ (e : ℕ × Entry). e.1) (entries (by_place b))
+has_listed b key = any_map (same_key key) (λ (e : BlockedEvaluation). e.key) (values (by_place b))
+    ∙ any_map (λ (e : BlockedEvaluation). same_key key e.key) (λ (e : ℕ × BlockedEvaluation). e.1) (entries (by_place b))
 
 -- a key has a place where it is in the list
 pub is_held : (b : Index) (next : ℕ) → IsIndexed b next → (key : Key) →
     is_some (row_in b.places key) ≡ has_key (map (λ e. e.key) (values (by_place b))) key
 is_held b next h key = by (row_in b.places key) refl ∙ sym (has_listed b key)
   where
-    there : (n : ℕ) (r : Option Entry) → entry_at b n ≡ r → option_map (λ e. e.key) r ≡ Some key →
+    there : (n : ℕ) (r : Option BlockedEvaluation) → entry_at b n ≡ r → option_map (λ e. e.key) r ≡ Some key →
         any_row (λ _ e. same_key key e.key) (by_place b) ≡ true
     there n None at is = absurd (not_Some key is)
     there n (Some e) at is = some_row numbers one_number (λ _ e. same_key key e.key) (by_place b) n e (place_row b n ∙ at)
         (ap (same_key key) (same_Some e.key key is) ∙ same_key_refl key)
 
-    other : row_in b.places key ≡ None → (n : ℕ) (e : Entry) → entry_at b n ≡ Some e → (s : Bool) → same_key key e.key ≡ s → s ≡ false
+    other : row_in b.places key ≡ None → (n : ℕ) (e : BlockedEvaluation) → entry_at b n ≡ Some e → (s : Bool) → same_key key e.key ≡ s → s ≡ false
     other none n e at true s = absurd (not_Some n (sym none ∙ ap (row_in b.places) (key_is key e.key s) ∙ h.placed n e at))
     other none n e at false s = refl
 
@@ -134,7 +134,7 @@ stays_in old new of k n row wrote t (Some waits) = ap (option_map (entry_with wa
     (wrote waits n ∙ (λ i. cond (same_waits waits of && t i) row (group_row old waits n)) ∙ off (same_waits waits of) row (group_row old waits n))
 
 module _ (old new : Index) (k : ℕ) where
-  pub entry_put : (e : Entry) → ((n : ℕ) → row_at new.waits n ≡ cond (same_number n k) (Some e.waits) (row_at old.waits n)) →
+  pub entry_put : (e : BlockedEvaluation) → ((n : ℕ) → row_at new.waits n ≡ cond (same_number n k) (Some e.waits) (row_at old.waits n)) →
       WritesGroup e.waits k (Some (row_of e)) old.groups new.groups → (n : ℕ) → entry_at new n ≡ cond (same_number n k) (Some e) (entry_at old n)
   entry_put e waits wrote n = ap (entry_in new.groups n) (waits n) ∙ by (same_number n k) refl
     where
@@ -177,18 +177,18 @@ module _ (old new : Index) (next : ℕ) (h : IsIndexed old next) where
   still_indexed same = record {
     grouped = λ waits n. same.groups waits n ∙ h.grouped waits n ∙ ap (row_for waits) (sym (same.entry n));
     placed = λ n e at. same.places e.key ∙ h.placed n e (sym (same.entry n) ∙ at);
-    there = λ key n at. ap (option_map (λ (e : Entry). e.key)) (same.entry n) ∙ h.there key n (sym (same.places key) ∙ at);
+    there = λ key n at. ap (option_map (λ (e : BlockedEvaluation). e.key)) (same.entry n) ∙ h.there key n (sym (same.places key) ∙ at);
     before = λ n e at. h.before n e (sym (same.entry n) ∙ at);
   }
 
   none_next : entry_at old next ≡ None
   none_next = by (entry_at old next) refl
     where
-      by : (r : Option Entry) → entry_at old next ≡ r → r ≡ None
+      by : (r : Option BlockedEvaluation) → entry_at old next ≡ r → r ≡ None
       by None is = refl
       by (Some e) is = let below : next < next = h.before next e is in absurd (omega arith)
 
-  pub put_indexed : (e : Entry) → PutsEntry next e old new → row_in old.places e.key ≡ None → IsIndexed new (next + 1)
+  pub put_indexed : (e : BlockedEvaluation) → PutsEntry next e old new → row_in old.places e.key ≡ None → IsIndexed new (next + 1)
   put_indexed e puts none = record {
     grouped = λ waits n. puts.groups waits n ∙ grouped waits n (same_number n next) refl ∙ ap (row_for waits) (sym (puts.entry n));
     placed = λ n x at. placed n x (same_number n next) refl (sym (puts.entry n) ∙ at);
@@ -206,33 +206,33 @@ module _ (old new : Index) (next : ℕ) (h : IsIndexed old next) where
       grouped waits n true t = here waits n t (same_waits waits e.waits)
       grouped waits n false t = off (same_waits waits e.waits) (Some (row_of e)) (group_row old.groups waits n) ∙ h.grouped waits n
 
-      other : (n : ℕ) (x : Entry) → entry_at old n ≡ Some x → (s : Bool) → same_key x.key e.key ≡ s → cond s (Some next) (row_in old.places x.key) ≡ Some n
+      other : (n : ℕ) (x : BlockedEvaluation) → entry_at old n ≡ Some x → (s : Bool) → same_key x.key e.key ≡ s → cond s (Some next) (row_in old.places x.key) ≡ Some n
       other n x is true s = absurd (not_Some n (sym none ∙ ap (row_in old.places) (sym (key_is x.key e.key s)) ∙ h.placed n x is))
       other n x is false s = h.placed n x is
 
-      placed : (n : ℕ) (x : Entry) (b : Bool) → same_number n next ≡ b → cond b (Some e) (entry_at old n) ≡ Some x → row_in new.places x.key ≡ Some n
-      placed n x true t is = ap (λ (x : Entry). row_in new.places x.key) (sym (same_Some e x is)) ∙ puts.places e.key
+      placed : (n : ℕ) (x : BlockedEvaluation) (b : Bool) → same_number n next ≡ b → cond b (Some e) (entry_at old n) ≡ Some x → row_in new.places x.key ≡ Some n
+      placed n x true t is = ap (λ (x : BlockedEvaluation). row_in new.places x.key) (sym (same_Some e x is)) ∙ puts.places e.key
           ∙ ap (λ b. cond b (Some next) (row_in old.places e.key)) (same_key_refl e.key) ∙ ap Some (sym (tied one_number n next t))
       placed n x false t is = puts.places x.key ∙ other n x is (same_key x.key e.key) refl
 
       apart : (q : Key) (n : ℕ) → row_in old.places q ≡ Some n → (b : Bool) → same_number n next ≡ b →
           option_map (λ e. e.key) (cond b (Some e) (entry_at old n)) ≡ Some q
       apart q n is true t =
-          absurd (not_Some q (sym (ap (option_map (λ (e : Entry). e.key)) (ap (entry_at old) (tied one_number n next t) ∙ none_next)) ∙ h.there q n is))
+          absurd (not_Some q (sym (ap (option_map (λ (e : BlockedEvaluation). e.key)) (ap (entry_at old) (tied one_number n next t) ∙ none_next)) ∙ h.there q n is))
       apart q n is false t = h.there q n is
 
       there : (q : Key) (n : ℕ) (s : Bool) → same_key q e.key ≡ s → cond s (Some next) (row_in old.places q) ≡ Some n →
           option_map (λ e. e.key) (entry_at new n) ≡ Some q
-      there q n true s is = ap (λ n. option_map (λ (e : Entry). e.key) (entry_at new n)) (sym (same_Some next n is))
-          ∙ ap (option_map (λ (e : Entry). e.key)) (puts.entry next ∙ ap (λ b. cond b (Some e) (entry_at old next)) (same_number_refl next))
+      there q n true s is = ap (λ n. option_map (λ (e : BlockedEvaluation). e.key) (entry_at new n)) (sym (same_Some next n is))
+          ∙ ap (option_map (λ (e : BlockedEvaluation). e.key)) (puts.entry next ∙ ap (λ b. cond b (Some e) (entry_at old next)) (same_number_refl next))
           ∙ ap Some (sym (key_is q e.key s))
-      there q n false s is = ap (option_map (λ (e : Entry). e.key)) (puts.entry n) ∙ apart q n is (same_number n next) refl
+      there q n false s is = ap (option_map (λ (e : BlockedEvaluation). e.key)) (puts.entry n) ∙ apart q n is (same_number n next) refl
 
-      before : (n : ℕ) (x : Entry) (b : Bool) → same_number n next ≡ b → cond b (Some e) (entry_at old n) ≡ Some x → n < next + 1
+      before : (n : ℕ) (x : BlockedEvaluation) (b : Bool) → same_number n next ≡ b → cond b (Some e) (entry_at old n) ≡ Some x → n < next + 1
       before n x true t is = let same : n ≡ next = tied one_number n next t in omega arith
       before n x false t is = let below : n < next = h.before n x is in omega arith
 
-  pub take_indexed : (k : ℕ) (e : Entry) → entry_at old k ≡ Some e → TakesEntry k e old new → IsIndexed new next
+  pub take_indexed : (k : ℕ) (e : BlockedEvaluation) → entry_at old k ≡ Some e → TakesEntry k e old new → IsIndexed new next
   take_indexed k e at_k takes = record {
     grouped = λ waits n. takes.groups waits n ∙ grouped waits n (same_number n k) refl ∙ ap (row_for waits) (sym (takes.entry n));
     placed = λ n x at. placed n x (same_number n k) refl (sym (takes.entry n) ∙ at);
@@ -251,14 +251,14 @@ module _ (old new : Index) (next : ℕ) (h : IsIndexed old next) where
       grouped waits n true t = here waits n t (same_waits waits e.waits) refl
       grouped waits n false t = off (same_waits waits e.waits) None (group_row old.groups waits n) ∙ h.grouped waits n
 
-      other : (n : ℕ) (x : Entry) → entry_at old n ≡ Some x → same_number n k ≡ false → (s : Bool) → same_key x.key e.key ≡ s →
+      other : (n : ℕ) (x : BlockedEvaluation) → entry_at old n ≡ Some x → same_number n k ≡ false → (s : Bool) → same_key x.key e.key ≡ s →
           cond s None (row_in old.places x.key) ≡ Some n
       other n x is t true s =
           let same : n ≡ k = same_Some n k (sym (h.placed n x is) ∙ ap (row_in old.places) (key_is x.key e.key s) ∙ h.placed k e at_k) in
           not_both (ap (λ n. same_number n k) same ∙ same_number_refl k) t
       other n x is t false s = h.placed n x is
 
-      placed : (n : ℕ) (x : Entry) (b : Bool) → same_number n k ≡ b → cond b None (entry_at old n) ≡ Some x → row_in new.places x.key ≡ Some n
+      placed : (n : ℕ) (x : BlockedEvaluation) (b : Bool) → same_number n k ≡ b → cond b None (entry_at old n) ≡ Some x → row_in new.places x.key ≡ Some n
       placed n x true t is = absurd (not_Some x is)
       placed n x false t is = takes.places x.key ∙ other n x is t (same_key x.key e.key) refl
 
@@ -266,58 +266,58 @@ module _ (old new : Index) (next : ℕ) (h : IsIndexed old next) where
           option_map (λ e. e.key) (cond b None (entry_at old n)) ≡ Some q
       apart q n s is true t =
           let same : e.key ≡ q = same_Some e.key q
-          (sym (ap (option_map (λ (e : Entry). e.key)) (ap (entry_at old) (tied one_number n k t) ∙ at_k)) ∙ h.there q n is) in
+          (sym (ap (option_map (λ (e : BlockedEvaluation). e.key)) (ap (entry_at old) (tied one_number n k t) ∙ at_k)) ∙ h.there q n is) in
           not_both (ap (λ q. same_key q e.key) (sym same) ∙ same_key_refl e.key) s
       apart q n s is false t = h.there q n is
 
       there : (q : Key) (n : ℕ) (s : Bool) → same_key q e.key ≡ s → cond s None (row_in old.places q) ≡ Some n →
           option_map (λ e. e.key) (entry_at new n) ≡ Some q
       there q n true s is = absurd (not_Some n is)
-      there q n false s is = ap (option_map (λ (e : Entry). e.key)) (takes.entry n) ∙ apart q n s is (same_number n k) refl
+      there q n false s is = ap (option_map (λ (e : BlockedEvaluation). e.key)) (takes.entry n) ∙ apart q n s is (same_number n k) refl
 
-      before : (n : ℕ) (x : Entry) (b : Bool) → same_number n k ≡ b → cond b None (entry_at old n) ≡ Some x → n < next
+      before : (n : ℕ) (x : BlockedEvaluation) (b : Bool) → same_number n k ≡ b → cond b None (entry_at old n) ≡ Some x → n < next
       before n x true t is = absurd (not_Some x is)
       before n x false t is = h.before n x is
 
 -- ---- the list with one more, and with one less
 
-pub entries_pushed : (old new : Index) (next : ℕ) (e : Entry) → IsIndexed old next →
+pub entries_pushed : (old new : Index) (next : ℕ) (e : BlockedEvaluation) → IsIndexed old next →
     ((n : ℕ) → entry_at new n ≡ cond (same_number n next) (Some e) (entry_at old n)) → values (by_place new) ≡ values (by_place old) ++ e ∷ []
-entries_pushed old new next e h put = ap (map (λ (e : ℕ × Entry). e.1))
+entries_pushed old new next e h put = ap (map (λ (e : ℕ × BlockedEvaluation). e.1))
     (ap entries (same_map numbers one_number (by_place new) (insert (by_place old) next e) (λ n. place_row new n ∙ put n
     ∙ ap (cond (same_number n next) (Some e)) (sym (place_row old n)) ∙ sym (get-insert numbers (by_place old) next e n)))
     ∙ entries-insert numbers (by_place old) next e
     ∙ put_last next e (entries (by_place old))
     (each_row numbers one_number (λ n _. n < next) (by_place old) (λ n x at. h.before n x (sym (place_row old n) ∙ at))))
-    ∙ map-append (λ (e : ℕ × Entry). e.1) (entries (by_place old)) ((next, e) ∷ [])
+    ∙ map-append (λ (e : ℕ × BlockedEvaluation). e.1) (entries (by_place old)) ((next, e) ∷ [])
 
 -- where those stay that pass and the others are gone
-pub entries_kept : (old new : Index) (passes : Entry → Bool) →
+pub entries_kept : (old new : Index) (passes : BlockedEvaluation → Bool) →
     ((n : ℕ) → entry_at new n ≡ flat (option_map (λ e. cond (passes e) (Some e) None) (entry_at old n))) →
     values (by_place new) ≡ filter passes (values (by_place old))
-entries_kept old new passes left = ap (map (λ (e : ℕ × Entry). e.1))
+entries_kept old new passes left = ap (map (λ (e : ℕ × BlockedEvaluation). e.1))
     (chosen (by_place new) (by_place old) (λ e. cond (passes e) (Some e) None) (λ n. place_row new n ∙ left n
     ∙ ap (λ r. flat (option_map (λ e. cond (passes e) (Some e) None) r)) (sym (place_row old n)))
     ∙ chosen_filter passes (entries (by_place old)))
-    ∙ sym (filter_map passes (λ (e : ℕ × Entry). e.1) (entries (by_place old)))
+    ∙ sym (filter_map passes (λ (e : ℕ × BlockedEvaluation). e.1) (entries (by_place old)))
 
-pub entries_left : (old new : Index) (next k : ℕ) (e : Entry) → IsIndexed old next → entry_at old k ≡ Some e →
+pub entries_left : (old new : Index) (next k : ℕ) (e : BlockedEvaluation) → IsIndexed old next → entry_at old k ≡ Some e →
     ((n : ℕ) → entry_at new n ≡ cond (same_number n k) None (entry_at old n)) →
     values (by_place new) ≡ filter (λ x. not (same_key x.key e.key)) (values (by_place old))
 entries_left old new next k e h at_k taken = entries_kept old new (λ x. not (same_key x.key e.key)) (λ n. taken n ∙ by n (entry_at old n) refl)
   where
-    which : (n : ℕ) (x : Entry) → entry_at old n ≡ Some x → (b : Bool) → same_number n k ≡ b → (s : Bool) → same_key x.key e.key ≡ s →
+    which : (n : ℕ) (x : BlockedEvaluation) → entry_at old n ≡ Some x → (b : Bool) → same_number n k ≡ b → (s : Bool) → same_key x.key e.key ≡ s →
         cond b None (Some x) ≡ cond (not s) (Some x) None
     which n x is true t true s = refl
     which n x is true t false s =
         let same : x ≡ e = same_Some x e (sym is ∙ ap (entry_at old) (tied one_number n k t) ∙ at_k) in
-        not_both (ap (λ (x : Entry). same_key x.key e.key) same ∙ same_key_refl e.key) s
+        not_both (ap (λ (x : BlockedEvaluation). same_key x.key e.key) same ∙ same_key_refl e.key) s
     which n x is false t true s =
         let same : n ≡ k = same_Some n k (sym (h.placed n x is) ∙ ap (row_in old.places) (key_is x.key e.key s) ∙ h.placed k e at_k) in
         not_both (ap (λ n. same_number n k) same ∙ same_number_refl k) t
     which n x is false t false s = refl
 
-    by : (n : ℕ) (r : Option Entry) → entry_at old n ≡ r →
+    by : (n : ℕ) (r : Option BlockedEvaluation) → entry_at old n ≡ r →
         cond (same_number n k) None r ≡ flat (option_map (λ x. cond (not (same_key x.key e.key)) (Some x) None) r)
     by n None is = cond_same (same_number n k) None
     by n (Some x) is = which n x is (same_number n k) refl (same_key x.key e.key) refl
@@ -327,11 +327,11 @@ pub entries_stay : (b : Index) (next : ℕ) (key : Key) → IsIndexed b next →
     values (by_place b) ≡ filter (λ e. not (same_key e.key key)) (values (by_place b))
 entries_stay b next key h none = entries_kept b b (λ e. not (same_key e.key key)) (λ n. by n (entry_at b n) refl)
   where
-    which : (n : ℕ) (x : Entry) → entry_at b n ≡ Some x → (s : Bool) → same_key x.key key ≡ s → Some x ≡ cond (not s) (Some x) None
+    which : (n : ℕ) (x : BlockedEvaluation) → entry_at b n ≡ Some x → (s : Bool) → same_key x.key key ≡ s → Some x ≡ cond (not s) (Some x) None
     which n x is true s = absurd (not_Some n (sym none ∙ ap (row_in b.places) (sym (key_is x.key key s)) ∙ h.placed n x is))
     which n x is false s = refl
 
-    by : (n : ℕ) (r : Option Entry) → entry_at b n ≡ r → r ≡ flat (option_map (λ x. cond (not (same_key x.key key)) (Some x) None) r)
+    by : (n : ℕ) (r : Option BlockedEvaluation) → entry_at b n ≡ r → r ≡ flat (option_map (λ x. cond (not (same_key x.key key)) (Some x) None) r)
     by n None is = refl
     by n (Some x) is = which n x is (same_key x.key key) refl
 
@@ -355,18 +355,18 @@ module _ (index : Index) (none : index.waits ≡ empty) where
 
   pub no_entries_of : values (by_place index) ≡ []
   no_entries_of = ap values (same_map numbers one_number (by_place index) empty (λ n. place_row index n ∙ nowhere n ∙ sym (get-empty nat_cmp n)))
-      ∙ ap (map (λ (e : ℕ × Entry). e.1)) (entries_empty numbers one_number)
+      ∙ ap (map (λ (e : ℕ × BlockedEvaluation). e.1)) (entries_empty numbers one_number)
 
 -- the entry of a key that has a place
 pub entry_there : (b : Index) (next : ℕ) → IsIndexed b next → (key : Key) (n : ℕ) → row_in b.places key ≡ Some n →
-    (e : Entry) × ((entry_at b n ≡ Some e) × (e.key ≡ key))
+    (e : BlockedEvaluation) × ((entry_at b n ≡ Some e) × (e.key ≡ key))
 entry_there b next h key n is = by (entry_at b n) refl (h.there key n is)
   where
-    by : (r : Option Entry) → entry_at b n ≡ r → option_map (λ e. e.key) r ≡ Some key → (e : Entry) × ((entry_at b n ≡ Some e) × (e.key ≡ key))
+    by : (r : Option BlockedEvaluation) → entry_at b n ≡ r → option_map (λ e. e.key) r ≡ Some key → (e : BlockedEvaluation) × ((entry_at b n ≡ Some e) × (e.key ≡ key))
     by None at same = absurd (not_Some key same)
     by (Some e) at same = (e, (at, same_Some e.key key same))
 
-pub some_entry : (r : Option Entry) → IsTrue (is_some r) → (e : Entry) × (r ≡ Some e)
+pub some_entry : (r : Option BlockedEvaluation) → IsTrue (is_some r) → (e : BlockedEvaluation) × (r ≡ Some e)
 some_entry None there = absurd (subst T (sym there) tt)
 some_entry (Some e) there = (e, refl)
 

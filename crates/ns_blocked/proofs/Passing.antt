@@ -19,7 +19,7 @@ use Rattle.ns_types.proofs.Lists.{none_of}
 use Rattle.ns_types.proofs.Named.{numbers, one_number, same_number_refl}
 use Rattle.ns_types.proofs.Tables.{each_row, less_by}
 use Rattle.ns_types.proofs.Tests as tests
-use Rattle.ns_blocked.specs.declared.entry.Entry.{Entry}
+use Rattle.ns_blocked.specs.declared.entry.BlockedEvaluation.{BlockedEvaluation}
 use Rattle.ns_blocked.specs.declared.entry.Waiting.{Waiting}
 use Rattle.ns_blocked.specs.declared.entry.Waits.TheVariants.{Pool, Quota}
 use Rattle.ns_blocked.specs.declared.index.Index.{Index}
@@ -75,19 +75,19 @@ any_kept {A = A} p passes (x ∷ xs) = by (passes x) (any_kept p passes xs)
     by true same = λ i. sym (and-true (p x)) i || same i
     by false same = same ∙ ap (λ b. b || others) (sym (and-false (p x)))
 
-module _ (index : Index) (passes : Entry → Bool) where
-  passing : List (ℕ × Entry)
+module _ (index : Index) (passes : BlockedEvaluation → Bool) where
+  passing : List (ℕ × BlockedEvaluation)
   passing = filter (λ e. passes e.1) (entries (by_place index))
 
   has_passing : (n : ℕ) → has_number (map (λ e. e.0) passing) n ≡ passes_at passes (entry_at index n)
   unfolding passing
-  has_passing n = any_map (same_number n) (λ (e : ℕ × Entry). e.0) passing
-      ∙ any_kept (λ (e : ℕ × Entry). same_number n e.0) (λ e. passes e.1) (entries (by_place index))
+  has_passing n = any_map (same_number n) (λ (e : ℕ × BlockedEvaluation). e.0) passing
+      ∙ any_kept (λ (e : ℕ × BlockedEvaluation). same_number n e.0) (λ e. passes e.1) (entries (by_place index))
       ∙ any_row_at numbers one_number (by_place index) n passes (same_number_refl n) ∙ ap (passes_at passes) (place_row index n)
 
-  listed_keys : (es : List (ℕ × Entry)) → Each (λ e. entry_at index e.0 ≡ Some e.1) es → keys_at index (map (λ e. e.0) es) ≡ map (λ e. e.1.key) es
+  listed_keys : (es : List (ℕ × BlockedEvaluation)) → Each (λ e. entry_at index e.0 ≡ Some e.1) es → keys_at index (map (λ e. e.0) es) ≡ map (λ e. e.1.key) es
   listed_keys [] h = refl
-  listed_keys (e ∷ es) h = λ i. cons_option (option_map (λ (e : Entry). e.key) (h.0 i)) (listed_keys es h.1 i)
+  listed_keys (e ∷ es) h = λ i. cons_option (option_map (λ (e : BlockedEvaluation). e.key) (h.0 i)) (listed_keys es h.1 i)
 
   pub passing_keys : (places : List ℕ) → ArePassing passes index places → IsStrictlySortedBy nat_cmp places →
       keys_at index places ≡ keys_of_passing passes (values (by_place index))
@@ -95,31 +95,31 @@ module _ (index : Index) (passes : Entry → Bool) where
   passing_keys places are sorted = ap (keys_at index) (btree_set_from_contains numbers (record { keys = places })
       (record { keys = map (λ e. e.0) passing }) sorted
       (kept_sorted passes (entries (by_place index)) (entries_sorted (by_place index))) (λ n. are n ∙ sym (has_passing n)) exact_unsigned)
-      ∙ listed_keys passing (each_still (λ (e : ℕ × Entry). entry_at index e.0 ≡ Some e.1) (λ e. passes e.1) (entries (by_place index))
+      ∙ listed_keys passing (each_still (λ (e : ℕ × BlockedEvaluation). entry_at index e.0 ≡ Some e.1) (λ e. passes e.1) (entries (by_place index))
       (each_row numbers one_number (λ n x. entry_at index n ≡ Some x) (by_place index) (λ n x at. sym (place_row index n) ∙ at)))
-      ∙ sym (map_map (λ (e : Entry). e.key) (λ (e : ℕ × Entry). e.1) passing)
-      ∙ ap (map (λ (e : Entry). e.key)) (sym (filter_map passes (λ (e : ℕ × Entry). e.1) (entries (by_place index))))
+      ∙ sym (map_map (λ (e : BlockedEvaluation). e.key) (λ (e : ℕ × BlockedEvaluation). e.1) passing)
+      ∙ ap (map (λ (e : BlockedEvaluation). e.key)) (sym (filter_map passes (λ (e : ℕ × BlockedEvaluation). e.1) (entries (by_place index))))
 
   pub passing_gone : (new : Index) (places : List ℕ) → ArePassing passes index places → TakesPlaces places index new →
       values (by_place new) ≡ without_passing passes (values (by_place index))
   passing_gone new places are taken = entries_kept index new (λ e. not (passes e)) (λ n. taken n
       ∙ ap (λ b. cond b None (entry_at index n)) (are n) ∙ by (entry_at index n))
     where
-      which : (e : Entry) (b : Bool) → cond b None (Some e) ≡ cond (not b) (Some e) None
+      which : (e : BlockedEvaluation) (b : Bool) → cond b None (Some e) ≡ cond (not b) (Some e) None
       which e true = refl
       which e false = refl
 
-      by : (r : Option Entry) → cond (passes_at passes r) None r ≡ flat (option_map (λ e. cond (not (passes e)) (Some e) None) r)
+      by : (r : Option BlockedEvaluation) → cond (passes_at passes r) None r ≡ flat (option_map (λ e. cond (not (passes e)) (Some e) None) r)
       by None = refl
       by (Some e) = which e (passes e)
 
 -- ---- all that pass are taken out
 
 -- where an entry passes, it is there
-pub passing_there : (index : Index) (passes : Entry → Bool) (places : List ℕ) → ArePassing passes index places → ArePresent places index
+pub passing_there : (index : Index) (passes : BlockedEvaluation → Bool) (places : List ℕ) → ArePassing passes index places → ArePresent places index
 passing_there index passes places are n among = by (entry_at index n) (sym (are n) ∙ among)
   where
-    by : (r : Option Entry) → passes_at passes r ≡ true → IsTrue (is_some r)
+    by : (r : Option BlockedEvaluation) → passes_at passes r ≡ true → IsTrue (is_some r)
     by None t = absurd (subst T (sym t) tt)
     by (Some e) t = refl
 
@@ -146,7 +146,7 @@ module _ (index : Index) (next : ℕ) (h : IsIndexed index next) (n : ℕ) where
       which row true = refl
       which row false = refl
 
-      by : (r : Option Entry) → is_some (row_for (Quota quota) r) ≡ passes_at (wakes_of_quota quota) r
+      by : (r : Option BlockedEvaluation) → is_some (row_for (Quota quota) r) ≡ passes_at (wakes_of_quota quota) r
       by None = refl
       by (Some e) = which (row_of e) (same_waits (Quota quota) e.waits)
 
@@ -158,7 +158,7 @@ module _ (index : Index) (next : ℕ) (h : IsIndexed index next) (n : ℕ) where
       which row true = refl
       which row false = refl
 
-      by : (r : Option Entry) → is_usable classes (row_for (Pool pool) r) ≡ passes_at (wakes_of_pool pool classes) r
+      by : (r : Option BlockedEvaluation) → is_usable classes (row_for (Pool pool) r) ≡ passes_at (wakes_of_pool pool classes) r
       by None = refl
       by (Some e) = which (row_of e) (same_waits (Pool pool) e.waits)
 
@@ -168,7 +168,7 @@ module _ (index : Index) (next : ℕ) (h : IsIndexed index next) (n : ℕ) where
       || any_same (λ (p : ReleasedPool). is_of_pool index.groups n p.pool p.classes) (λ p. passes_at (wakes_of_pool p.pool p.classes) (entry_at index n))
       (λ p. pool_at p.pool p.classes) r.pools i) ∙ by (entry_at index n)
     where
-      by : (x : Option Entry) → (list_any (λ quota. passes_at (wakes_of_quota quota) x) r.quotas
+      by : (x : Option BlockedEvaluation) → (list_any (λ quota. passes_at (wakes_of_quota quota) x) r.quotas
           || list_any (λ p. passes_at (wakes_of_pool p.pool p.classes) x) r.pools) ≡ passes_at (is_woken r) x
       by None = λ i. none_of r.quotas i || none_of r.pools i
       by (Some e) = refl

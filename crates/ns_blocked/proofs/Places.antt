@@ -14,7 +14,7 @@ use Rattle.ns_types.specs.State.Names.{Key, has_number, same_number}
 use Rattle.ns_types.proofs.Named.{numbers, one_number, same_number_refl}
 use Rattle.ns_types.proofs.Tables.{tied}
 use Rattle.ns_types.proofs.Tests.{not_Some}
-use Rattle.ns_blocked.specs.declared.entry.Entry.{Entry}
+use Rattle.ns_blocked.specs.declared.entry.BlockedEvaluation.{BlockedEvaluation}
 use Rattle.ns_blocked.specs.declared.index.Index.{Index}
 use Rattle.ns_blocked.specs.declared.entry.Waiting.{Waiting}
 use Rattle.ns_blocked.specs.declared.entry.Waits.{Waits}
@@ -97,12 +97,12 @@ keys_stay : (old new : Index) (k : ℕ) → ((n : ℕ) → entry_at new n ≡ co
 keys_stay old new k taken [] none = refl
 keys_stay old new k taken (n ∷ ns) none =
     let apart = not_among k n ns none in
-    (λ i. cons_option (option_map (λ (e : Entry). e.key) (taken n i)) (keys_stay old new k taken ns apart.1 i))
-    ∙ ap (λ b. cons_option (option_map (λ (e : Entry). e.key) (cond b None (entry_at old n))) (keys_at old ns)) apart.0
+    (λ i. cons_option (option_map (λ (e : BlockedEvaluation). e.key) (taken n i)) (keys_stay old new k taken ns apart.1 i))
+    ∙ ap (λ b. cons_option (option_map (λ (e : BlockedEvaluation). e.key) (cond b None (entry_at old n))) (keys_at old ns)) apart.0
 
 key_last : (index : Index) (rest : List ℕ) (k : ℕ) (key : Key) → Some key ≡ option_map (λ e. e.key) (entry_at index k) →
     keys_at index (rest ++ k ∷ []) ≡ keys_at index rest ++ key ∷ []
-key_last index rest k key is = filter_map-append (λ n. option_map (λ (e : Entry). e.key) (entry_at index n)) rest (k ∷ [])
+key_last index rest k key is = filter_map-append (λ n. option_map (λ (e : BlockedEvaluation). e.key) (entry_at index n)) rest (k ∷ [])
     ∙ ap (λ r. keys_at index rest ++ cons_option r []) (sym is)
 
 -- ---- entries that are taken out, from the last place to the first
@@ -112,7 +112,7 @@ pub record IsTaking (start now : BlockedList) (all left : List ℕ) (keys : List
   pub out : keys_at now.index left ++ reverse keys ≡ keys_at start.index all
   pub gone : (n : ℕ) → cond (has_number left n) None (entry_at now.index n) ≡ cond (has_number all n) None (entry_at start.index n)
   pub there : (n : ℕ) → IsTrue (has_number left n) → IsTrue (is_some (entry_at now.index n))
-  pub room : (es : List Entry) → CanAdd es start → CanAdd es now
+  pub room : (es : List BlockedEvaluation) → CanAdd es start → CanAdd es now
 
 pub taking_none : (b : BlockedList) (all : List ℕ) (keys : List Key) → keys ≡ [] → ArePresent all b.index → IsTaking b b all all keys
 taking_none b all keys none present = record {
@@ -131,7 +131,7 @@ module _ (start now new : BlockedList) (all left rest : List ℕ) (k : ℕ) (key
   last_there = h.there k (among k ∙ ap (λ b. has_number rest k || b) (same_number_refl k) ∙ or-true (has_number rest k))
 
   module _ (none : has_number rest k ≡ false) (taken : (n : ℕ) → entry_at new.index n ≡ cond (same_number n k) None (entry_at now.index n))
-      (room : (es : List Entry) → CanAdd es now → CanAdd es new) where
+      (room : (es : List BlockedEvaluation) → CanAdd es now → CanAdd es new) where
     there_still : (n : ℕ) → IsTrue (has_number rest n) → IsTrue (is_some (entry_at new.index n))
     there_still n in_rest = subst (λ r. IsTrue (is_some r)) (sym (taken n ∙ ap (λ b. cond b None (entry_at now.index n)) (apart (same_number n k) refl)))
         (h.there n (among n ∙ ap (λ b. b || same_number n k) in_rest))
@@ -164,6 +164,6 @@ module _ (start now new : BlockedList) (all left rest : List ℕ) (k : ℕ) (key
   pub has_a_key : {P : Type 0} → None ≡ option_map (λ e. e.key) (entry_at now.index k) → P
   has_a_key {P = P} missing = by (entry_at now.index k) missing last_there
     where
-      by : (r : Option Entry) → None ≡ option_map (λ e. e.key) r → IsTrue (is_some r) → P
+      by : (r : Option BlockedEvaluation) → None ≡ option_map (λ e. e.key) r → IsTrue (is_some r) → P
       by None e there = absurd (subst T (sym there) tt)
       by (Some e) e' there = absurd (not_Some e.key e')

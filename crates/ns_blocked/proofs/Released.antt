@@ -15,7 +15,7 @@ use Rattle.ns_types.proofs.Elements.{any_map, any_same}
 use Rattle.ns_types.proofs.Tests.{or_none}
 use Rattle.ns_types.proofs.Lists.{none_of}
 use Rattle.ns_types.proofs.Named.{names, one_name, same_name_refl}
-use Rattle.ns_blocked.specs.declared.entry.Entry.{Entry}
+use Rattle.ns_blocked.specs.declared.entry.BlockedEvaluation.{BlockedEvaluation}
 use Rattle.ns_blocked.specs.declared.entry.Waits.TheVariants.{Pool, Quota}
 use Rattle.ns_blocked.specs.declared.releases.ReleasedPool.{ReleasedPool}
 use Rattle.ns_blocked.specs.Waking.{entries_still_in, entry_of, is_woken, keys_of_passing, released, released_pool, woken_by}
@@ -65,7 +65,7 @@ module _ (w w' : World) where
   unfolding wakes
   wakes_same key e = by e.quota
     where
-      as_entry : Option Name → Entry
+      as_entry : Option Name → BlockedEvaluation
       as_entry quota = record { key = key; waits = option_map_or Quota quota (Pool e.pool); escapes = e.escapes; infeasible = e.infeasible }
 
       by : (quota : Option Name) → is_woken (released w w') (as_entry quota) ≡ wakes_by w w' e quota
@@ -80,16 +80,16 @@ module _ (w w' : World) where
   woken_of [] = refl
   woken_of (key ∷ keys) = by (evaluation_at w key) (woken_of keys)
     where
-      passes : Entry → Bool
+      passes : BlockedEvaluation → Bool
       passes = is_woken (released w w')
 
-      still : List Entry
+      still : List BlockedEvaluation
       still = filter (λ e. has_key w'.blocked e.key) (filter_map (λ key. option_map (entry_of key) (evaluation_at w key)) keys)
 
       rest : List Key
       rest = filter (λ key. has_key w'.blocked key && option_map_or (wakes w w') (evaluation_at w key) false) keys
 
-      woken_too : (e : Entry) (b : Bool) → e.key ≡ key → keys_of_passing passes still ≡ rest →
+      woken_too : (e : BlockedEvaluation) (b : Bool) → e.key ≡ key → keys_of_passing passes still ≡ rest →
           map (λ e. e.key) (cond b (e ∷ filter passes still) (filter passes still)) ≡ cond b (key ∷ rest) rest
       woken_too e true is later = λ i. is i ∷ later i
       woken_too e false is later = later

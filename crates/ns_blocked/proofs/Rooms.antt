@@ -10,21 +10,21 @@ use Rattle.ns_types.proofs.Lists.{each, filter_all}
 use Rattle.ns_types.proofs.Named.{first_of_both, second_of_both}
 use Rattle.ns_types.proofs.TableRows.{apart}
 use Rattle.ns_types.proofs.Tests.{is_no}
-use Rattle.ns_blocked.specs.declared.entry.Entry.{Entry}
+use Rattle.ns_blocked.specs.declared.entry.BlockedEvaluation.{BlockedEvaluation}
 use Rattle.ns_blocked.specs.declared.index.Index.{Index}
 use Rattle.ns_blocked.specs.Blocked.{BlockedList, CanAdd, HasRoomAt, HasRoomFrom, KeepsIndexRoom, KeepsRoomBut, are_new, entries_of, keys_of}
 
 -- ---- room
 
-room_at : (old new : Index) → KeepsIndexRoom old new → (n : ℕ) (e : Entry) → HasRoomAt n e old → HasRoomAt n e new
+room_at : (old new : Index) → KeepsIndexRoom old new → (n : ℕ) (e : BlockedEvaluation) → HasRoomAt n e old → HasRoomAt n e new
 room_at old new keeps n e h = record { waits = keeps.waits n h.waits; group = keeps.groups e.waits n h.group; key = keeps.keys e.key h.key }
 
-pub room_from : (old new : Index) → KeepsIndexRoom old new → (n : ℕ) (es : List Entry) → HasRoomFrom n es old → HasRoomFrom n es new
+pub room_from : (old new : Index) → KeepsIndexRoom old new → (n : ℕ) (es : List BlockedEvaluation) → HasRoomFrom n es old → HasRoomFrom n es new
 room_from old new keeps n [] h = tt
 room_from old new keeps n (e ∷ es) h = (h.0, room_at old new keeps n e h.1, room_from old new keeps (n + 1) es h.2)
 
 -- room at the places behind the one that is given up
-pub room_behind : (old new : Index) (k : ℕ) → KeepsRoomBut k old new → (n : ℕ) (es : List Entry) → k < n → HasRoomFrom n es old → HasRoomFrom n es new
+pub room_behind : (old new : Index) (k : ℕ) → KeepsRoomBut k old new → (n : ℕ) (es : List BlockedEvaluation) → k < n → HasRoomFrom n es old → HasRoomFrom n es new
 room_behind old new k keeps n [] lt h = tt
 room_behind old new k keeps n (e ∷ es) lt h =
     let later : k < n + 1 = omega arith in (
@@ -33,14 +33,14 @@ room_behind old new k keeps n (e ∷ es) lt h =
       room_behind old new k keeps (n + 1) es later h.2,
     )
 
-room_next : (index : Index) (n m : ℕ) (xs : List Entry) (x : Entry) → m ≡ n + length xs → HasRoomFrom n xs index → m + 1 < 2 ^ 64 → HasRoomAt m x index →
+room_next : (index : Index) (n m : ℕ) (xs : List BlockedEvaluation) (x : BlockedEvaluation) → m ≡ n + length xs → HasRoomFrom n xs index → m + 1 < 2 ^ 64 → HasRoomAt m x index →
     HasRoomFrom n (xs ++ x ∷ []) index
 room_next index n m [] x is h lt r =
     let same : m ≡ n = omega arith in (subst (λ (k : ℕ). k + 1 < 2 ^ 64) same lt, subst (λ (k : ℕ). HasRoomAt k x index) same r, tt)
 room_next index n m (e ∷ xs) x is h lt r =
     let next : m ≡ (n + 1) + length xs = omega arith in (h.0, h.1, room_next index (n + 1) m xs x next h.2 lt r)
 
-pub reserved_next : (old new : Index) (n i m : ℕ) (es : List Entry) (x : Entry) → i < length es → x ≡ get_or es i x → m ≡ n + i → m + 1 < 2 ^ 64 →
+pub reserved_next : (old new : Index) (n i m : ℕ) (es : List BlockedEvaluation) (x : BlockedEvaluation) → i < length es → x ≡ get_or es i x → m ≡ n + i → m + 1 < 2 ^ 64 →
     KeepsIndexRoom old new → HasRoomAt m x new → HasRoomFrom n (take i es) old → HasRoomFrom n (take (i + 1) es) new
 reserved_next old new n i m es x lt is at bound keeps r h =
     let here : m ≡ n + length (take i es) = omega (arith, length-take i es) in
@@ -50,14 +50,14 @@ reserved_next old new n i m es x lt is at bound keeps r h =
 -- ---- entries that are appended, one after another
 
 -- the list with the rest behind it comes out as `all`, and there is room for the rest
-abbrev pub IsFilling : BlockedList → List Entry → List Entry → Type 0
+abbrev pub IsFilling : BlockedList → List BlockedEvaluation → List BlockedEvaluation → Type 0
 IsFilling b rest all = (entries_of b ++ rest ≡ all) × CanAdd rest b
 
 -- and the rest is new
-abbrev pub IsAppending : BlockedList → List Entry → List Entry → Type 0
+abbrev pub IsAppending : BlockedList → List BlockedEvaluation → List BlockedEvaluation → Type 0
 IsAppending b rest all = IsFilling b rest all × IsTrue (are_new (keys_of b) rest)
 
-module _ (old new : BlockedList) (e : Entry) (rest left all : List Entry) (steps : rest ≡ e ∷ left) (h : IsFilling old rest all) where
+module _ (old new : BlockedList) (e : BlockedEvaluation) (rest left all : List BlockedEvaluation) (steps : rest ≡ e ∷ left) (h : IsFilling old rest all) where
   can_next : CanAdd (e ∷ left) old
   can_next = subst (λ es. CanAdd es old) steps h.1
 
@@ -73,7 +73,7 @@ module _ (old new : BlockedList) (e : Entry) (rest left all : List Entry) (steps
     subst (λ n. HasRoomFrom n left new.index) (sym next) (room_from old.index new.index keeps (old.next + 1) left can_next.2),
   )
 
-module _ (old new : BlockedList) (e : Entry) (rest left all : List Entry) (steps : rest ≡ e ∷ left) (h : IsAppending old rest all) where
+module _ (old new : BlockedList) (e : BlockedEvaluation) (rest left all : List BlockedEvaluation) (steps : rest ≡ e ∷ left) (h : IsAppending old rest all) where
   new_next : IsTrue (are_new (keys_of old) (e ∷ left))
   new_next = subst (λ es. IsTrue (are_new (keys_of old) es)) steps h.1
 
@@ -84,20 +84,20 @@ module _ (old new : BlockedList) (e : Entry) (rest left all : List Entry) (steps
   appended entries next keeps = (
     filled old new e rest left all steps h.0 entries next keeps,
     subst (λ keys. IsTrue (are_new keys left))
-        (sym (ap (map (λ (e : Entry). e.key)) entries ∙ map-append (λ (e : Entry). e.key) (entries_of old) (e ∷ []))) (second_of_both _ _ new_next),
+        (sym (ap (map (λ (e : BlockedEvaluation). e.key)) entries ∙ map-append (λ (e : BlockedEvaluation). e.key) (entries_of old) (e ∷ []))) (second_of_both _ _ new_next),
   )
 
 -- ---- keys that are taken out, one after another
 
-taken_step : (key : Key) (rest : List Key) (xs : List Entry) →
+taken_step : (key : Key) (rest : List Key) (xs : List BlockedEvaluation) →
     filter (λ e. not (has_key rest e.key)) (filter (λ e. not (same_key e.key key)) xs) ≡ filter (λ e. not (has_key (key ∷ rest) e.key)) xs
 taken_step key rest [] = refl
 taken_step key rest (x ∷ xs) = by (taken_step key rest xs) (same_key x.key key)
   where
-    others : List Entry
+    others : List BlockedEvaluation
     others = filter (λ e. not (same_key e.key key)) xs
 
-    left : List Entry
+    left : List BlockedEvaluation
     left = filter (λ e. not (has_key (key ∷ rest) e.key)) xs
 
     by : filter (λ e. not (has_key rest e.key)) others ≡ left → (s : Bool) →
@@ -105,12 +105,12 @@ taken_step key rest (x ∷ xs) = by (taken_step key rest xs) (same_key x.key key
     by later true = later
     by later false = ap (λ l. cond (not (has_key rest x.key)) (x ∷ l) l) later
 
-pub taken_next : (keys : List Key) (i : ℕ) (key : Key) → i < length keys → key ≡ get_or keys i key → (old new all : List Entry) →
+pub taken_next : (keys : List Key) (i : ℕ) (key : Key) → i < length keys → key ≡ get_or keys i key → (old new all : List BlockedEvaluation) →
     new ≡ filter (λ e. not (same_key e.key key)) old → filter (λ e. not (has_key (drop i keys) e.key)) old ≡ all →
     filter (λ e. not (has_key (drop (i + 1) keys) e.key)) new ≡ all
 taken_next keys i key lt is old new all made h = ap (filter (λ e. not (has_key (drop (i + 1) keys) e.key))) made
     ∙ taken_step key (drop (i + 1) keys) old ∙ ap (λ ks. filter (λ e. not (has_key ks e.key)) old) (sym (from_here keys i key lt is)) ∙ h
 
-pub all_taken : (keys : List Key) (i : ℕ) → length keys ≤ i → (now all : List Entry) → filter (λ e. not (has_key (drop i keys) e.key)) now ≡ all → now ≡ all
+pub all_taken : (keys : List Key) (i : ℕ) → length keys ≤ i → (now all : List BlockedEvaluation) → filter (λ e. not (has_key (drop i keys) e.key)) now ≡ all → now ≡ all
 all_taken keys i le now all h = sym (ap (λ ks. filter (λ e. not (has_key ks e.key)) now) (drop_of_length-le keys le)
-    ∙ filter_all (λ (e : Entry). true) now (each (λ _. true ≡ true) (λ _. refl) now)) ∙ h
+    ∙ filter_all (λ (e : BlockedEvaluation). true) now (each (λ _. true ≡ true) (λ _. refl) now)) ∙ h

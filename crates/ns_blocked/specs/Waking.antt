@@ -4,7 +4,7 @@ use Rattle.std.specs.Prelude.{Option, is_some, option_map}
 use Rattle.std.specs.FinMap.{entries}
 use Rattle.std.specs.List.{filter_map, list_any}
 use Rattle.std.specs.Option.{option_map_or}
-use Rattle.ns_blocked.specs.declared.entry.Entry.{Entry}
+use Rattle.ns_blocked.specs.declared.entry.BlockedEvaluation.{BlockedEvaluation}
 use Rattle.ns_blocked.specs.declared.entry.Waiting.{Waiting}
 use Rattle.ns_blocked.specs.declared.entry.Waits.{Waits}
 use Rattle.ns_blocked.specs.declared.entry.Waits.TheVariants.{Pool, Quota}
@@ -35,27 +35,27 @@ abbrev pub is_usable : List Class → Option Waiting → Bool
 is_usable classes slot = option_map_or (can_use_any classes) slot false
 
 -- a released quota wakes all that wait for it
-abbrev pub wakes_of_quota : Name → Entry → Bool
+abbrev pub wakes_of_quota : Name → BlockedEvaluation → Bool
 wakes_of_quota quota e = same_waits (Quota quota) e.waits
 
 -- a released pool wakes those that wait for it and can use one of its classes
-abbrev pub wakes_of_pool : Name → List Class → Entry → Bool
+abbrev pub wakes_of_pool : Name → List Class → BlockedEvaluation → Bool
 wakes_of_pool pool classes e = same_waits (Pool pool) e.waits && can_use_any classes (row_of e)
 
 -- some released quota or pool wakes it
-abbrev pub is_woken : Releases → Entry → Bool
+abbrev pub is_woken : Releases → BlockedEvaluation → Bool
 is_woken r e = list_any (λ quota. wakes_of_quota quota e) r.quotas
     || list_any (λ p. wakes_of_pool p.pool p.classes e) r.pools
 
 -- the keys of the entries that pass, in their order, and the other entries
-abbrev pub keys_of_passing : (Entry → Bool) → List Entry → List Key
+abbrev pub keys_of_passing : (BlockedEvaluation → Bool) → List BlockedEvaluation → List Key
 keys_of_passing passes es = map (λ e. e.key) (filter passes es)
 
-abbrev pub without_passing : (Entry → Bool) → List Entry → List Entry
+abbrev pub without_passing : (BlockedEvaluation → Bool) → List BlockedEvaluation → List BlockedEvaluation
 without_passing passes es = filter (λ e. not (passes e)) es
 
 -- those that the releases wake
-abbrev pub woken_by : Releases → List Entry → List Key
+abbrev pub woken_by : Releases → List BlockedEvaluation → List Key
 woken_by r es = keys_of_passing (is_woken r) es
 
 -- ---- what a step releases
@@ -76,34 +76,34 @@ released w w' = record {
 abbrev pub waits_of : Evaluation → Waits
 waits_of e = option_map_or Quota e.quota (Pool e.pool)
 
-abbrev pub entry_of : Key → Evaluation → Entry
+abbrev pub entry_of : Key → Evaluation → BlockedEvaluation
 entry_of key e = record { key = key; waits = waits_of e; escapes = e.escapes; infeasible = e.infeasible }
 
 -- the entries of `blocked`, in their order
-abbrev pub entries_in : World → List Entry
+abbrev pub entries_in : World → List BlockedEvaluation
 entries_in w = filter_map (λ key. option_map (entry_of key) (evaluation_at w key)) w.blocked
 
 -- those that are there before the step and after its own change
-abbrev pub entries_still_in : World → World → List Entry
+abbrev pub entries_still_in : World → World → List BlockedEvaluation
 entries_still_in w w' = filter (λ e. has_key w'.blocked e.key) (entries_in w)
 
 -- ---- places in the list
 
-abbrev pub passes_at : (Entry → Bool) → Option Entry → Bool
+abbrev pub passes_at : (BlockedEvaluation → Bool) → Option BlockedEvaluation → Bool
 passes_at passes e = option_map_or passes e false
 
 -- at exactly these places the entry passes
-abbrev pub ArePassing : (Entry → Bool) → Index → List ℕ → Type 0
+abbrev pub ArePassing : (BlockedEvaluation → Bool) → Index → List ℕ → Type 0
 ArePassing passes index places = (n : ℕ) → has_number places n ≡ passes_at passes (entry_at index n)
 
 -- the keys of those that pass, where the places are theirs
 abbrev pub AreKeysAt : List ℕ → BlockedList → List Key → Type 0
-AreKeysAt places b keys = (passes : Entry → Bool) → ArePassing passes b.index places →
+AreKeysAt places b keys = (passes : BlockedEvaluation → Bool) → ArePassing passes b.index places →
     keys ≡ keys_of_passing passes (entries_of b)
 
 -- the list without those that pass, where the places are theirs
 abbrev pub IsLeftWithout : List ℕ → BlockedList → BlockedList → Type 0
-IsLeftWithout places old new = (passes : Entry → Bool) → ArePassing passes old.index places →
+IsLeftWithout places old new = (passes : BlockedEvaluation → Bool) → ArePassing passes old.index places →
     entries_of new ≡ without_passing passes (entries_of old)
 
 -- an entry is at each of the places

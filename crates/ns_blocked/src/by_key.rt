@@ -6,7 +6,7 @@ ghost use Rattle.ns_blocked.specs.ByKey.{KeepsOtherRoom, KeepsRoom, KeepsRows, W
 ghost use Rattle.ns_blocked.specs.ByKey.{has_room, numbers_of, row_in};
 ghost use Rattle.keyed.specs.Table.{row_at};
 
-use keyed::{NameTable, NumberTable};
+use keyed::{NameTable, NumberSlot, NumberTable};
 use ns_types::text::Text;
 use std::alloc::{AllocError, Global};
 
@@ -23,7 +23,7 @@ pub(crate) fn get_row<'a, V: Drop>(rows: &'a ByKey<V>, name: &Text, number: u64)
 }
 
 /// The slots at the name with their numbers, which rise.
-pub(crate) fn slots_of<'a, V: Drop>(rows: &'a ByKey<V>, name: &Text) -> &'a [(u64, Option<V>)]
+pub(crate) fn slots_of<'a, V: Drop>(rows: &'a ByKey<V>, name: &Text) -> &'a [NumberSlot<V>]
     ensures { result.now ≡ entries (numbers_of rows.now name.now) }
 {
     match rows.get(name) {

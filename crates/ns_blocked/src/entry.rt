@@ -14,7 +14,7 @@ pub enum Waits {
 
 /// A blocked evaluation, what it waits for as long as it is blocked, and which classes of its pool wake it.
 #[derive(Drop)]
-pub struct Entry {
+pub struct BlockedEvaluation {
     pub key: EvalKey,
     pub waits: Waits,
     /// Each class wakes it.

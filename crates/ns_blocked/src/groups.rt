@@ -8,7 +8,7 @@ ghost use Rattle.ns_blocked.specs.Groups.{WritesGroup, group_of, group_room, gro
 
 use crate::by_key::{ByKey, clear_row, get_row, remove_row, reserve_row, set_row, slots_of};
 use crate::entry::{Waiting, Waits};
-use keyed::NameTable;
+use keyed::{NameTable, NumberSlot};
 use ns_types::text::Text;
 use std::alloc::{AllocError, Global};
 
@@ -30,14 +30,14 @@ impl Groups {
     }
 
     /// The slots of those that wait for the quota, in the order of their places.
-    pub(crate) fn of_quota(&self, quota: &Text) -> &[(u64, Option<Waiting>)]
+    pub(crate) fn of_quota(&self, quota: &Text) -> &[NumberSlot<Waiting>]
         ensures { result.now ≡ entries (group_of self.now (Waits.Quota quota.now)) }
     {
         slots_of(&self.quotas, quota)
     }
 
     /// The slots of those that wait for the pool, in the order of their places.
-    pub(crate) fn of_pool(&self, pool: &Text) -> &[(u64, Option<Waiting>)]
+    pub(crate) fn of_pool(&self, pool: &Text) -> &[NumberSlot<Waiting>]
         ensures { result.now ≡ entries (group_of self.now (Waits.Pool pool.now)) }
     {
         slots_of(&self.pools, pool)

@@ -4,12 +4,12 @@ ghost use Rattle.std.specs.Prelude.{◌≡◌, ℕ, None, OnOk, Some, option_cop
 ghost use Rattle.std.specs.FinMap.{empty};
 ghost use Rattle.ns_blocked.specs.Blocked.{HasRoomAt, KeepsIndexRoom, KeepsRoomBut};
 ghost use Rattle.ns_blocked.specs.Blocked.{PutsEntry, SameIndex, TakesEntry, entry_at};
-ghost use Rattle.ns_blocked.specs.declared.entry.Entry.{Entry};
+ghost use Rattle.ns_blocked.specs.declared.entry.BlockedEvaluation.{BlockedEvaluation};
 ghost use Rattle.ns_blocked.specs.declared.entry.Waits.{Waits};
 ghost use Rattle.ns_blocked.specs.Groups.{group_row};
 
 use crate::by_key::{ByKey, clear_row, reserve_row, set_row, vacate_row};
-use crate::entry::{Entry, Waiting, Waits};
+use crate::entry::{BlockedEvaluation, Waiting, Waits};
 use crate::groups::Groups;
 use keyed::{NameTable, NumberTable};
 use ns_types::key::EvalKey;
@@ -50,7 +50,7 @@ impl Index {
         &mut self,
         alloc: Global,
         place: u64,
-        entry: &Entry,
+        entry: &BlockedEvaluation,
     ) -> Result<(), AllocError>
         ensures same { SameIndex self.old self.new }
         ensures room { KeepsIndexRoom self.old self.new }
@@ -64,12 +64,12 @@ impl Index {
     }
 
     /// Puts the entry at this place. It takes no memory.
-    pub(crate) fn put(&mut self, place: u64, entry: Entry)
+    pub(crate) fn put(&mut self, place: u64, entry: BlockedEvaluation)
         requires { HasRoomAt place entry self.old }
         ensures put { PutsEntry place entry self.old self.new }
         ensures room { KeepsIndexRoom self.old self.new }
     {
-        let Entry {
+        let BlockedEvaluation {
             key,
             waits,
             escapes,
@@ -88,7 +88,7 @@ impl Index {
     /// Takes the entry at this place out, and answers its key. It takes no memory.
     pub(crate) fn take(&mut self, place: u64) -> Option<EvalKey>
         ensures key { result ≡ option_map (λ e. e.key) (entry_at self.old place) }
-        ensures taken { (e : Entry) → entry_at self.old place ≡ Some e →
+        ensures taken { (e : BlockedEvaluation) → entry_at self.old place ≡ Some e →
             TakesEntry place e self.old self.new }
         ensures room { KeepsRoomBut place self.old self.new }
     {
@@ -104,7 +104,7 @@ impl Index {
     }
 
     /// Takes the room for the entry at this place away again, unless it is there.
-    pub(crate) fn clear(&mut self, place: u64, entry: &Entry)
+    pub(crate) fn clear(&mut self, place: u64, entry: &BlockedEvaluation)
         ensures { SameIndex self.old self.new }
     {
         self.waits.clear_slot(place);

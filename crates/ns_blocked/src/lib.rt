@@ -12,7 +12,7 @@ mod laws;
 mod list;
 mod releases;
 
-pub use entry::{Entry, Waiting, Waits};
+pub use entry::{BlockedEvaluation, Waiting, Waits};
 pub use laws::{the_rest_is_the_models, wakes_are_the_models};
 pub use list::BlockedList;
 pub use releases::{ReleasedPool, Releases};

@@ -5,12 +5,13 @@ ghost use Rattle.std.specs.Prelude.{IsTrue, List, None, OnOk, filter, is_some, n
 ghost use Rattle.keyed.specs.Table.{row_list};
 ghost use Rattle.ns_blocked.specs.Blocked.{CanAdd, HasRoomAt, KeepsIndexRoom, are_new};
 ghost use Rattle.ns_blocked.specs.Blocked.{entries_of, entry_at, keys_of, waiting_for};
-ghost use Rattle.ns_blocked.specs.declared.entry.Entry.{Entry};
+ghost use Rattle.ns_blocked.specs.declared.entry.BlockedEvaluation.{BlockedEvaluation};
 ghost use Rattle.ns_types.specs.State.Names.{has_key, same_key, same_number};
 
 use crate::by_key::get_row;
-use crate::entry::{Entry, Waiting, Waits};
+use crate::entry::{BlockedEvaluation, Waiting, Waits};
 use crate::index::Index;
+use keyed::NumberSlot;
 use ns_types::key::EvalKey;
 use ns_types::rows::Rows;
 use ns_types::text::Text;
@@ -74,14 +75,14 @@ impl BlockedList {
     }
 
     /// Those that wait for the quota, in their order, with their places: a look-up. A vacant slot is none.
-    pub fn of_quota(&self, quota: &Text) -> &[(u64, Option<Waiting>)]
+    pub fn of_quota(&self, quota: &Text) -> &[NumberSlot<Waiting>]
         ensures { row_list result.now ≡ waiting_for (Waits.Quota quota.now) self.now }
     {
         self.index.groups.of_quota(quota)
     }
 
     /// Those that wait for the pool, in their order, with their places: a look-up. A vacant slot is none.
-    pub fn of_pool(&self, pool: &Text) -> &[(u64, Option<Waiting>)]
+    pub fn of_pool(&self, pool: &Text) -> &[NumberSlot<Waiting>]
         ensures { row_list result.now ≡ waiting_for (Waits.Pool pool.now) self.now }
     {
         self.index.groups.of_pool(pool)
@@ -96,7 +97,7 @@ impl BlockedList {
     }
 
     /// Makes room for the entry at this place. Want of memory is the only error.
-    fn reserve_at(&mut self, place: u64, entry: &Entry) -> Result<(), AllocError>
+    fn reserve_at(&mut self, place: u64, entry: &BlockedEvaluation) -> Result<(), AllocError>
         ensures entries { entries_of self.new ≡ entries_of self.old }
         ensures next { self.new.next ≡ self.old.next }
         ensures room { KeepsIndexRoom self.old.index self.new.index }
@@ -106,7 +107,7 @@ impl BlockedList {
     }
 
     /// Makes room for those entries. Want of memory is the only error, or of places: there are 2^64, each given once.
-    pub fn reserve(&mut self, entries: &[Entry]) -> Result<(), AllocError>
+    pub fn reserve(&mut self, entries: &[BlockedEvaluation]) -> Result<(), AllocError>
         ensures entries { entries_of self.new ≡ entries_of self.old }
         ensures ok { OnOk result (CanAdd entries.now self.new) }
     {
@@ -123,7 +124,7 @@ impl BlockedList {
     }
 
     /// Puts an entry at the end. It takes no memory.
-    fn push(&mut self, entry: Entry)
+    fn push(&mut self, entry: BlockedEvaluation)
         requires places { self.old.next + 1 < 2 ^ 64 }
         requires room { HasRoomAt self.old.next entry self.old.index }
         requires fresh { has_key (keys_of self.old) entry.key ≡ false }
@@ -136,7 +137,7 @@ impl BlockedList {
     }
 
     /// Puts one entry at the end. It takes no memory.
-    pub fn block(&mut self, entry: Entry)
+    pub fn block(&mut self, entry: BlockedEvaluation)
         requires room { CanAdd (entry ∷ []) self.old }
         requires fresh { has_key (keys_of self.old) entry.key ≡ false }
         ensures { entries_of self.new ≡ entries_of self.old ++ entry ∷ [] }
@@ -145,7 +146,7 @@ impl BlockedList {
     }
 
     /// Puts those entries at the end. It takes no memory.
-    pub fn append(&mut self, entries: Rows<Entry>)
+    pub fn append(&mut self, entries: Rows<BlockedEvaluation>)
         requires room { CanAdd entries self.old }
         requires fresh { IsTrue (are_new (keys_of self.old) entries) }
         ensures { entries_of self.new ≡ entries_of self.old ++ entries }
@@ -157,7 +158,7 @@ impl BlockedList {
 
     /// Puts those entries at the end, if none of them is in and none comes twice, and answers whether it did. Where it did
     /// not, some of them may be in. It takes no memory.
-    pub fn append_new(&mut self, entries: Rows<Entry>) -> bool
+    pub fn append_new(&mut self, entries: Rows<BlockedEvaluation>) -> bool
         requires { CanAdd entries self.old }
         ensures { result ≡ true → entries_of self.new ≡ entries_of self.old ++ entries }
     {
@@ -176,7 +177,7 @@ impl BlockedList {
         ensures key { result ≡ option_map (λ e. e.key) (entry_at self.old.index place) }
         ensures entry { (n : ℕ) → entry_at self.new.index n
             ≡ cond (same_number n place) None (entry_at self.old.index n) }
-        ensures room { (es : List Entry) → CanAdd es self.old → CanAdd es self.new }
+        ensures room { (es : List BlockedEvaluation) → CanAdd es self.old → CanAdd es self.new }
     {
         self.index.take(place)
     }
@@ -185,7 +186,7 @@ impl BlockedList {
     pub fn untrack(&mut self, key: &EvalKey)
         ensures entries { entries_of self.new ≡
             filter (λ e. not (same_key e.key key.now)) (entries_of self.old) }
-        ensures room { (es : List Entry) → CanAdd es self.old → CanAdd es self.new }
+        ensures room { (es : List BlockedEvaluation) → CanAdd es self.old → CanAdd es self.new }
     {
         let Some(place) = get_row(&self.index.places, key.namespace(), key.number()) else {
             return;
@@ -198,7 +199,7 @@ impl BlockedList {
     pub fn take_out(&mut self, keys: &[EvalKey])
         ensures entries { entries_of self.new ≡
             filter (λ e. not (has_key keys.now e.key)) (entries_of self.old) }
-        ensures room { (es : List Entry) → CanAdd es self.old → CanAdd es self.new }
+        ensures room { (es : List BlockedEvaluation) → CanAdd es self.old → CanAdd es self.new }
     {
         for key in keys {
             self.untrack(key);
@@ -206,7 +207,7 @@ impl BlockedList {
     }
 
     /// Takes the room for the entry at this place away again.
-    fn clear_at(&mut self, place: u64, entry: &Entry)
+    fn clear_at(&mut self, place: u64, entry: &BlockedEvaluation)
         ensures entries { entries_of self.new ≡ entries_of self.old }
         ensures next { self.new.next ≡ self.old.next }
     {
@@ -214,7 +215,7 @@ impl BlockedList {
     }
 
     /// Takes room for those entries away again. Those that are in stay.
-    pub fn clear_room(&mut self, entries: &[Entry])
+    pub fn clear_room(&mut self, entries: &[BlockedEvaluation])
         ensures { entries_of self.new ≡ entries_of self.old }
     {
         let mut place = self.next;

@@ -83,7 +83,7 @@ fn is_among_left<T>(
     taken: &[EvalKey],
     namespace: &Text,
     job: &Text,
-    slots: &[(u64, Option<T>)],
+    slots: &[NumberSlot<T>],
 ) -> bool
     ensures { result ≡ list_any (λ slot. is_left_in tables.now change.now base.now.items taken.now
         namespace.now job.now slot.0) slots.now }
@@ -194,7 +194,7 @@ fn works_on(
     change: &Change,
     namespace: &Text,
     job: &Text,
-    slot: &(u64, Option<Worker>),
+    slot: &NumberSlot<Worker>,
 ) -> bool
     ensures { result ≡ works_on tables.now change.now namespace.now job.now slot.now }
 {

@@ -7,11 +7,11 @@ use Rattle.std.specs.Net.Grammar.{IsSocketText}
 use Rattle.std.specs.Str.{bytes_eq}
 use Rattle.clap.specs.Words.{Text, first_of, subcommand_of}
 use Rattle.ns_api.specs.declared.following.Driven.{Driven}
-use Rattle.ns_pipe.specs.declared.asked.Asked.{Asked}
+use Rattle.ns_pipe.specs.declared.asked.WordsRead.{WordsRead}
 use Rattle.ns_pipe.specs.declared.printed.Printed.{Printed}
 use Rattle.ns_pipe.specs.declared.replay.replay.Replay.{Replay}
 use Rattle.ns_listener.specs.declared.service.Service.{Service}
-use Rattle.ns_command_line.specs.declared.wanted.Wanted.{Wanted}
+use Rattle.ns_command_line.specs.declared.wanted.Invocation.{Invocation}
 use Rattle.ns_command_line.specs.Given.{Named, given_for}
 use Rattle.ns_arguments.specs.Values.{rotate_by, rotate_bytes_by}
 use Rattle.ns_command_line.specs.Serve.{IsServe, of_serve}
@@ -47,12 +47,12 @@ serve_unique named s t x y =
     }
 
 pipe_unique : (named : Named) (secret secret' : Text) (driven driven' : Driven) (printed printed' : Printed) →
-    IsPipe named secret driven printed → IsPipe named secret' driven' printed' → Asked.Pipe secret driven printed ≡ Asked.Pipe secret' driven' printed'
+    IsPipe named secret driven printed → IsPipe named secret' driven' printed' → WordsRead.Pipe secret driven printed ≡ WordsRead.Pipe secret' driven' printed'
 pipe_unique named secret secret' driven driven' printed printed' x y =
     let same = some_unique _ _ _ x.given y.given in
     let drives = sym x.drives ∙ y.drives in
     let prints = some_unique _ _ _ x.prints y.prints in
-    λ i. Asked.Pipe (same i) (drives i) (prints i)
+    λ i. WordsRead.Pipe (same i) (drives i) (prints i)
 
 alone_unique : (named : Named) (r s : Replay) → IsAlone named r → IsAlone named s → r ≡ s
 alone_unique named r s x y =
@@ -77,57 +77,57 @@ other_command (Some p) one other id id' x y differ e f =
 
 -- ---- what is asked for, by what is given
 
-only_alone : (named : Named) (wanted : Wanted) (given : Text) → given_for (codes "alone") (codes "namespace") named ≡ Some given →
-    IsWanted named wanted → (replay : Replay) × (wanted ≡ Wanted.Run (Asked.Alone replay)) × IsAlone named replay
-only_alone named (Wanted.Serve service) given e is =
+only_alone : (named : Named) (wanted : Invocation) (given : Text) → given_for (codes "alone") (codes "namespace") named ≡ Some given →
+    IsWanted named wanted → (replay : Replay) × (wanted ≡ Invocation.Run (WordsRead.Alone replay)) × IsAlone named replay
+only_alone named (Invocation.Serve service) given e is =
     absurd (other_command named (codes "alone") (codes "serve") _ _ given is.address refl e is.given)
-only_alone named (Wanted.Run (Asked.Pipe secret driven printed)) given e is =
+only_alone named (Invocation.Run (WordsRead.Pipe secret driven printed)) given e is =
     absurd (other_command named (codes "alone") (codes "pipe") _ _ given secret refl e is.given)
-only_alone named (Wanted.Run (Asked.Alone replay)) given e is = (replay, refl, is)
-only_alone named (Wanted.Run (Asked.Help help)) given e is = absurd is
-only_alone named (Wanted.Run (Asked.Mistake reason)) given e is = absurd is
-only_alone named (Wanted.Run Asked.NoMemory) given e is = absurd is
+only_alone named (Invocation.Run (WordsRead.Alone replay)) given e is = (replay, refl, is)
+only_alone named (Invocation.Run (WordsRead.Help help)) given e is = absurd is
+only_alone named (Invocation.Run (WordsRead.Mistake reason)) given e is = absurd is
+only_alone named (Invocation.Run WordsRead.NoMemory) given e is = absurd is
 
-only_serve : (named : Named) (wanted : Wanted) (given : Text) → given_for (codes "serve") (codes "listen") named ≡ Some given →
-    IsWanted named wanted → (service : Service) × (wanted ≡ Wanted.Serve service) × IsServe named service
-only_serve named (Wanted.Serve service) given e is = (service, refl, is)
-only_serve named (Wanted.Run (Asked.Pipe secret driven printed)) given e is =
+only_serve : (named : Named) (wanted : Invocation) (given : Text) → given_for (codes "serve") (codes "listen") named ≡ Some given →
+    IsWanted named wanted → (service : Service) × (wanted ≡ Invocation.Serve service) × IsServe named service
+only_serve named (Invocation.Serve service) given e is = (service, refl, is)
+only_serve named (Invocation.Run (WordsRead.Pipe secret driven printed)) given e is =
     absurd (other_command named (codes "serve") (codes "pipe") _ _ given secret refl e is.given)
-only_serve named (Wanted.Run (Asked.Alone replay)) given e is =
+only_serve named (Invocation.Run (WordsRead.Alone replay)) given e is =
     absurd (other_command named (codes "serve") (codes "alone") _ _ given replay.namespace refl e is.given)
-only_serve named (Wanted.Run (Asked.Help help)) given e is = absurd is
-only_serve named (Wanted.Run (Asked.Mistake reason)) given e is = absurd is
-only_serve named (Wanted.Run Asked.NoMemory) given e is = absurd is
+only_serve named (Invocation.Run (WordsRead.Help help)) given e is = absurd is
+only_serve named (Invocation.Run (WordsRead.Mistake reason)) given e is = absurd is
+only_serve named (Invocation.Run WordsRead.NoMemory) given e is = absurd is
 
-pipe_or_other : (named : Named) (secret : Text) (driven : Driven) (printed : Printed) (wanted : Wanted) →
-    IsPipe named secret driven printed → IsWanted named wanted → Wanted.Run (Asked.Pipe secret driven printed) ≡ wanted
-pipe_or_other named secret driven printed (Wanted.Serve service) x is =
+pipe_or_other : (named : Named) (secret : Text) (driven : Driven) (printed : Printed) (wanted : Invocation) →
+    IsPipe named secret driven printed → IsWanted named wanted → Invocation.Run (WordsRead.Pipe secret driven printed) ≡ wanted
+pipe_or_other named secret driven printed (Invocation.Serve service) x is =
     absurd (other_command named (codes "pipe") (codes "serve") _ _ secret is.address refl x.given is.given)
-pipe_or_other named secret driven printed (Wanted.Run (Asked.Pipe secret' driven' printed')) x is =
-    ap Wanted.Run (pipe_unique named _ _ _ _ _ _ x is)
-pipe_or_other named secret driven printed (Wanted.Run (Asked.Alone replay)) x is =
+pipe_or_other named secret driven printed (Invocation.Run (WordsRead.Pipe secret' driven' printed')) x is =
+    ap Invocation.Run (pipe_unique named _ _ _ _ _ _ x is)
+pipe_or_other named secret driven printed (Invocation.Run (WordsRead.Alone replay)) x is =
     absurd (other_command named (codes "pipe") (codes "alone") _ _ secret replay.namespace refl x.given is.given)
-pipe_or_other named secret driven printed (Wanted.Run (Asked.Help help)) x is = absurd is
-pipe_or_other named secret driven printed (Wanted.Run (Asked.Mistake reason)) x is = absurd is
-pipe_or_other named secret driven printed (Wanted.Run Asked.NoMemory) x is = absurd is
+pipe_or_other named secret driven printed (Invocation.Run (WordsRead.Help help)) x is = absurd is
+pipe_or_other named secret driven printed (Invocation.Run (WordsRead.Mistake reason)) x is = absurd is
+pipe_or_other named secret driven printed (Invocation.Run WordsRead.NoMemory) x is = absurd is
 
-pub wanted_unique : (named : Named) (v w : Wanted) → IsWanted named v → IsWanted named w → v ≡ w
-wanted_unique named (Wanted.Serve service) w x y =
+pub wanted_unique : (named : Named) (v w : Invocation) → IsWanted named v → IsWanted named w → v ≡ w
+wanted_unique named (Invocation.Serve service) w x y =
     let other = only_serve named w x.address x.given y in
-    ap Wanted.Serve (serve_unique named service other.0 x other.2) ∙ sym other.1
-wanted_unique named (Wanted.Run (Asked.Pipe secret driven printed)) w x y = pipe_or_other named secret driven printed w x y
-wanted_unique named (Wanted.Run (Asked.Alone replay)) w x y =
+    ap Invocation.Serve (serve_unique named service other.0 x other.2) ∙ sym other.1
+wanted_unique named (Invocation.Run (WordsRead.Pipe secret driven printed)) w x y = pipe_or_other named secret driven printed w x y
+wanted_unique named (Invocation.Run (WordsRead.Alone replay)) w x y =
     let other = only_alone named w replay.namespace x.given y in
-    ap (λ r. Wanted.Run (Asked.Alone r)) (alone_unique named replay other.0 x other.2) ∙ sym other.1
-wanted_unique named (Wanted.Run (Asked.Help help)) w x y = absurd x
-wanted_unique named (Wanted.Run (Asked.Mistake reason)) w x y = absurd x
-wanted_unique named (Wanted.Run Asked.NoMemory) w x y = absurd x
+    ap (λ r. Invocation.Run (WordsRead.Alone r)) (alone_unique named replay other.0 x other.2) ∙ sym other.1
+wanted_unique named (Invocation.Run (WordsRead.Help help)) w x y = absurd x
+wanted_unique named (Invocation.Run (WordsRead.Mistake reason)) w x y = absurd x
+wanted_unique named (Invocation.Run WordsRead.NoMemory) w x y = absurd x
 
 -- words with a bad value ask for nothing
-pub nothing_wanted : (words : List Text) (wanted : Wanted) → IsMisgiven words → IsWanted (subcommand_of program_words words) wanted → ⊥
-nothing_wanted words (Wanted.Serve service) bad is = bad.no_serve service is
-nothing_wanted words (Wanted.Run (Asked.Pipe secret driven printed)) bad is = bad.no_pipe secret driven printed is
-nothing_wanted words (Wanted.Run (Asked.Alone replay)) bad is = bad.no_alone replay is
-nothing_wanted words (Wanted.Run (Asked.Help help)) bad is = is
-nothing_wanted words (Wanted.Run (Asked.Mistake reason)) bad is = is
-nothing_wanted words (Wanted.Run Asked.NoMemory) bad is = is
+pub nothing_wanted : (words : List Text) (wanted : Invocation) → IsMisgiven words → IsWanted (subcommand_of program_words words) wanted → ⊥
+nothing_wanted words (Invocation.Serve service) bad is = bad.no_serve service is
+nothing_wanted words (Invocation.Run (WordsRead.Pipe secret driven printed)) bad is = bad.no_pipe secret driven printed is
+nothing_wanted words (Invocation.Run (WordsRead.Alone replay)) bad is = bad.no_alone replay is
+nothing_wanted words (Invocation.Run (WordsRead.Help help)) bad is = is
+nothing_wanted words (Invocation.Run (WordsRead.Mistake reason)) bad is = is
+nothing_wanted words (Invocation.Run WordsRead.NoMemory) bad is = is

@@ -8,13 +8,13 @@ use Rattle.clap.specs.declared.builder.action.ArgAction.TheVariants.{Append, Set
 use Rattle.clap.specs.declared.error.Error.{Error}
 use Rattle.clap.specs.declared.error.kind.ErrorKind.{ErrorKind}
 use Rattle.ns_api.specs.declared.following.Driven.{Driven}
-use Rattle.ns_pipe.specs.declared.asked.Asked.{Asked}
+use Rattle.ns_pipe.specs.declared.asked.WordsRead.{WordsRead}
 use Rattle.ns_pipe.specs.declared.printed.Printed.{Printed}
 use Rattle.ns_pipe.specs.declared.replay.replay.Replay.{Replay}
 use Rattle.ns_listener.specs.declared.service.Service.{Service}
 use Rattle.ns_types.specs.declared.name.NameKind.TheVariants as NameKind
 use Rattle.ns_types.specs.State.Name.{is_name}
-use Rattle.ns_command_line.specs.declared.wanted.Wanted.{Wanted}
+use Rattle.ns_command_line.specs.declared.wanted.Invocation.{Invocation}
 use Rattle.ns_arguments.specs.Values.{count_by, names_by}
 use Rattle.ns_command_line.specs.Given.{Named, all_given_for, given_for}
 use Rattle.ns_command_line.specs.Serve.{IsServe, serve_words}
@@ -143,13 +143,13 @@ pub record AsksServe (words : List Text) (service : Service) : Type 0 where
 -- ---- all of them
 
 -- this is what the subcommand that is named is given to do
-abbrev pub IsWanted : Named → Wanted → Type 0
-IsWanted named (Wanted.Serve service) = IsServe named service
-IsWanted named (Wanted.Run (Asked.Pipe secret driven printed)) = IsPipe named secret driven printed
-IsWanted named (Wanted.Run (Asked.Alone replay)) = IsAlone named replay
-IsWanted named (Wanted.Run (Asked.Help help)) = ⊥
-IsWanted named (Wanted.Run (Asked.Mistake reason)) = ⊥
-IsWanted named (Wanted.Run Asked.NoMemory) = ⊥
+abbrev pub IsWanted : Named → Invocation → Type 0
+IsWanted named (Invocation.Serve service) = IsServe named service
+IsWanted named (Invocation.Run (WordsRead.Pipe secret driven printed)) = IsPipe named secret driven printed
+IsWanted named (Invocation.Run (WordsRead.Alone replay)) = IsAlone named replay
+IsWanted named (Invocation.Run (WordsRead.Help help)) = ⊥
+IsWanted named (Invocation.Run (WordsRead.Mistake reason)) = ⊥
+IsWanted named (Invocation.Run WordsRead.NoMemory) = ⊥
 
 -- ---- bad words
 

@@ -7,7 +7,7 @@ mod run;
 mod wanted;
 mod words;
 
-pub use outcome::Outcome;
+pub use outcome::RunEnd;
 pub use run::run_words;
-pub use wanted::Wanted;
+pub use wanted::Invocation;
 pub use words::read;

@@ -7,13 +7,13 @@ ghost use Rattle.ns_pipe.specs.declared.printed.Printed.{Printed};
 ghost use Rattle.ns_faults.specs.Lines.{TriesToWrite, line_of, status_of};
 ghost use Rattle.ns_pipe.specs.declared.replay.replay.Replay.{Replay};
 ghost use Rattle.ns_listener.specs.declared.service.Service.{Service};
-ghost use Rattle.ns_command_line.specs.declared.outcome.Outcome.{Outcome};
+ghost use Rattle.ns_command_line.specs.declared.outcome.RunEnd.{RunEnd};
 ghost use Rattle.ns_command_line.specs.Outcome.{IfEnded, IsEnded, MatchOutcome};
 ghost use Rattle.ns_command_line.specs.Running.{DoesAsked, EndsHelped, EndsPiped, EndsRefused, EndsReplayed, EndsUnserved, IsHandedOn, OrUnserved};
 ghost use Rattle.ns_command_line.specs.Words.{AreBad, AskHelp, Asks, AsksAlone, AsksServe};
 
-use crate::outcome::Outcome;
-use crate::wanted::Wanted;
+use crate::outcome::RunEnd;
+use crate::wanted::Invocation;
 use crate::words::read;
 use ns_endpoints::Draws;
 use ns_faults::status::SERVED;
@@ -32,7 +32,7 @@ pub fn run_words<D: Draws + Drop, R: Read + Drop, W: Write + Drop, E: Write>(
     reader: R,
     writer: W,
     errors: &mut Counted<E>,
-) -> Outcome<R, W>
+) -> RunEnd<R, W>
     ensures ended_or_served { MatchOutcome result
         (DoesAsked D.draws R.remaining W.contents E.contents
         (texts words.entry.now) draws reader writer errors.old errors.new)
@@ -45,7 +45,7 @@ pub fn run_words<D: Draws + Drop, R: Read + Drop, W: Write + Drop, E: Write>(
     ensures replayed { (replay : Replay) → AsksAlone (texts words.entry.now) replay
         → IsEnded result (EndsReplayed R.remaining W.contents replay reader writer) }
     ensures to_serve { (service : Service) → AsksServe (texts words.entry.now) service
-        → (result ≡ Outcome.Serve service reader writer)
+        → (result ≡ RunEnd.Serve service reader writer)
         ⊎ IsEnded result (EndsUnserved reader writer) }
 
     // Bad words, and those that ask for help, are answered before any input is read.
@@ -60,7 +60,7 @@ pub fn run_words<D: Draws + Drop, R: Read + Drop, W: Write + Drop, E: Write>(
         → TriesToWrite E.contents errors.old errors.new (line_of fault)) }
 {
     match read(alloc, words) {
-        Wanted::Serve(service) => Outcome::Serve(service, reader, writer),
-        Wanted::Run(asked) => Outcome::Ended(run(alloc, &asked, draws, reader, writer, errors)),
+        Invocation::Serve(service) => RunEnd::Serve(service, reader, writer),
+        Invocation::Run(asked) => RunEnd::Ended(run(alloc, &asked, draws, reader, writer, errors)),
     }
 }

@@ -1,13 +1,13 @@
 //! What the words ask for.
 
 use ns_listener::Service;
-use ns_pipe::Asked;
+use ns_pipe::WordsRead;
 
 /// What the words ask for.
 #[derive(Drop)]
-pub enum Wanted {
+pub enum Invocation {
     /// A server over TCP.
     Serve(Service),
     /// What reads its input, if any, to the end.
-    Run(Asked),
+    Run(WordsRead),
 }

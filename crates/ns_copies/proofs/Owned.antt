@@ -14,11 +14,11 @@ use Rattle.ns_tables.specs.declared.tables.TenantRows.{TenantRows}
 use Rattle.ns_tables.specs.World.{pool_of, tenant_of}
 use Rattle.ns_copies.specs.Chosen.{is_chosen}
 use Rattle.ns_copies.specs.Copied.{seen_rows}
-use Rattle.ns_copies.specs.declared.choosing.Chosen.TheVariants as Chosen
+use Rattle.ns_copies.specs.declared.choosing.ChosenNames.TheVariants as ChosenNames
 use Rattle.ns_copies.proofs.Whole.{retain_all, seen_as_they_are}
 
 module _ {X : Type 0} where
-  pub all_names : (copy m : ByName (Option X)) → seen_rows (λ row. row) copy ≡ retain_keys (seen_rows (λ row. row) m) (is_chosen Chosen.All) →
+  pub all_names : (copy m : ByName (Option X)) → seen_rows (λ row. row) copy ≡ retain_keys (seen_rows (λ row. row) m) (is_chosen ChosenNames.All) →
       rows copy ≡ rows m
   all_names copy m is = sym (seen_as_they_are names one_name copy) ∙ is ∙ retain_all names one_name (seen_rows (λ row. row) m)
       ∙ seen_as_they_are names one_name m

@@ -13,7 +13,7 @@ use Rattle.ns_tables.specs.World.{pool_of, quota_of, tenant_of, world_of}
 use Rattle.ns_tables.proofs.World.{tenant_at}
 use Rattle.ns_copies.specs.Chosen.{chosen_part, is_chosen}
 use Rattle.ns_copies.specs.Copied.{EachRow, seen_rows}
-use Rattle.ns_copies.specs.declared.choosing.Chosen.{Chosen}
+use Rattle.ns_copies.specs.declared.choosing.ChosenNames.{ChosenNames}
 use Rattle.ns_copies.specs.Whole.{IsWholeTenant}
 use Rattle.ns_copies.proofs.Whole.{retain_all}
 
@@ -41,7 +41,7 @@ world_copied copy t part tenants pools quotas ready plans blocked = λ i. record
 }
 
 -- all owners have the whole world
-pub all_is_whole : (w : World) → alone_in (chosen_part Chosen.All Chosen.All Chosen.All) w ≡ w
+pub all_is_whole : (w : World) → alone_in (chosen_part ChosenNames.All ChosenNames.All ChosenNames.All) w ≡ w
 all_is_whole w = λ i. record {
   tenants = retain_all names one_name w.tenants i;
   pools = retain_all names one_name w.pools i;
@@ -51,5 +51,5 @@ all_is_whole w = λ i. record {
   blocked = keys_all w.blocked i;
 }
   where
-    keys_all : (keys : List Key) → filter (λ (key : Key). is_chosen Chosen.All key.0) keys ≡ keys
+    keys_all : (keys : List Key) → filter (λ (key : Key). is_chosen ChosenNames.All key.0) keys ≡ keys
     keys_all keys = filter_all (λ (key : Key). true) keys (each (λ (key : Key). true ≡ true) (λ _. refl) keys)

@@ -8,7 +8,7 @@ use ns_types::text::{Text, same_text};
 
 /// Names whose rows are copied.
 #[derive(Clone, Copy)]
-pub(crate) enum Chosen<'a> {
+pub(crate) enum ChosenNames<'a> {
     All,
     /// That name alone.
     Only(&'a Text),
@@ -16,15 +16,15 @@ pub(crate) enum Chosen<'a> {
     Among(&'a [Text]),
 }
 
-impl Chosen<'_> {
+impl ChosenNames<'_> {
     /// Whether the name is one of them.
     pub(crate) fn has(self, name: &Text) -> bool
         ensures { result ≡ is_chosen self.entry name.now }
     {
         match self {
-            Chosen::All => true,
-            Chosen::Only(one) => same_text(one, name),
-            Chosen::Among(names) => has_name(names, name),
+            ChosenNames::All => true,
+            ChosenNames::Only(one) => same_text(one, name),
+            ChosenNames::Among(names) => has_name(names, name),
         }
     }
 }

@@ -8,7 +8,7 @@ ghost use Rattle.ns_copies.specs.Chosen.{chosen_part, is_chosen};
 ghost use Rattle.ns_copies.specs.Copied.{seen_rows};
 ghost use Rattle.ns_tables.specs.World.{pool_of, quota_of, tenant_of, world_of};
 
-use crate::choosing::Chosen;
+use crate::choosing::ChosenNames;
 use crate::lists::copied_keys;
 use crate::tables::copied_names;
 use keyed::{KeyQueue, NameTable, OwnerTable};
@@ -18,7 +18,7 @@ use std::alloc::{AllocError, Global};
 
 /// The three ordered lists.
 #[derive(Drop)]
-struct Lists {
+struct OrderedLists {
     ready: KeyQueue,
     plans: KeyQueue,
     blocked: KeyQueue,
@@ -32,7 +32,11 @@ struct Owners {
     quotas: NameTable<QuotaRows>,
 }
 
-fn copied_lists(alloc: Global, tables: &Tables, spaces: Chosen<'_>) -> Result<Lists, AllocError>
+fn copied_lists(
+    alloc: Global,
+    tables: &Tables,
+    spaces: ChosenNames<'_>,
+) -> Result<OrderedLists, AllocError>
     ensures ready { IfOk result (λ lists. lists.ready.items
         ≡ filter (λ key. is_chosen spaces.entry key.0) tables.now.ready.items) }
     ensures plans { IfOk result (λ lists. lists.plans.items
@@ -40,7 +44,7 @@ fn copied_lists(alloc: Global, tables: &Tables, spaces: Chosen<'_>) -> Result<Li
     ensures blocked { IfOk result (λ lists. lists.blocked.items
         ≡ filter (λ key. is_chosen spaces.entry key.0) tables.now.blocked.items) }
 {
-    Ok(Lists {
+    Ok(OrderedLists {
         ready: copied_keys(alloc, &tables.ready, spaces)?,
         plans: copied_keys(alloc, &tables.plans, spaces)?,
         blocked: copied_keys(alloc, &tables.blocked, spaces)?,
@@ -50,9 +54,9 @@ fn copied_lists(alloc: Global, tables: &Tables, spaces: Chosen<'_>) -> Result<Li
 fn copied_owners(
     alloc: Global,
     tables: &Tables,
-    spaces: Chosen<'_>,
-    pools: Chosen<'_>,
-    quotas: Chosen<'_>,
+    spaces: ChosenNames<'_>,
+    pools: ChosenNames<'_>,
+    quotas: ChosenNames<'_>,
 ) -> Result<Owners, AllocError>
     requires { IsSound (world_of tables.now) }
     ensures tenants { IfOk result (λ owners. seen_rows tenant_of owners.tenants
@@ -73,9 +77,9 @@ fn copied_owners(
 fn copied(
     alloc: Global,
     tables: &Tables,
-    spaces: Chosen<'_>,
-    pools: Chosen<'_>,
-    quotas: Chosen<'_>,
+    spaces: ChosenNames<'_>,
+    pools: ChosenNames<'_>,
+    quotas: ChosenNames<'_>,
 ) -> Result<Tables, AllocError>
     requires { IsSound (world_of tables.now) }
     ensures { let part = chosen_part spaces.entry pools.entry quotas.entry in
@@ -104,7 +108,13 @@ pub fn copy(alloc: Global, tables: &Tables) -> Result<Tables, AllocError>
     requires { IsSound (world_of tables.now) }
     ensures { IfOk result (λ copy. world_of copy ≡ world_of tables.now) }
 {
-    copied(alloc, tables, Chosen::All, Chosen::All, Chosen::All)
+    copied(
+        alloc,
+        tables,
+        ChosenNames::All,
+        ChosenNames::All,
+        ChosenNames::All,
+    )
 }
 
 /// What the namespace has, with these pools and these quotas: their rows, and its entries in the lists. Want of memory is
@@ -123,8 +133,8 @@ pub fn alone(
     copied(
         alloc,
         tables,
-        Chosen::Only(namespace),
-        Chosen::Among(pools),
-        Chosen::Among(quotas),
+        ChosenNames::Only(namespace),
+        ChosenNames::Among(pools),
+        ChosenNames::Among(quotas),
     )
 }

@@ -4,7 +4,7 @@ ghost use Rattle.std.specs.Prelude.{◌≡◌, ◌++◌, IfOk, OnOk, filter};
 ghost use Rattle.keyed.specs.Queue.{passing_at};
 ghost use Rattle.ns_copies.specs.Chosen.{is_chosen};
 
-use crate::choosing::Chosen;
+use crate::choosing::ChosenNames;
 use keyed::{KeyQueue, NumberSlot};
 use ns_types::key::EvalKey;
 use ns_types::rows::Rows;
@@ -14,7 +14,7 @@ use std::alloc::{AllocError, Global};
 fn add_chosen(
     keys: &mut Rows<EvalKey>,
     slot: &NumberSlot<EvalKey>,
-    spaces: Chosen<'_>,
+    spaces: ChosenNames<'_>,
 ) -> Result<(), AllocError>
     ensures { OnOk result (keys.new
         ≡ keys.old ++ passing_at (λ key. is_chosen spaces.entry key.0) slot.now) }
@@ -31,7 +31,7 @@ fn add_chosen(
 fn chosen_keys(
     alloc: Global,
     queue: &KeyQueue,
-    spaces: Chosen<'_>,
+    spaces: ChosenNames<'_>,
 ) -> Result<Rows<EvalKey>, AllocError>
     ensures { IfOk result (λ keys.
         keys ≡ filter (λ key. is_chosen spaces.entry key.0) queue.now.items) }
@@ -47,7 +47,7 @@ fn chosen_keys(
 pub(crate) fn copied_keys(
     alloc: Global,
     queue: &KeyQueue,
-    spaces: Chosen<'_>,
+    spaces: ChosenNames<'_>,
 ) -> Result<KeyQueue, AllocError>
     ensures { IfOk result (λ copy.
         copy.items ≡ filter (λ key. is_chosen spaces.entry key.0) queue.now.items) }

@@ -6,7 +6,7 @@ ghost use Rattle.ns_types.specs.State.Rows;
 ghost use Rattle.ns_tables.specs.World.{pool_of, quota_of, tenant_of};
 ghost use Rattle.ns_copies.specs.Whole.{IsWholeTenant};
 
-use crate::choosing::Chosen;
+use crate::choosing::ChosenNames;
 use crate::copies::Copies;
 use crate::tables::{copied_names, copied_numbers};
 use keyed::{NameTable, NumberTable, Series};
@@ -73,7 +73,7 @@ struct Records {
 
 /// The work of a namespace, by number.
 #[derive(Drop)]
-struct Work {
+struct TenantWork {
     evaluations: EvaluationTable,
     allocations: AllocationTable,
     workers: NumberTable<Worker>,
@@ -87,12 +87,12 @@ fn copied_records(alloc: Global, tenant: &TenantRows) -> Result<Records, AllocEr
 {
     Ok(Records {
         events: copied_events(alloc, &tenant.events)?,
-        jobs: copied_names(alloc, &tenant.jobs, Chosen::All)?,
+        jobs: copied_names(alloc, &tenant.jobs, ChosenNames::All)?,
         namespace: tenant.namespace.clone()?,
     })
 }
 
-fn copied_work(alloc: Global, tenant: &TenantRows) -> Result<Work, AllocError>
+fn copied_work(alloc: Global, tenant: &TenantRows) -> Result<TenantWork, AllocError>
     requires { IsWholeTenant (tenant_of tenant.now) }
     ensures evaluations { IfOk result (λ work.
         rows work.evaluations.slots ≡ rows tenant.now.evaluations.slots) }
@@ -100,7 +100,7 @@ fn copied_work(alloc: Global, tenant: &TenantRows) -> Result<Work, AllocError>
         rows work.allocations.slots ≡ rows tenant.now.allocations.slots) }
     ensures workers { IfOk result (λ work. rows work.workers ≡ rows tenant.now.workers) }
 {
-    Ok(Work {
+    Ok(TenantWork {
         workers: copied_numbers(alloc, &tenant.workers)?,
         evaluations: copied_evaluations(alloc, &tenant.evaluations)?,
         allocations: copied_allocations(alloc, &tenant.allocations)?,
@@ -148,7 +148,7 @@ impl Copies for PoolRows {
             pool: self.pool.clone()?,
             release: self.release,
             classes: copied_classes(alloc, &self.classes)?,
-            nodes: copied_names(alloc, &self.nodes, Chosen::All)?,
+            nodes: copied_names(alloc, &self.nodes, ChosenNames::All)?,
         })
     }
 }

@@ -5,7 +5,7 @@ ghost use Rattle.std.specs.FinMap.{retain_keys};
 ghost use Rattle.ns_copies.specs.Chosen.{is_chosen};
 ghost use Rattle.ns_copies.specs.Copied.{EachRow, seen_rows};
 
-use crate::choosing::Chosen;
+use crate::choosing::ChosenNames;
 use crate::copies::Copies;
 use keyed::{NameTable, NumberTable};
 use std::alloc::{AllocError, Global};
@@ -14,7 +14,7 @@ use std::alloc::{AllocError, Global};
 pub(crate) fn copied_names<V: Copies>(
     alloc: Global,
     table: &NameTable<V>,
-    chosen: Chosen<'_>,
+    chosen: ChosenNames<'_>,
 ) -> Result<NameTable<V>, AllocError>
     requires { EachRow V.IsWhole table.now }
     ensures { IfOk result (λ copy. seen_rows V.seen copy

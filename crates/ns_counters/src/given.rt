@@ -40,12 +40,12 @@ trait Given {
 
 /// Room on a node of such an offer in the pool.
 #[derive(Drop)]
-struct Room<'a> {
+struct NodeRoom<'a> {
     pool: &'a Text,
     offer: &'a Offer,
 }
 
-impl Given for Room<'_> {
+impl Given for NodeRoom<'_> {
     ghost rooms = { λ r. (r.pool.now, offered_class r.offer.now) ∷ [] };
 
     ghost quotas = { λ _. [] };
@@ -57,11 +57,11 @@ impl Given for Room<'_> {
 
 /// Other limits of the quota.
 #[derive(Drop)]
-struct Limits<'a> {
+struct NewLimits<'a> {
     quota: &'a Text,
 }
 
-impl Given for Limits<'_> {
+impl Given for NewLimits<'_> {
     ghost rooms = { λ _. [] };
 
     ghost quotas = { λ l. l.quota.now ∷ [] };
@@ -160,7 +160,7 @@ fn wakings_pass<G: Given>(given: &G, tables: &Tables) -> bool
 pub fn given_room_passes(tables: &Tables, pool: &Text, offer: &Offer) -> bool
     ensures { result ≡ given_room_passes (world_of tables.now) (pool.now, offered_class offer.now) }
 {
-    Counters { tables }.is_room(pool, offer) || wakings_pass(&Room { pool, offer }, tables)
+    Counters { tables }.is_room(pool, offer) || wakings_pass(&NodeRoom { pool, offer }, tables)
 }
 
 /// Whether a counter passes its bound by a step that gives the quota other limits, and does nothing else. It goes through
@@ -168,7 +168,7 @@ pub fn given_room_passes(tables: &Tables, pool: &Text, offer: &Offer) -> bool
 pub fn given_limits_pass(tables: &Tables, quota: &Text) -> bool
     ensures { result ≡ given_limits_pass (world_of tables.now) quota.now }
 {
-    Counters { tables }.is_quota(quota) || wakings_pass(&Limits { quota }, tables)
+    Counters { tables }.is_quota(quota) || wakings_pass(&NewLimits { quota }, tables)
 }
 
 /// Whether a counter passes its bound by what an allocation of the namespace leaves of its quota, where it has one.

@@ -11,7 +11,7 @@ ghost use Rattle.ns_endpoints.specs.Wanted.{bearer_of, draft_step, IsServedDraft
 use crate::tables::wanted;
 use crate::wanted::{Bearer, Draft, Wanted};
 use ns_http::Request;
-use ns_request::{Routes, Target, secret};
+use ns_request::{RequestTarget, Routes, secret};
 use ns_types::refusal::Refusal;
 use ns_types::step::Step;
 use ns_types::text::Text;
@@ -35,7 +35,7 @@ fn namespace_or_default(
 }
 
 /// Who asks, and the namespace that the query names. One that is no namespace's name is a fault of every step.
-fn bearer(alloc: Global, target: &Target<'_>) -> Result<Bearer, Refusal>
+fn bearer(alloc: Global, target: &RequestTarget<'_>) -> Result<Bearer, Refusal>
     ensures { Gives same result (bearer_of (Head.asked target.now.request)) }
 {
     let namespace = target.query.namespace(alloc)?;
@@ -71,7 +71,7 @@ fn draft(alloc: Global, bearer: Bearer, wanted: Wanted) -> Result<Draft, AllocEr
 
 /// The step that a target asks for, or the refusal that needs no state.
 #[tactic(auto, unfolding(crate::specs::Wanted::step_of))]
-fn asked_of(alloc: Global, target: &Target<'_>) -> Result<Draft, Refusal>
+fn asked_of(alloc: Global, target: &RequestTarget<'_>) -> Result<Draft, Refusal>
     ensures step { Gives draft_step result
         (asked_of target.now.endpoint target.now.method (Head.asked target.now.request)) }
     ensures served { IfOk result IsServedDraft }
@@ -92,7 +92,7 @@ pub fn asked(alloc: Global, routes: &Routes, request: &Request<'_>) -> Result<Dr
     ensures step { Gives draft_step result (asked (Head.asked request.now)) }
     ensures served { IfOk result IsServedDraft }
 {
-    let target = Target::find(alloc, routes, request)?;
+    let target = RequestTarget::find(alloc, routes, request)?;
     let draft = asked_of(alloc, &target);
     drop(target);
     draft

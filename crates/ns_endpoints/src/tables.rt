@@ -12,7 +12,7 @@ ghost use Rattle.ns_endpoints.specs.Wanted.{IsServedWanted, Wants};
 use crate::documents::{create_token, put_namespace, put_policy, put_pool, put_quota, register};
 use crate::nodes::{put_eligibility, put_node, put_report, put_status};
 use crate::wanted::{Wanted, administers, asks, asks_in, commands};
-use ns_request::{Endpoint, Method, Target};
+use ns_request::{Endpoint, Method, RequestTarget};
 use ns_types::id::{IdKind, id_read};
 use ns_types::refusal::Refusal;
 use ns_types::step::{AdminCommand, AskCommand, NodeCommand};
@@ -44,7 +44,7 @@ fn number(kind: IdKind, id: &Text) -> u64
 }
 
 /// The text with which the ids of a list begin.
-fn prefix(alloc: Global, target: &Target<'_>) -> Result<Text, AllocError>
+fn prefix(alloc: Global, target: &RequestTarget<'_>) -> Result<Text, AllocError>
     ensures { IfOk result (λ prefix. prefix ≡ prefix_in (asked target.now.request)) }
 {
     Text::from_str(alloc, target.query.prefix())
@@ -52,7 +52,7 @@ fn prefix(alloc: Global, target: &Target<'_>) -> Result<Text, AllocError>
 
 /// A deregistration of the job that the path names.
 #[tactic(auto, unfolding(crate::specs::Asking::deregistration_asked, crate::specs::Wanted::step_of))]
-fn deregister(alloc: Global, target: &Target<'_>) -> Result<Wanted, Refusal>
+fn deregister(alloc: Global, target: &RequestTarget<'_>) -> Result<Wanted, Refusal>
     requires { target.now.name ≡ third_part (asked target.now.request) }
     ensures wanted { Wants target.now.request result deregistration_asked }
     ensures served { IfOk result IsServedWanted }
@@ -65,7 +65,7 @@ fn deregister(alloc: Global, target: &Target<'_>) -> Result<Wanted, Refusal>
 
 /// The events of a namespace, from the index that the query says.
 #[tactic(auto, unfolding(crate::specs::Asking::events_asked, crate::specs::Wanted::step_of))]
-fn stream(alloc: Global, target: &Target<'_>) -> Result<Wanted, Refusal>
+fn stream(alloc: Global, target: &RequestTarget<'_>) -> Result<Wanted, Refusal>
     ensures wanted { Wants target.now.request result events_asked }
     ensures served { IfOk result IsServedWanted }
 {
@@ -76,7 +76,7 @@ fn stream(alloc: Global, target: &Target<'_>) -> Result<Wanted, Refusal>
 }
 
 #[tactic(auto, unfolding(crate::specs::Asking::asked_of, crate::specs::Asking::ask_of, crate::specs::Asking::admin_of, crate::specs::Parts::bearer_in, crate::specs::Asking::namespace_read, crate::specs::Asking::pool_read, crate::specs::Nodes::node_of, crate::specs::Wanted::step_of))]
-fn read(alloc: Global, target: &Target<'_>) -> Result<Wanted, Refusal>
+fn read(alloc: Global, target: &RequestTarget<'_>) -> Result<Wanted, Refusal>
     ensures wanted { Wants target.now.request result (asked_of target.now.endpoint Method.Get) }
     ensures served { IfOk result IsServedWanted }
 {
@@ -110,7 +110,7 @@ fn read(alloc: Global, target: &Target<'_>) -> Result<Wanted, Refusal>
 }
 
 #[tactic(auto, unfolding(crate::specs::Asking::asked_of, crate::specs::Asking::ask_of, crate::specs::Wanted::step_of))]
-fn write(alloc: Global, target: &Target<'_>) -> Result<Wanted, Refusal>
+fn write(alloc: Global, target: &RequestTarget<'_>) -> Result<Wanted, Refusal>
     ensures wanted { Wants target.now.request result (asked_of target.now.endpoint Method.Write) }
     ensures served { IfOk result IsServedWanted }
 {
@@ -138,7 +138,7 @@ fn write(alloc: Global, target: &Target<'_>) -> Result<Wanted, Refusal>
 }
 
 #[tactic(auto, unfolding(crate::specs::Asking::asked_of, crate::specs::Asking::admin_of, crate::specs::Parts::bearer_in, crate::specs::Nodes::node_of, crate::specs::Wanted::step_of))]
-fn delete(alloc: Global, target: &Target<'_>) -> Result<Wanted, Refusal>
+fn delete(alloc: Global, target: &RequestTarget<'_>) -> Result<Wanted, Refusal>
     ensures wanted { Wants target.now.request result (asked_of target.now.endpoint Method.Delete) }
     ensures served { IfOk result IsServedWanted }
 {
@@ -164,7 +164,7 @@ fn delete(alloc: Global, target: &Target<'_>) -> Result<Wanted, Refusal>
 }
 
 /// What is wanted of the path by its method.
-pub fn wanted(alloc: Global, target: &Target<'_>) -> Result<Wanted, Refusal>
+pub fn wanted(alloc: Global, target: &RequestTarget<'_>) -> Result<Wanted, Refusal>
     ensures wanted { Wants target.now.request result
         (asked_of target.now.endpoint target.now.method) }
     ensures served { IfOk result IsServedWanted }

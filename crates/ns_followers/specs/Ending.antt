@@ -8,7 +8,7 @@ use Rattle.ns_types.specs.State.Rows.{World, Tenant, is_blocked}
 use Rattle.ns_types.specs.Working.Work.{cancel_blocked, tied_to, without_worker}
 use Rattle.ns_types.specs.Working.Queue.{promote}
 use Rattle.ns_change.specs.Changed.{unlist_blocked, with_blocked_key}
-use Rattle.ns_followers.specs.declared.ending.Ending.{Ending}
+use Rattle.ns_followers.specs.declared.ending.EndingEvaluation.{EndingEvaluation}
 
 -- an evaluation that ends: the number of the worker that has it, its key, its job, and the status that it gets
 pub record Ended : Type 0 where
@@ -17,7 +17,7 @@ pub record Ended : Type 0 where
   pub job : Name
   pub status : Status
 
-abbrev pub ended_of : Ending → Ended
+abbrev pub ended_of : EndingEvaluation → Ended
 ended_of e = record { worker = e.worker; key = e.key.now; job = e.job.now; status = e.status }
 
 -- the evaluation has that status, the job's blocked one is canceled, and the worker is idle

@@ -18,7 +18,7 @@ use std::alloc::AllocError;
 
 /// An evaluation that ends.
 #[derive(Clone, Copy)]
-pub(crate) struct Ending<'a> {
+pub(crate) struct EndingEvaluation<'a> {
     /// The number of the worker that has it.
     pub(crate) worker: u64,
     pub(crate) key: &'a EvalKey,
@@ -28,7 +28,11 @@ pub(crate) struct Ending<'a> {
 }
 
 /// The evaluation has ended, the job's blocked one is canceled and no longer listed, and the worker is idle.
-fn end(tables: &Tables, change: &mut Change, ending: &Ending<'_>) -> Result<(), AllocError>
+fn end(
+    tables: &Tables,
+    change: &mut Change,
+    ending: &EndingEvaluation<'_>,
+) -> Result<(), AllocError>
     ensures { Does result tables.now change.old change.new (ended_in (ended_of ending.now)) }
 {
     let namespace = ending.key.namespace();
@@ -80,7 +84,7 @@ fn follow(
 pub(crate) fn end_alone(
     tables: &Tables,
     change: &mut Change,
-    ending: &Ending<'_>,
+    ending: &EndingEvaluation<'_>,
 ) -> Result<(), AllocError>
     ensures { Does result tables.now change.old change.new (ended_alone (ended_of ending.now)) }
 {
@@ -92,7 +96,7 @@ pub(crate) fn end_alone(
 pub(crate) fn end_followed(
     tables: &Tables,
     change: &mut Change,
-    ending: &Ending<'_>,
+    ending: &EndingEvaluation<'_>,
     follower: u64,
     row: Evaluation,
 ) -> Result<(), AllocError>

@@ -14,7 +14,7 @@ ghost use Rattle.ns_followers.specs.Finishing.{Finishes, HasPendingWork, IsAdmit
 ghost use Rattle.ns_followers.specs.Following.{made_follower};
 ghost use Rattle.ns_tables.specs.World.{tenant_of, world_of};
 
-use crate::ending::{Ending, end_alone, end_followed};
+use crate::ending::{EndingEvaluation, end_alone, end_followed};
 use crate::following::follower;
 use crate::missing::missed;
 use ns_broker::{keeps, worker_at};
@@ -138,7 +138,7 @@ fn made_follower(
 }
 
 /// The evaluation ends without a follower.
-fn alone(tables: &Tables, ending: &Ending<'_>) -> Result<Prepared, Refusal>
+fn alone(tables: &Tables, ending: &EndingEvaluation<'_>) -> Result<Prepared, Refusal>
     ensures { Prepares (Done (Content.Finished ending.now.status None)
         (ended_alone (ended_of ending.now) (world_of tables.now))) tables.now result }
 {
@@ -150,7 +150,7 @@ fn alone(tables: &Tables, ending: &Ending<'_>) -> Result<Prepared, Refusal>
 /// The evaluation ends, and that follower has that number, which is the namespace's next.
 fn followed(
     tables: &Tables,
-    ending: &Ending<'_>,
+    ending: &EndingEvaluation<'_>,
     number: u64,
     follower: Evaluation,
 ) -> Result<Prepared, Refusal>
@@ -197,7 +197,7 @@ pub fn finish(
         return Err(Refusal::Full);
     }
     let key = EvalKey::new(namespace.clone()?, worker.evaluation());
-    let ending = Ending {
+    let ending = EndingEvaluation {
         worker: number,
         key: &key,
         job: &row.job,

@@ -4,7 +4,7 @@ use Rattle.ns_types.specs.Wire.Http.{Asked}
 use Rattle.ns_types.specs.declared.reply.Rendered.{Rendered}
 use Rattle.ns_http.specs.declared.counting.Counted.{Counted}
 use Rattle.ns_http.specs.declared.engine.Connection.{Connection}
-use Rattle.ns_http.specs.declared.engine.Step.{Step}
+use Rattle.ns_http.specs.declared.engine.Progress.{Progress}
 use Rattle.ns_http.specs.Input.{unread}
 use Rattle.ns_http.specs.Waiting.{waiting}
 use Rattle.ns_http.specs.Steps.{Steps, Advances, CutsShort}
@@ -12,7 +12,7 @@ use Rattle.ns_http.specs.Steps.{Steps, Advances, CutsShort}
 -- one step
 abbrev pub MakesStep :
     {S W A : Type 0} → (S → Asked → Rendered → S → Type 0) → (W → Option (List ℕ)) → S → S
-    → Counted W → Counted W → Connection A → Connection A → Step → Type 0
+    → Counted W → Counted W → Connection A → Connection A → Progress → Type 0
 MakesStep answers contents s s' writer writer' old new step =
     Steps answers s s' (unread old.input) (unread new.input) (contents writer.inner) (contents writer'.inner)
     (waiting old.output) (waiting new.output) old.answered new.answered step

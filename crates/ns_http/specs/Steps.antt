@@ -4,7 +4,7 @@ use Rattle.std.specs.Io.KnownBytes.{Appends}
 use Rattle.ns_types.specs.Wire.Http.{Asked}
 use Rattle.ns_types.specs.declared.reply.Rendered.{Rendered}
 use Rattle.ns_types.specs.Wire.Responses.{Exchange, wires}
-use Rattle.ns_http.specs.declared.engine.Step.{Step}
+use Rattle.ns_http.specs.declared.engine.Progress.{Progress}
 use Rattle.ns_http.specs.Head.{Waits}
 use Rattle.ns_http.specs.Conversation.{Serves}
 use Rattle.ns_http.specs.Output.{WritesSome, Queues}
@@ -42,15 +42,15 @@ Advances answers old new input input' before after answered answered' (Some want
 -- one step
 abbrev pub Steps :
     {S : Type 0} → (S → Asked → Rendered → S → Type 0) → S → S → List ℕ → List ℕ
-    → Option (List ℕ) → Option (List ℕ) → List ℕ → List ℕ → ℕ → ℕ → Step → Type 0
-Steps answers old new input input' before after waiting waiting' answered answered' Step.Answered =
+    → Option (List ℕ) → Option (List ℕ) → List ℕ → List ℕ → ℕ → ℕ → Progress → Type 0
+Steps answers old new input input' before after waiting waiting' answered answered' Progress.Answered =
     (x : Exchange)
     × Queued answers old new input input' before after waiting waiting' answered answered' (x ∷ []) false
     × (length input' < length input)
-Steps answers old new input input' before after waiting waiting' answered answered' Step.Closed =
+Steps answers old new input input' before after waiting waiting' answered answered' Progress.Closed =
     (x : Exchange) × (rest : List ℕ)
     × Queued answers old new input rest before after waiting waiting' answered answered' (x ∷ []) true
-Steps answers old new input input' before after waiting waiting' answered answered' (Step.Waits wanted) =
+Steps answers old new input input' before after waiting waiting' answered answered' (Progress.Waits wanted) =
     (new ≡ old) × (input' ≡ input) × (after ≡ before) × (waiting' ≡ waiting) × (answered' ≡ answered) ×
     Waits input wanted
 

@@ -3,16 +3,16 @@ use Rattle.std.specs.Prelude.{◌≡◌, ℕ, List, [], ◌∷◌, Result, Ok, E
 use Rattle.ns_types.specs.declared.reply.HeadFault.{HeadFault}
 use Rattle.ns_types.specs.declared.reply.HeadFault.TheVariants.{BadHead, NeedLength}
 use Rattle.ns_types.specs.Wire.Http.{length_of}
-use Rattle.ns_http.specs.declared.header.Values.{Values}
-use Rattle.ns_http.specs.declared.header.Values.TheVariants.{Absent, One, Several}
+use Rattle.ns_http.specs.declared.header.HeaderValues.{HeaderValues}
+use Rattle.ns_http.specs.declared.header.HeaderValues.TheVariants.{Absent, One, Several}
 
-abbrev pub IsSummaryOf : Values → List (List ℕ) → Type 0
+abbrev pub IsSummaryOf : HeaderValues → List (List ℕ) → Type 0
 IsSummaryOf Absent values = values ≡ []
 IsSummaryOf (One v) values = values ≡ v.now ∷ []
 IsSummaryOf (Several v) values = (w : List ℕ) × (others : List (List ℕ)) × (values ≡ v.now ∷ w ∷ others)
 
 -- `body_len_of`, by what is kept of the values
-abbrev pub framing_of : Values → Values → Result ℕ HeadFault
+abbrev pub framing_of : HeaderValues → HeaderValues → Result ℕ HeadFault
 framing_of Absent Absent = Ok 0
 framing_of (One v) Absent = length_of v.now
 framing_of (Several v) Absent = Err BadHead

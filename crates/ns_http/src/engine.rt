@@ -74,7 +74,7 @@ pub trait Answer {
 
 /// What one step did.
 #[derive(Clone, Copy)]
-enum Step {
+enum Progress {
     /// A request was answered, and the next may follow.
     Answered,
     /// A request was answered, and the connection closes.
@@ -101,7 +101,7 @@ impl<A: Allocator> Connection<A> {
         &mut self,
         writer: &mut Counted<W>,
         handler: &mut H,
-    ) -> Result<Step, WriteFault>
+    ) -> Result<Progress, WriteFault>
         requires { self.old.answered + length (unread self.old.input) < 2 ^ 64 - 1 }
         ensures ok { IfOk result (λ step. MakesStep H.answers W.contents
             handler.old handler.new writer.old writer.new self.old self.new step) }
@@ -114,11 +114,11 @@ impl<A: Allocator> Connection<A> {
         ensures stops { IsOpen writer.old.counts → writer.new.counts.went_on ≡ false }
     {
         match read_front(self.input.unread()) {
-            Front::Partial(wanted) => Ok(Step::Waits(wanted)),
+            Front::Partial(wanted) => Ok(Progress::Waits(wanted)),
             Front::Refused(fault) => {
                 self.output.send(writer, &Outgoing::fault(fault), true)?;
                 self.answered += 1;
-                Ok(Step::Closed)
+                Ok(Progress::Closed)
             }
             Front::Whole {
                 request,
@@ -130,9 +130,9 @@ impl<A: Allocator> Connection<A> {
                 self.input.consume(len);
                 self.answered += 1;
                 if close {
-                    return Ok(Step::Closed);
+                    return Ok(Progress::Closed);
                 }
-                Ok(Step::Answered)
+                Ok(Progress::Answered)
             }
         }
     }
@@ -159,12 +159,12 @@ impl<A: Allocator> Connection<A> {
     {
         loop {
             match self.step(writer, handler)? {
-                Step::Answered => {}
-                Step::Closed => {
+                Progress::Answered => {}
+                Progress::Closed => {
                     self.output.flush(writer)?;
                     return Ok(None);
                 }
-                Step::Waits(wanted) => {
+                Progress::Waits(wanted) => {
                     self.output.flush(writer)?;
                     return Ok(Some(wanted));
                 }

@@ -15,25 +15,25 @@ pub(crate) const MAX_BODY_LEN: usize = 1_048_576;
 
 /// The values of the headers of one name.
 #[derive(Clone, Copy)]
-pub(crate) enum Values<'a> {
+pub(crate) enum HeaderValues<'a> {
     Absent,
     One(&'a [u8]),
     /// The first of several.
     Several(&'a [u8]),
 }
 
-impl<'a> Values<'a> {
+impl<'a> HeaderValues<'a> {
     ghost use Rattle.ns_http.specs.Values.{IsSummaryOf};
 
     /// The same with one more value.
-    fn and(self, value: &'a [u8]) -> Values<'a>
+    fn and(self, value: &'a [u8]) -> HeaderValues<'a>
         ensures { (values : List (List ℕ)) → IsSummaryOf self.entry values
             → IsSummaryOf result (values ++ value.now ∷ []) }
     {
         match self {
-            Values::Absent => Values::One(value),
-            Values::One(first) => Values::Several(first),
-            Values::Several(first) => Values::Several(first),
+            HeaderValues::Absent => HeaderValues::One(value),
+            HeaderValues::One(first) => HeaderValues::Several(first),
+            HeaderValues::Several(first) => HeaderValues::Several(first),
         }
     }
 
@@ -43,9 +43,9 @@ impl<'a> Values<'a> {
             → option_copied result ≡ first_value values }
     {
         match self {
-            Values::Absent => None,
-            Values::One(first) => Some(first),
-            Values::Several(first) => Some(first),
+            HeaderValues::Absent => None,
+            HeaderValues::One(first) => Some(first),
+            HeaderValues::Several(first) => Some(first),
         }
     }
 }
@@ -92,11 +92,11 @@ fn lists_close(value: &[u8]) -> bool
         .any(|piece| eq_ignore_case(trim_ows(piece), b"close"))
 }
 
-fn values_named<'a>(buf: &'a [u8], headers: &[HeaderSpan], name: &[u8]) -> Values<'a>
+fn values_named<'a>(buf: &'a [u8], headers: &[HeaderSpan], name: &[u8]) -> HeaderValues<'a>
     requires { All (IsHeaderWithin (length buf.now)) headers.now }
     ensures { IsSummaryOf result (values_named name.now (map (header_bytes buf.now) headers.now)) }
 {
-    let mut values = Values::Absent;
+    let mut values = HeaderValues::Absent;
     for header in headers {
         if eq_ignore_case(header.name.of(buf), name) {
             values = values.and(header.value.of(buf));
@@ -140,18 +140,18 @@ pub(crate) fn body_len(buf: &[u8], headers: &[HeaderSpan]) -> Result<usize, Head
 }
 
 /// How long the body is, by the values of `Content-Length` and of `Transfer-Encoding`.
-fn framing(lengths: Values<'_>, codings: Values<'_>) -> Result<usize, HeadFault>
+fn framing(lengths: HeaderValues<'_>, codings: HeaderValues<'_>) -> Result<usize, HeadFault>
     ensures { result ≡ framing_of lengths.entry codings.entry }
 {
     match codings {
-        Values::Absent => match lengths {
-            Values::Absent => Ok(0),
-            Values::One(digits) => parse_len(digits),
-            Values::Several(_) => Err(HeadFault::BadHead),
+        HeaderValues::Absent => match lengths {
+            HeaderValues::Absent => Ok(0),
+            HeaderValues::One(digits) => parse_len(digits),
+            HeaderValues::Several(_) => Err(HeadFault::BadHead),
         },
-        Values::One(_) | Values::Several(_) => match lengths {
-            Values::Absent => Err(HeadFault::NeedLength),
-            Values::One(_) | Values::Several(_) => Err(HeadFault::BadHead),
+        HeaderValues::One(_) | HeaderValues::Several(_) => match lengths {
+            HeaderValues::Absent => Err(HeadFault::NeedLength),
+            HeaderValues::One(_) | HeaderValues::Several(_) => Err(HeadFault::BadHead),
         },
     }
 }

@@ -13,7 +13,7 @@ ghost use Rattle.ns_jobs.specs.Read.{SaysIn, jobs_shown};
 ghost use Rattle.ns_tables.specs.World.{tenant_of};
 
 use crate::looking::{self, begins};
-use keyed::NumberTable;
+use keyed::{NameSlot, NumberSlot, NumberTable};
 use ns_equality::same_text;
 use ns_tables::TenantRows;
 use ns_types::allocation::Allocation;
@@ -34,11 +34,7 @@ fn is_live_at(allocations: &NumberTable<Allocation>, id: &Text, number: u64) -> 
     }
 }
 
-fn any_live_at(
-    allocations: &NumberTable<Allocation>,
-    id: &Text,
-    slots: &[(u64, Option<()>)],
-) -> bool
+fn any_live_at(allocations: &NumberTable<Allocation>, id: &Text, slots: &[NumberSlot<()>]) -> bool
     ensures { result ≡ list_any (λ slot. option_map_or (λ a. same_name id.now a.job && is_live a)
         (row_at allocations.now slot.0) false) slots.now }
 {
@@ -92,7 +88,7 @@ fn jobs_shown(
     namespace: &Text,
     tenant: &TenantRows,
     prefix: &Text,
-    slots: &[(Text, Option<Job>)],
+    slots: &[NameSlot<Job>],
 ) -> Result<Rows<JobShown>, AllocError>
     ensures { IfOk result (λ shown. shown
         ≡ jobs_shown namespace.now prefix.now (tenant_of tenant.now) slots.now) }

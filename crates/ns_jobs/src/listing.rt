@@ -8,7 +8,7 @@ ghost use Rattle.ns_jobs.specs.Read.{IsAmongThoseOf, rows_shown};
 ghost use Rattle.ns_tables.specs.Filing.{AreNumbersUnder, slots_at};
 ghost use Rattle.ns_tables.specs.declared.tables.TenantRows.{TenantRows};
 
-use keyed::NumberTable;
+use keyed::{NumberSlot, NumberTable};
 use ns_tables::TenantRows;
 use ns_types::rows::Rows;
 use ns_types::step::AskCommand;
@@ -75,7 +75,7 @@ fn rows_shown<V: Listed>(
     alloc: Global,
     namespace: &Text,
     command: &AskCommand,
-    slots: &[(u64, Option<V>)],
+    slots: &[NumberSlot<V>],
 ) -> Result<Rows<V::Shown>, AllocError>
     ensures { IfOk result (λ shown. shown
         ≡ rows_shown V.as_shown V.is_listed namespace.now command.now slots.now) }
@@ -93,7 +93,7 @@ fn shown_at_numbers<V: Listed>(
     namespace: &Text,
     command: &AskCommand,
     rows: &NumberTable<V>,
-    slots: &[(u64, Option<()>)],
+    slots: &[NumberSlot<()>],
 ) -> Result<Rows<V::Shown>, AllocError>
     ensures { IfOk result (λ shown. shown ≡ rows_shown V.as_shown V.is_listed namespace.now
         command.now (slots_at rows.now slots.now)) }

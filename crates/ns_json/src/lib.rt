@@ -11,4 +11,4 @@ mod registration;
 mod reply;
 
 pub use registration::{RegistrationDocument, read_registration};
-pub use reply::{Room, render};
+pub use reply::{ReplyRoom, render};

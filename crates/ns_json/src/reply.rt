@@ -17,17 +17,17 @@ use std::alloc::{AllocError, Global};
 
 /// Room for the reply of a write, which is made before its step.
 #[derive(Drop)]
-pub struct Room {
+pub struct ReplyRoom {
     bytes: Vec<u8>,
     ghost empty: { bytes.items ≡ [] },
     ghost enough: { 320 ≤ vec_capacity bytes },
 }
 
-impl Room {
+impl ReplyRoom {
     /// Room for the longest reply of a write, where each byte of a text may take six.
-    pub fn new(alloc: Global) -> Result<Room, AllocError> {
+    pub fn new(alloc: Global) -> Result<ReplyRoom, AllocError> {
         let bytes = Vec::with_capacity(alloc, 320)?;
-        Ok(Room { bytes })
+        Ok(ReplyRoom { bytes })
     }
 
     /// The room as a buffer, for the replies of other writes.
@@ -35,7 +35,7 @@ impl Room {
         ensures empty { result.items ≡ [] }
         ensures enough { 320 ≤ vec_capacity result }
     {
-        let Room { bytes } = self;
+        let ReplyRoom { bytes } = self;
         bytes
     }
 
@@ -62,7 +62,7 @@ pub fn render(alloc: Global, reply: &Reply) -> Result<Response, AllocError>
 {
     match &reply.content {
         Content::Registered(_, _, _) => {
-            let room = Room::new(alloc)?;
+            let room = ReplyRoom::new(alloc)?;
             Ok(room.render(reply))
         }
         Content::Job(job) => {
@@ -100,11 +100,11 @@ fn write_registered(
 }
 
 /// What a registration is answered.
-fn registered_text(room: Room, evaluation: u64, index: u64, job_index: u64) -> String
+fn registered_text(room: ReplyRoom, evaluation: u64, index: u64, job_index: u64) -> String
     ensures text { string_bytes result ≡ compact_text (registered_json evaluation index job_index) }
     ensures short { length (string_bytes result) ≤ longest_registered }
 {
-    let Room { bytes } = room;
+    let ReplyRoom { bytes } = room;
     let mut out = Writer::new(bytes);
     let written = write_registered(&mut out, evaluation, index, job_index);
     prove!(written.is_ok());

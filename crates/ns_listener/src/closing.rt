@@ -20,7 +20,7 @@ use ns_http::{ConnFault, Counted, write_all};
 use ns_log::segment_text;
 use ns_log::segments::Segment;
 use ns_types::name::Secret;
-use ns_work_lock::{Ended, Retains, Seat, Settled};
+use ns_work_lock::{Ended, Retains, Seat, SettledLog};
 use std::alloc::{AllocError, Global};
 use std::io::Write;
 use std::sync::ledger::Ledger;
@@ -28,7 +28,7 @@ use std::sync::ledger::Ledger;
 /// A server whose threads have ended.
 #[derive(Drop)]
 pub struct Closing<W> {
-    pub settled: Result<Settled, ServeFault>,
+    pub settled: Result<SettledLog, ServeFault>,
     /// Why the text of the segments ended too early.
     pub fault: Option<ConnFault>,
     pub secret: Secret,
@@ -44,7 +44,7 @@ pub(crate) fn settle<L: Ledger>(
     secret: &Secret,
     segments: Vec<Segment>,
     is_whole: bool,
-) -> Result<Settled, ServeFault>
+) -> Result<SettledLog, ServeFault>
     requires { L.parts ≡ 18446744073709551615 }
     ensures run { IfOk result (IsRunOf secret.now segments.items) }
     ensures whole { OnOk result (IsTrue is_whole) }
@@ -58,7 +58,7 @@ pub(crate) fn settle<L: Ledger>(
 }
 
 /// The line that says how many entries the log has.
-fn settled_line(alloc: Global, settled: &Settled) -> Result<String, AllocError>
+fn settled_line(alloc: Global, settled: &SettledLog) -> Result<String, AllocError>
     ensures { IfOk result (λ line.
         string_bytes line ≡ settled_line (length settled.now.log)) }
 {
@@ -70,7 +70,7 @@ fn settled_line(alloc: Global, settled: &Settled) -> Result<String, AllocError>
 fn print_rest<W: Write>(
     alloc: Global,
     secret: &Secret,
-    settled: &Settled,
+    settled: &SettledLog,
     writer: &mut Counted<W>,
 ) -> Result<String, ConnFault>
     ensures line { IfOk result (λ line.
@@ -99,7 +99,7 @@ fn print_serve_fault<E: Write>(fault: ServeFault, errors: &mut Counted<E>) -> u8
 /// The end where all segments were written: prints the rest of the log, and the line that says how the server ended.
 fn conclude_whole<W: Write, E: Write>(
     alloc: Global,
-    settled: &Result<Settled, ServeFault>,
+    settled: &Result<SettledLog, ServeFault>,
     secret: &Secret,
     writer: &mut Counted<W>,
     errors: &mut Counted<E>,
@@ -135,7 +135,7 @@ fn conclude_whole<W: Write, E: Write>(
 /// settling ended.
 fn conclude_cut<E: Write>(
     alloc: Global,
-    settled: &Result<Settled, ServeFault>,
+    settled: &Result<SettledLog, ServeFault>,
     fault: ConnFault,
     errors: &mut Counted<E>,
 ) -> u8

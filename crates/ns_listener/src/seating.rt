@@ -10,7 +10,7 @@ use std::sync::Wait;
 use std::sync::ledger::Ledger;
 
 /// A thread's duty, with its seat.
-pub type Job<L, D, M> = (Duty<D>, Seat<L, M>);
+pub type ThreadJob<L, D, M> = (Duty<D>, Seat<L, M>);
 
 /// The duties: a thread for the connections for each drawer, then so many workers.
 pub fn duties<D: Drop>(
@@ -33,7 +33,7 @@ pub fn seated<L: Ledger, R: Wait, D: Drop, M: Retention>(
     alloc: Global,
     shared: &Shared<L>,
     duties: Vec<Duty<D>>,
-) -> Result<Vec<Job<L, D, M>>, AllocError>
+) -> Result<Vec<ThreadJob<L, D, M>>, AllocError>
     ensures { IfOk result (λ jobs. jobs.items ≡ map (λ duty. (duty, [])) duties.items) }
 {
     let mut jobs = Vec::new(alloc);

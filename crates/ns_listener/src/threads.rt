@@ -11,7 +11,7 @@ use crate::connection_threads::ConnectionThreads;
 use crate::context::Context;
 use crate::duty::perform;
 use crate::fault::HostFault;
-use crate::seating::{Job, duties, seated};
+use crate::seating::{ThreadJob, duties, seated};
 use crate::service::Service;
 use crate::start::Start;
 use ns_endpoints::Draws;
@@ -126,7 +126,7 @@ fn run<
     rt: &R,
     alloc: Global,
     context: &Context<L>,
-    jobs: Vec<Job<L, D, M>>,
+    jobs: Vec<ThreadJob<L, D, M>>,
     seat: Seat<L, M>,
     keeper: K,
 ) -> (Result<Vec<Seat<L, M>>, HostFault>, K)
@@ -166,7 +166,7 @@ fn prepare<L: Ledger, R: Wait, D: Draws + Drop, M: Retention>(
     shared: &Shared<L>,
     workers: u64,
     draws: Vec<D>,
-) -> Result<(Vec<Job<L, D, M>>, Seat<L, M>), AllocError>
+) -> Result<(Vec<ThreadJob<L, D, M>>, Seat<L, M>), AllocError>
     ensures { IfOk result (λ made. vec_len made.0 ≡ vec_len draws + workers) }
 {
     let duties = duties(alloc, workers, draws)?;

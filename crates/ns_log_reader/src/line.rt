@@ -55,13 +55,13 @@ fn candidate(alloc: Global, line: &[u8]) -> Result<Entry, LineFault>
 
 /// An entry, and how many bytes its line has.
 #[derive(Drop)]
-struct Line {
+struct NextEntry {
     entry: Entry,
     len: usize,
 }
 
 /// The entry with whose line the text begins.
-fn next_entry(alloc: Global, text: &[u8]) -> Result<Line, LineFault>
+fn next_entry(alloc: Global, text: &[u8]) -> Result<NextEntry, LineFault>
     ensures ok { IfOk result (λ l. BeginsWithLine text.now l.entry l.len) }
     ensures bad { result ≡ Err LineFault.Bad → HasBadEntry text.now }
 {
@@ -70,7 +70,7 @@ fn next_entry(alloc: Global, text: &[u8]) -> Result<Line, LineFault>
     };
     let entry = candidate(alloc, &text[..end])?;
     match line_len(alloc, text, &entry) {
-        Ok(Some(len)) => Ok(Line { entry, len }),
+        Ok(Some(len)) => Ok(NextEntry { entry, len }),
         Ok(None) => {
             drop(entry);
             Err(LineFault::Bad)
@@ -109,7 +109,7 @@ pub fn next_line(alloc: Global, text: &[u8], secret: &Secret, start: u64) -> Res
 {
     match next_entry(alloc, text) {
         Ok(line) => {
-            let Line { entry, len } = line;
+            let NextEntry { entry, len } = line;
             let entry = Some(entry);
             Ok(Next { entry, len })
         }

@@ -12,7 +12,7 @@ use Rattle.ns_log_reader.specs.Lines.{IsLogOf}
 use Rattle.ns_replay.specs.declared.fault.ReplayFault.{ReplayFault}
 use Rattle.ns_replay.specs.Replay.{IsFault, RepliesAlone, own_entries, replies_of}
 use Rattle.ns_pipe.specs.Claimed.{pools_for, quotas_for}
-use Rattle.ns_pipe.specs.declared.replay.ending.Ending.{Ending}
+use Rattle.ns_pipe.specs.declared.replay.ending.ReplayEnd.{ReplayEnd}
 use Rattle.ns_pipe.specs.declared.replay.replay.Replay.{Replay}
 use Rattle.ns_replay.specs.Rerunning.{IsNoRunAt}
 use Rattle.ns_pipe.specs.Outcome.{ComesTo, ReplaysTo, base_len, ending_of, place_of}
@@ -26,12 +26,12 @@ module _ (ns : Name) (pools quotas : List Name) (base : State) (first : ℕ) (en
 
   pub replays_same : (replies : List Rendered) (text : Name) → RepliesAlone ns pools quotas base entries replies →
       replies ≡ replies_of (own_entries part entries) → text ≡ own_lines part first entries →
-      ReplaysTo ns pools quotas base first entries text Ending.Same
+      ReplaysTo ns pools quotas base first entries text ReplayEnd.Same
   replays_same replies text alone logged e =
-      subst (λ t. ReplaysTo ns pools quotas base first entries t Ending.Same) (sym e)
+      subst (λ t. ReplaysTo ns pools quotas base first entries t ReplayEnd.Same) (sym e)
       (ReplaysTo.same (subst (RepliesAlone ns pools quotas base entries) logged alone))
 
-  pub replays_fault : (fault : ReplayFault) (ending : Ending) (text : Name) → IsFault ns pools quotas base entries fault →
+  pub replays_fault : (fault : ReplayFault) (ending : ReplayEnd) (text : Name) → IsFault ns pools quotas base entries fault →
       ending_of first fault ≡ Some ending → text ≡ own_lines part first (take (place_of fault) entries) →
       ReplaysTo ns pools quotas base first entries text ending
   replays_fault fault ending text is ends e =
@@ -40,20 +40,20 @@ module _ (ns : Name) (pools quotas : List Name) (base : State) (first : ℕ) (en
 -- ---- the whole
 
 module _ (bytes : Name) (replay : Replay) (text : Name) where
-  pub bad_line : (line : ℕ) → text ≡ [] → lines.IsFault bytes line → ComesTo bytes replay text (Ending.BadLine line)
-  bad_line line e is = subst (λ t. ComesTo bytes replay t (Ending.BadLine line)) (sym e) (ComesTo.bad_line line is)
+  pub bad_line : (line : ℕ) → text ≡ [] → lines.IsFault bytes line → ComesTo bytes replay text (ReplayEnd.BadLine line)
+  bad_line line e is = subst (λ t. ComesTo bytes replay t (ReplayEnd.BadLine line)) (sym e) (ComesTo.bad_line line is)
 
   module _ (secret : Name) (entries : List Entry) (is_log : IsLogOf bytes secret entries) (first : ℕ) (is_first : first ≡ base_len replay.from entries)
       (front rest : List Entry) (is_front : front ≡ take first entries) (is_rest : rest ≡ drop first entries) where
-    pub no_base : (place : ℕ) → text ≡ [] → IsNoRunAt (opening secret) front place → ComesTo bytes replay text (Ending.NotARun place)
-    no_base place e is = subst (λ t. ComesTo bytes replay t (Ending.NotARun place)) (sym e)
+    pub no_base : (place : ℕ) → text ≡ [] → IsNoRunAt (opening secret) front place → ComesTo bytes replay text (ReplayEnd.NotARun place)
+    no_base place e is = subst (λ t. ComesTo bytes replay t (ReplayEnd.NotARun place)) (sym e)
         (ComesTo.no_base secret entries place is_log
         (subst (λ log. IsNoRunAt (opening secret) log place) (is_front ∙ ap (λ n. take n entries) is_first) is))
 
-    abbrev pub ReplaysBehind : State → ℕ → List Entry → Name → Ending → Type 0
+    abbrev pub ReplaysBehind : State → ℕ → List Entry → Name → ReplayEnd → Type 0
     ReplaysBehind base = ReplaysTo replay.namespace (pools_for replay base) (quotas_for replay base) base
 
-    pub replayed : (base : State) (ending : Ending) → IsKept (opening secret) front base → ReplaysBehind base first rest text ending →
+    pub replayed : (base : State) (ending : ReplayEnd) → IsKept (opening secret) front base → ReplaysBehind base first rest text ending →
         ComesTo bytes replay text ending
     replayed base ending kept is = ComesTo.replayed secret entries base text ending is_log
         (subst (λ log. IsKept (opening secret) log base) (is_front ∙ ap (λ n. take n entries) is_first) kept)

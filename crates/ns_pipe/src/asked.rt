@@ -7,7 +7,7 @@ use ns_types::name::Secret;
 
 /// What the words come to.
 #[derive(Drop)]
-pub enum Asked {
+pub enum WordsRead {
     /// To serve one connection, with that secret as the bootstrap token, to drive the worker that it names after each request,
     /// and to print what it says.
     Pipe(Secret, Driven, Printed),

@@ -11,9 +11,9 @@ pub mod replay;
 mod running;
 mod written;
 
-pub use asked::Asked;
+pub use asked::WordsRead;
 pub use connection::pipe;
 pub use logging::{LOG_LIMIT, pipe_log};
 pub use nowhere::Nowhere;
 pub use printed::Printed;
-pub use running::{Ended, run};
+pub use running::{EndedRun, run};

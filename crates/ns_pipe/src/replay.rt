@@ -8,6 +8,6 @@ mod outcome;
 mod printing;
 mod replay;
 
-pub use ending::Ending;
+pub use ending::ReplayEnd;
 pub use printing::print_replay;
 pub use replay::Replay;

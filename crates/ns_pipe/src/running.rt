@@ -12,7 +12,7 @@ ghost use Rattle.ns_pipe.specs.Printing.{EndsPrinted};
 ghost use Rattle.ns_pipe.specs.ReplayPrinting.{EndsAlone};
 ghost use Rattle.ns_pipe.specs.declared.replay.replay.Replay.{Replay};
 
-use crate::asked::Asked;
+use crate::asked::WordsRead;
 use crate::connection::pipe;
 use crate::logging::pipe_log;
 use crate::nowhere::Nowhere;
@@ -29,7 +29,7 @@ use std::io::{Read, Write};
 
 /// How a run ended, with its reader, its writer, and what took the replies that are not printed.
 #[derive(Drop)]
-pub struct Ended<R, W> {
+pub struct EndedRun<R, W> {
     pub status: u8,
     pub reader: Counted<R>,
     pub writer: Counted<W>,
@@ -62,7 +62,7 @@ fn converse<D: Draws + Drop, R: Read + Drop, W: Write + Drop, E: Write>(
     reader: R,
     writer: W,
     errors: &mut Counted<E>,
-) -> Ended<R, W>
+) -> EndedRun<R, W>
     ensures ended { EndsPrinted D.draws R.remaining W.contents
         printed secret.now draws driven result.status
         (uncounted reader) result.reader result.unprinted (uncounted writer) result.writer }
@@ -84,7 +84,7 @@ fn converse<D: Draws + Drop, R: Read + Drop, W: Write + Drop, E: Write>(
                 &mut writer,
                 errors,
             );
-            Ended {
+            EndedRun {
                 status,
                 reader,
                 writer,
@@ -102,7 +102,7 @@ fn converse<D: Draws + Drop, R: Read + Drop, W: Write + Drop, E: Write>(
                 &mut writer,
                 errors,
             );
-            Ended {
+            EndedRun {
                 status,
                 reader,
                 writer,
@@ -119,7 +119,7 @@ fn replay<R: Read + Drop, W: Write + Drop, E: Write>(
     reader: R,
     writer: W,
     errors: &mut Counted<E>,
-) -> Ended<R, W>
+) -> EndedRun<R, W>
     ensures ended { EndsAlone R.remaining W.contents replay.now result.status
         (uncounted reader) result.reader (uncounted writer) result.writer }
     ensures silent { result.status ≡ SERVED → errors.new ≡ errors.old }
@@ -129,7 +129,7 @@ fn replay<R: Read + Drop, W: Write + Drop, E: Write>(
     let mut reader = Counted::new(reader);
     let mut writer = Counted::new(writer);
     let status = print_replay(alloc, replay, &mut reader, &mut writer, errors);
-    Ended {
+    EndedRun {
         status,
         reader,
         writer,
@@ -140,14 +140,14 @@ fn replay<R: Read + Drop, W: Write + Drop, E: Write>(
 /// Does what the words ask for, and says how that ended. Only a connection and a replay read input.
 pub fn run<D: Draws + Drop, R: Read + Drop, W: Write + Drop, E: Write>(
     alloc: Global,
-    asked: &Asked,
+    asked: &WordsRead,
     draws: D,
     reader: R,
     writer: W,
     errors: &mut Counted<E>,
-) -> Ended<R, W>
+) -> EndedRun<R, W>
     ensures pipe { (secret : Name) (driven : Driven) (printed : Printed)
-        → asked.now ≡ Asked.Pipe secret driven printed
+        → asked.now ≡ WordsRead.Pipe secret driven printed
         → EndsPrinted D.draws R.remaining W.contents printed secret draws driven result.status
         (uncounted reader) result.reader result.unprinted (uncounted writer) result.writer }
     ensures help { (text : List ℕ) → IsHelp asked.now text
@@ -159,10 +159,10 @@ pub fn run<D: Draws + Drop, R: Read + Drop, W: Write + Drop, E: Write>(
     ensures mistake { (text : List ℕ) → IsMistake asked.now text
         → (result.status ≡ BAD_WORDS) × (result.writer ≡ uncounted writer)
         × TriesToWrite E.contents errors.old errors.new text }
-    ensures alone { (replay : Replay) → asked.now ≡ Asked.Alone replay
+    ensures alone { (replay : Replay) → asked.now ≡ WordsRead.Alone replay
         → EndsAlone R.remaining W.contents replay result.status
         (uncounted reader) result.reader (uncounted writer) result.writer }
-    ensures no_memory { asked.now ≡ Asked.NoMemory
+    ensures no_memory { asked.now ≡ WordsRead.NoMemory
         → (result.status ≡ OUT_OF_MEMORY) × (result.writer ≡ uncounted writer) }
     ensures unread { IsNoConnection asked.now → IsNoReplay asked.now
         → result.reader ≡ uncounted reader }
@@ -174,24 +174,24 @@ pub fn run<D: Draws + Drop, R: Read + Drop, W: Write + Drop, E: Write>(
 {
     let mut output = Counted::new(writer);
     let status = match asked {
-        Asked::Pipe(secret, driven, printed) => {
+        WordsRead::Pipe(secret, driven, printed) => {
             let writer = output.into_inner();
             return converse(
                 alloc, secret, draws, *driven, *printed, reader, writer, errors,
             );
         }
-        Asked::Help(text) => show(text.as_str(), &mut output, errors),
-        Asked::Mistake(text) => {
+        WordsRead::Help(text) => show(text.as_str(), &mut output, errors),
+        WordsRead::Mistake(text) => {
             print_text(errors, text.as_str().as_bytes());
             BAD_WORDS
         }
-        Asked::Alone(wanted) => {
+        WordsRead::Alone(wanted) => {
             let writer = output.into_inner();
             return replay(alloc, wanted, reader, writer, errors);
         }
-        Asked::NoMemory => print_fault(ConnFault::Memory, errors),
+        WordsRead::NoMemory => print_fault(ConnFault::Memory, errors),
     };
-    Ended {
+    EndedRun {
         status,
         reader: Counted::new(reader),
         writer: output,

@@ -18,7 +18,7 @@ use Rattle.ns_types.specs.State.Resources.{added, amount_of}
 use Rattle.ns_plan.specs.Gathered.{AreParts, IsPart}
 use Rattle.ns_plan.specs.Reader.{evictions_of}
 use Rattle.ns_types.specs.declared.resources.Amount.{Amount}
-use Rattle.ns_plan.specs.declared.gathering.Part.{Part}
+use Rattle.ns_plan.specs.declared.gathering.NodePart.{NodePart}
 use Rattle.ns_types.proofs.Amounts.{amount_added}
 use Rattle.ns_plan.proofs.Holding.{take_next}
 
@@ -31,7 +31,7 @@ joined k xs ys = ap evictions_of (filter-append (λ p. same_number p.node k) xs 
 
 -- ---- between the first that evicts and the last
 
-pub between : (k : ℕ) (ps : List Placement) (part : Part) → IsPart k ps part → evicted k (slice_range ps part.start part.end) ≡ evicted k ps
+pub between : (k : ℕ) (ps : List Placement) (part : NodePart) → IsPart k ps part → evicted k (slice_range ps part.start part.end) ≡ evicted k ps
 between k ps part is = sym (ap (evicted k) (sym (take-append-drop part.start ps)) ∙ joined k (take part.start ps) (drop part.start ps)
     ∙ ap (λ l. l ++ evicted k (drop part.start ps)) is.none_before
     ∙ ap (evicted k) (sym (take-append-drop (part.end - part.start) (drop part.start ps)))
@@ -75,7 +75,7 @@ module _ (before : List Placement) (p : Placement) where
     behind_still n inside here none = ap (evicted k) (drop-append-le n before (p ∷ []) inside) ∙ joined k (drop n before) (p ∷ []) ∙ (λ i. none i ++ here i)
 
   -- of another node
-  elsewhere : (k : ℕ) → same_number p.node k ≡ false → (part : Part) → IsPart k before part → IsPart k more part
+  elsewhere : (k : ℕ) → same_number p.node k ≡ false → (part : NodePart) → IsPart k before part → IsPart k more part
   elsewhere k off part is = record {
     size_is = is.size_is ∙ ap (λ l. amount_of (size_of l)) (sym (filter-append (λ q. same_number q.node k) before (p ∷ [])
         ∙ ap (λ b. part_of k before ++ cond b (p ∷ []) []) off ∙ append-nil (part_of k before)));
@@ -86,7 +86,7 @@ module _ (before : List Placement) (p : Placement) where
   }
 
   -- of its own
-  module _ (part : Part) (is : IsPart p.node before part) (size : Amount) (sum : size ≡ added part.size (amount_of p.size)) where
+  module _ (part : NodePart) (is : IsPart p.node before part) (size : Amount) (sum : size ≡ added part.size (amount_of p.size)) where
     sized : size ≡ amount_of (size_of (part_of p.node more))
     sized = sum ∙ ap (λ s. added s (amount_of p.size)) is.size_is ∙ amount_added (size_of (part_of p.node before)) p.size ∙ ap amount_of (sym size_more)
 
@@ -137,18 +137,18 @@ module _ (before : List Placement) (p : Placement) where
         none_behind = none_more;
       }
 
-pub not_there : (before : List Placement) (p : Placement) (k : ℕ) → p.node ≢ k → (part : Part) → IsPart k before part →
+pub not_there : (before : List Placement) (p : Placement) (k : ℕ) → p.node ≢ k → (part : NodePart) → IsPart k before part →
     IsPart k (before ++ p ∷ []) part
 not_there before p k off = by (same_number p.node k) refl
   where
-    by : (b : Bool) → same_number p.node k ≡ b → (part : Part) → IsPart k before part → IsPart k (before ++ p ∷ []) part
+    by : (b : Bool) → same_number p.node k ≡ b → (part : NodePart) → IsPart k before part → IsPart k (before ++ p ∷ []) part
     by true e part is = absurd (off (tied one_number p.node k e))
     by false e part is = elsewhere before p k e part is
 
 -- ---- the part of each node
 
-module _ (ps : List Placement) (i : ℕ) (p : Placement) (inside : i < length ps) (at : p ≡ get_or ps i p) (parts : List Part) (all : length parts ≡ 1000)
-    (small : p.node < 1000) (are : AreParts (take i ps) parts) (part : Part) (is : IsPart p.node (take i ps ++ p ∷ []) part) where
+module _ (ps : List Placement) (i : ℕ) (p : Placement) (inside : i < length ps) (at : p ≡ get_or ps i p) (parts : List NodePart) (all : length parts ≡ 1000)
+    (small : p.node < 1000) (are : AreParts (take i ps) parts) (part : NodePart) (is : IsPart p.node (take i ps ++ p ∷ []) part) where
   pub parts_next : AreParts (take (i + 1) ps) (set parts p.node part)
   parts_next k below d = subst (λ l. IsPart k l (get_or (set parts p.node part) k d)) (sym (take_next ps i p inside at)) (by (same_number p.node k) refl)
     where

@@ -4,10 +4,10 @@ use Rattle.ns_types.specs.declared.plan.Placement.{Placement}
 use Rattle.ns_types.specs.Working.Commit.{part_of, size_of}
 use Rattle.ns_types.specs.State.Resources.{amount_of}
 use Rattle.ns_plan.specs.Reader.{evictions_of}
-use Rattle.ns_plan.specs.declared.gathering.Part.{Part}
+use Rattle.ns_plan.specs.declared.gathering.NodePart.{NodePart}
 
 -- what the placements on the node take, and between which places of the plan they evict
-pub record IsPart (k : ℕ) (placements : List Placement) (part : Part) : Type 0 where
+pub record IsPart (k : ℕ) (placements : List Placement) (part : NodePart) : Type 0 where
   pub size_is : part.size ≡ amount_of (size_of (part_of k placements))
   pub order : part.start ≤ part.end
   pub inside : part.end ≤ length placements
@@ -15,5 +15,5 @@ pub record IsPart (k : ℕ) (placements : List Placement) (part : Part) : Type 0
   pub none_behind : evictions_of (part_of k (drop part.end placements)) ≡ []
 
 -- by the node's place
-abbrev pub AreParts : List Placement → List Part → Type 0
-AreParts placements parts = (k : ℕ) → k < 1000 → (d : Part) → IsPart k placements (slice_index_or parts k d)
+abbrev pub AreParts : List Placement → List NodePart → Type 0
+AreParts placements parts = (k : ℕ) → k < 1000 → (d : NodePart) → IsPart k placements (slice_index_or parts k d)

@@ -11,7 +11,7 @@ ghost use Rattle.ns_plan.specs.Looks.{AreCounted, IsOnFewNodes};
 ghost use Rattle.ns_plan.specs.Reader.{Decides, IsDecided, IsUndecided, read_all};
 
 use crate::after::use_of;
-use crate::gathering::{Part, evicting, part_at, parts_of};
+use crate::gathering::{NodePart, evicting, part_at, parts_of};
 use crate::leaving::{Left, left_at};
 use crate::loads::{load_at, loads_of};
 use crate::taking::{node_name, takes};
@@ -44,7 +44,7 @@ fn decide<V: View>(
     stops: &Marked<'_>,
     quota: Option<&Text>,
     node: u64,
-    part: Part,
+    part: NodePart,
     load: Resources,
     so_far: &mut SoFar,
 )
@@ -96,7 +96,7 @@ fn decide_each<V: View>(
     plan: &Plan,
     stops: &Marked<'_>,
     loads: Option<&[Resources; 1000]>,
-    gathered: Option<&[Part; 1000]>,
+    gathered: Option<&[NodePart; 1000]>,
     so_far: &mut SoFar,
 )
     requires counted { AreCounted (V.world view.now) }

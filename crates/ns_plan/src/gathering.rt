@@ -13,7 +13,7 @@ use ns_types::snapshot::Snapshot;
 
 /// The placements on one node.
 #[derive(Clone, Copy)]
-pub(crate) struct Part {
+pub(crate) struct NodePart {
     /// What they take together.
     pub(crate) size: Amount,
     /// The place in the plan of the first that evicts something.
@@ -22,10 +22,10 @@ pub(crate) struct Part {
     pub(crate) end: usize,
 }
 
-fn no_part() -> Part
+fn no_part() -> NodePart
     ensures { (k : ℕ) → IsPart k [] result }
 {
-    Part {
+    NodePart {
         size: amount_of(none()),
         start: 0,
         end: 0,
@@ -33,7 +33,7 @@ fn no_part() -> Part
 }
 
 /// With the next placement too, which is on the node. The plan's places end behind it at `end`.
-fn with_next(part: Part, placement: &Placement, end: usize) -> Part
+fn with_next(part: NodePart, placement: &Placement, end: usize) -> NodePart
     requires { 0 < end }
     ensures { (before : List Placement) → end ≡ length before + 1 →
         IsPart placement.now.node before part →
@@ -41,20 +41,20 @@ fn with_next(part: Part, placement: &Placement, end: usize) -> Part
 {
     let size = add(part.size, amount_of(placement.size));
     if placement.evictions.as_slice().is_empty() {
-        Part { size, ..part }
+        NodePart { size, ..part }
     } else if part.end == 0 {
-        Part {
+        NodePart {
             size,
             start: end - 1,
             end,
         }
     } else {
-        Part { size, end, ..part }
+        NodePart { size, end, ..part }
     }
 }
 
 /// The part of one node, by a walk over all placements.
-fn part_of(placements: &[Placement], node: u64) -> Part
+fn part_of(placements: &[Placement], node: u64) -> NodePart
     ensures { IsPart node placements.now result }
 {
     let mut part = no_part();
@@ -68,7 +68,11 @@ fn part_of(placements: &[Placement], node: u64) -> Part
 }
 
 /// The part of the node, which is looked up where the parts of all nodes were gathered.
-pub(crate) fn part_at(gathered: Option<&[Part; 1000]>, placements: &[Placement], node: u64) -> Part
+pub(crate) fn part_at(
+    gathered: Option<&[NodePart; 1000]>,
+    placements: &[Placement],
+    node: u64,
+) -> NodePart
     requires small { node < 1000 }
     requires right { IfSome gathered (λ parts. AreParts placements.now parts.now) }
     ensures { IsPart node placements.now result }
@@ -80,7 +84,7 @@ pub(crate) fn part_at(gathered: Option<&[Part; 1000]>, placements: &[Placement],
 }
 
 /// The part of each node, by the node's place.
-pub(crate) fn parts_of(snapshot: &Snapshot, plan: &Plan) -> [Part; 1000]
+pub(crate) fn parts_of(snapshot: &Snapshot, plan: &Plan) -> [NodePart; 1000]
     requires { IsOnFewNodes snapshot.now plan.now }
     ensures { AreParts plan.now.placing.placements result }
 {
@@ -95,7 +99,7 @@ pub(crate) fn parts_of(snapshot: &Snapshot, plan: &Plan) -> [Part; 1000]
 }
 
 /// The placements from the first on the node that evicts something to the last.
-pub(crate) fn evicting(placements: &[Placement], part: Part) -> &[Placement]
+pub(crate) fn evicting(placements: &[Placement], part: NodePart) -> &[Placement]
     requires order { part.start ≤ part.end }
     requires inside { part.end ≤ length placements.now }
     ensures { (k : ℕ) → IsPart k placements.now part →

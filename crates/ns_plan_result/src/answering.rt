@@ -18,7 +18,7 @@ ghost use Rattle.ns_change.specs.Changed.{Does};
 use crate::committed::Committed;
 use crate::looking::node_name;
 use crate::stopping::is_live;
-use keyed::NameTable;
+use keyed::{NameSlot, NameTable};
 use ns_change::{Change, put_row, take_plan};
 use ns_place::marking::Marked;
 use ns_tables::{Tables, TenantRows};
@@ -77,7 +77,7 @@ fn table_of_names(
     Ok(table)
 }
 
-fn keys_of(alloc: Global, slots: &[(Text, Option<()>)]) -> Result<Rows<Text>, AllocError>
+fn keys_of(alloc: Global, slots: &[NameSlot<()>]) -> Result<Rows<Text>, AllocError>
     ensures { IfOk result (λ names. names ≡ map (λ e. e.0) slots.now) }
 {
     let mut names = Rows::new(alloc);

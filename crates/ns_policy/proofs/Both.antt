@@ -5,7 +5,7 @@ use Rattle.std.proofs.lemmas.Bool.{and_parts, eqb-true, ltb-false}
 use Rattle.ns_policy.specs.declared.fault.RuleFault.TheVariants.{Syntax}
 use Rattle.ns_types.specs.declared.acl.RuleKind.{RuleKind}
 use Rattle.ns_types.specs.declared.acl.Rule.{Rule}
-use Rattle.ns_policy.specs.declared.parser.Role.{Role}
+use Rattle.ns_policy.specs.declared.parser.ItemRole.{ItemRole}
 use Rattle.ns_policy.specs.declared.parser.Place.{Place}
 use Rattle.ns_policy.specs.declared.parser.State.{State}
 use Rattle.ns_policy.specs.Rules.{Read, ◌>>=◌, with_policy, with_capability, pattern_of}
@@ -64,26 +64,26 @@ capabilities_deep : (d : ℕ) (s : State) (vs : Trees) → s.depth ≡ d → Dee
 capabilities_deep d s none h = h
 capabilities_deep d s (one v vs) h = post_then (capability_in s v) _ _ (capability_deep s v) (λ a k. capabilities_deep d a vs (k ∙ h))
 
-attribute_deep : (s : State) (role : Role) (v : Tree) → Deep s.depth (attribute_in s role v)
-attribute_deep s Role.Policy (text w) = policy_deep s w
-attribute_deep s Role.Policy (flag b) = tt
-attribute_deep s Role.Policy digits = tt
-attribute_deep s Role.Policy (list vs trailing) = tt
-attribute_deep s Role.Capabilities (text w) = tt
-attribute_deep s Role.Capabilities (flag b) = tt
-attribute_deep s Role.Capabilities digits = tt
-attribute_deep s Role.Capabilities (list vs trailing) = post_then (begin_capabilities s) _ _ (begin_deep s) (λ a k. capabilities_deep s.depth a vs k)
-attribute_deep s (Role.Block kind) v = refl
-attribute_deep s Role.Other v = refl
+attribute_deep : (s : State) (role : ItemRole) (v : Tree) → Deep s.depth (attribute_in s role v)
+attribute_deep s ItemRole.Policy (text w) = policy_deep s w
+attribute_deep s ItemRole.Policy (flag b) = tt
+attribute_deep s ItemRole.Policy digits = tt
+attribute_deep s ItemRole.Policy (list vs trailing) = tt
+attribute_deep s ItemRole.Capabilities (text w) = tt
+attribute_deep s ItemRole.Capabilities (flag b) = tt
+attribute_deep s ItemRole.Capabilities digits = tt
+attribute_deep s ItemRole.Capabilities (list vs trailing) = post_then (begin_capabilities s) _ _ (begin_deep s) (λ a k. capabilities_deep s.depth a vs k)
+attribute_deep s (ItemRole.Block kind) v = refl
+attribute_deep s ItemRole.Other v = refl
 
-opened_deep : (s : State) (role : Role) (ls : List (List ℕ)) → Deep (s.depth + 1) (opened s role ls)
-opened_deep s (Role.Block kind) [] = tt
-opened_deep s (Role.Block kind) (l ∷ []) = post_then (named s kind l) _ _ (named_deep s kind l)
+opened_deep : (s : State) (role : ItemRole) (ls : List (List ℕ)) → Deep (s.depth + 1) (opened s role ls)
+opened_deep s (ItemRole.Block kind) [] = tt
+opened_deep s (ItemRole.Block kind) (l ∷ []) = post_then (named s kind l) _ _ (named_deep s kind l)
     (λ a k. subst (λ (d : ℕ). Deep (d + 1) (enter a)) k (enter_deep a))
-opened_deep s (Role.Block kind) (l ∷ m ∷ ls) = tt
-opened_deep s Role.Other ls = enter_deep s
-opened_deep s Role.Policy ls = tt
-opened_deep s Role.Capabilities ls = tt
+opened_deep s (ItemRole.Block kind) (l ∷ m ∷ ls) = tt
+opened_deep s ItemRole.Other ls = enter_deep s
+opened_deep s ItemRole.Policy ls = tt
+opened_deep s ItemRole.Capabilities ls = tt
 
 mutual
   item_deep : (i : Item) (d : ℕ) (s : State) → s.depth ≡ d → Deep d (item_in s i)

@@ -6,7 +6,7 @@ use Rattle.std.proofs.Math.Seq.{take-append_seam, drop-append_seam}
 use Rattle.std.proofs.lemmas.Bool.{and_parts, eqb-true}
 use Rattle.std.proofs.lemmas.Bool.Decides.{nat_tests}
 use Rattle.ns_policy.specs.declared.parser.State.{State}
-use Rattle.ns_policy.specs.Lex.{Token, open_block, close_block, begin_list, end_list, comma, equals, word, string, number, is_blank, is_digit, begins_word}
+use Rattle.ns_policy.specs.Lex.{RulesToken, open_block, close_block, begin_list, end_list, comma, equals, word, string, number, is_blank, is_digit, begins_word}
 use Rattle.ns_policy.specs.Lex.{is_word_byte, is_string_byte, has_template, skip, front, after, string_at, token_at}
 use Rattle.ns_policy.specs.Rules.{Read, ◌>>=◌}
 use Rattle.ns_policy.specs.Grammar.{step, next, read_on}
@@ -37,10 +37,10 @@ front_is test w rest all stop = ap (λ (n : ℕ). take n (w ++ rest)) (prefix_is
 after_is : (test : ℕ → Bool) (w rest : List ℕ) → list_all test w ≡ true → first_is test rest ≡ false → after test (w ++ rest) ≡ rest
 after_is test w rest all stop = ap (λ (n : ℕ). drop n (w ++ rest)) (prefix_is test w rest all stop) ∙ drop-append_seam w rest
 
-same_word : (a b c d : List ℕ) → a ≡ b → c ≡ d → ◌≡◌ {A = Option (Token × List ℕ)} (Some (word a, c)) (Some (word b, d))
+same_word : (a b c d : List ℕ) → a ≡ b → c ≡ d → ◌≡◌ {A = Option (RulesToken × List ℕ)} (Some (word a, c)) (Some (word b, d))
 same_word a b c d p q = rw (p, q) refl
 
-same_number : (c d : List ℕ) → c ≡ d → ◌≡◌ {A = Option (Token × List ℕ)} (Some (number, c)) (Some (number, d))
+same_number : (c d : List ℕ) → c ≡ d → ◌≡◌ {A = Option (RulesToken × List ℕ)} (Some (number, c)) (Some (number, d))
 same_number c d q = rw q refl
 
 pub word_at : (x : ℕ) (xs : List ℕ) → begins_word x ≡ true → token_at (x ∷ xs) ≡ Some (word (front is_word_byte (x ∷ xs)), after is_word_byte (x ∷ xs))
@@ -98,7 +98,7 @@ a_string w rest all h =
 
 -- ---- what a token's spelling gives
 
-pub token_is : (t : Token) (s rest : List ℕ) → Spells t s → Apart t rest → token_at (s ++ rest) ≡ Some (t, rest)
+pub token_is : (t : RulesToken) (s rest : List ℕ) → Spells t s → Apart t rest → token_at (s ++ rest) ≡ Some (t, rest)
 unfolding token_at
 token_is open_block s rest h apart = rw h refl
 token_is close_block s rest h apart = rw h refl
@@ -127,7 +127,7 @@ starts : (test : ℕ → Bool) (s rest : List ℕ) → first_is test s ≡ true 
 starts test [] rest first a b c d e f = absurd (true≢false (sym first))
 starts test (x ∷ s) rest first a b c d e f = stays test x (s ++ rest) first a b c d e f
 
-skip_token : (t : Token) (s rest : List ℕ) → Spells t s → skip false (s ++ rest) ≡ s ++ rest
+skip_token : (t : RulesToken) (s rest : List ℕ) → Spells t s → skip false (s ++ rest) ≡ s ++ rest
 unfolding skip
 skip_token open_block s rest h = rw h refl
 skip_token close_block s rest h = rw h refl
@@ -169,7 +169,7 @@ skip_comment false line rest all stop = skip_line line rest all stop
 
 -- ---- layouts
 
-nothing_there : (t : Token) (rest : List ℕ) → token_at [] ≡ Some (t, rest) → ⊥
+nothing_there : (t : RulesToken) (rest : List ℕ) → token_at [] ≡ Some (t, rest) → ⊥
 unfolding token_at
 nothing_there t rest h = cc
 
@@ -177,7 +177,7 @@ first_some : (test : ℕ → Bool) (s : List ℕ) → first_is test s ≡ true �
 first_some test [] h = absurd (true≢false (sym h))
 first_some test (x ∷ s) h = omega arith
 
-turn_is : (n : ℕ) (s : State) (xs rest : List ℕ) (t : Token) → token_at xs ≡ Some (t, rest) →
+turn_is : (n : ℕ) (s : State) (xs rest : List ℕ) (t : RulesToken) → token_at xs ≡ Some (t, rest) →
     read_on (suc n) s xs ≡ (step s t >>= λ a. read_on n a (skip false rest))
 unfolding read_on next
 turn_is n s [] rest t h = absurd (nothing_there t rest h)
@@ -187,7 +187,7 @@ bind_same : (r : Read State) (f g : State → Read State) → ((a : State) → f
 bind_same (Ok a) f g h = h a
 bind_same (Err e) f g h = refl
 
-spelled_some : (t : Token) (s : List ℕ) → Spells t s → 0 < length s
+spelled_some : (t : RulesToken) (s : List ℕ) → Spells t s → 0 < length s
 spelled_some open_block s h = rw h (omega arith)
 spelled_some close_block s h = rw h (omega arith)
 spelled_some begin_list s h = rw h (omega arith)

@@ -2,7 +2,7 @@
 use Rattle.std.proofs.Common.{◌≡◌, ℕ, suc, ◌+◌, ◌≤◌, List, [], ◌∷◌, ◌++◌, length, true, false, Ok, Err, IfOk, refl, sym, ap, ◌∙◌, subst, true≢false, arith}
 use Rattle.std.specs.List.{prefix_len}
 use Rattle.ns_types.specs.declared.acl.Rule.{Rule}
-use Rattle.ns_policy.specs.Lex.{is_json, is_blank, begins_word, word, Token}
+use Rattle.ns_policy.specs.Lex.{is_json, is_blank, begins_word, word, RulesToken}
 use Rattle.ns_policy.specs.Rules.{Read, Gives, same}
 use Rattle.ns_policy.specs.Grammar.{max_lists, blocks}
 use Rattle.ns_policy.specs.Json.{json_form, rules_of}
@@ -26,7 +26,7 @@ begins_item (x ∷ w) rest first =
       differs begins_word x 123 first refl,
     ) refl
 
-a_word : (is : Items) (t : Token) (ts : List Token) (s rest : List ℕ) → t ∷ ts ≡ items_tokens is → Spells t s → is_json (s ++ rest) ≡ false
+a_word : (is : Items) (t : RulesToken) (ts : List RulesToken) (s rest : List ℕ) → t ∷ ts ≡ items_tokens is → Spells t s → is_json (s ++ rest) ≡ false
 a_word no_items t ts s rest h spells = cc
 a_word (item (block w ls is) more) t ts s rest h spells =
     let t_is : t ≡ word w = cc in

@@ -5,7 +5,7 @@ use Rattle.std.specs.List.{prefix_len, list_all}
 use Rattle.std.proofs.lemmas.List.{take-append-drop}
 use Rattle.std.proofs.lemmas.Bool.{and_parts, eqb-true}
 use Rattle.ns_policy.specs.declared.parser.State.{State}
-use Rattle.ns_policy.specs.Lex.{Token, word, number, is_blank, is_letter, is_digit, begins_word, is_word_byte, is_string_byte, begins_with, has_template, skip}
+use Rattle.ns_policy.specs.Lex.{RulesToken, word, number, is_blank, is_letter, is_digit, begins_word, is_word_byte, is_string_byte, begins_with, has_template, skip}
 use Rattle.ns_policy.specs.Lex.{front, after, string_at, token_at}
 use Rattle.ns_policy.specs.Rules.{Read, ◌>>=◌}
 use Rattle.ns_policy.specs.Grammar.{step, next, or_syntax, read_on}
@@ -55,11 +55,11 @@ parts test s = sym (take-append-drop (prefix_len test s) s)
 
 -- ---- tokens
 
-abbrev Backs : List ℕ → Option (Token × List ℕ) → Type 0
+abbrev Backs : List ℕ → Option (RulesToken × List ℕ) → Type 0
 Backs xs None = Unit {0}
 Backs xs (Some p) = (sp : List ℕ) × (xs ≡ sp ++ p.1) × Spells p.0 sp × Apart p.0 p.1
 
-backs_if : (xs : List ℕ) (c : Bool) (r q : Option (Token × List ℕ)) → (c ≡ true → Backs xs r) → (c ≡ false → Backs xs q) → Backs xs (if c then r else q)
+backs_if : (xs : List ℕ) (c : Bool) (r q : Option (RulesToken × List ℕ)) → (c ≡ true → Backs xs r) → (c ≡ false → Backs xs q) → Backs xs (if c then r else q)
 backs_if xs true r q h k = h refl
 backs_if xs false r q h k = k refl
 
@@ -196,7 +196,7 @@ mutual
 abbrev pub Laid : List ℕ → Type 0
 Laid s = (ps : List Piece) × Layout ps × (s ≡ text_of ps)
 
-after_token : (xs : List ℕ) (n : ℕ) (s end : State) (t : Token) (us : List ℕ) (r : Read State) (sp : List ℕ) → xs ≡ sp ++ us → Spells t sp → Apart t us →
+after_token : (xs : List ℕ) (n : ℕ) (s end : State) (t : RulesToken) (us : List ℕ) (r : Read State) (sp : List ℕ) → xs ≡ sp ++ us → Spells t sp → Apart t us →
     (r >>= λ a. read_on n a (skip false us)) ≡ Ok end
     → ((vs : List ℕ) (a : State) → read_on n a vs ≡ Ok end → Laid vs) → Laid xs
 after_token xs n s end t us (Err e) sp is spells apart h rest = cc
@@ -205,7 +205,7 @@ after_token xs n s end t us (Ok a) sp is spells apart h rest =
     let r = regap us l.0 l.1 l.2 in
     (part t sp ∷ r.0, ((spells, subst (Apart t) r.2 apart), r.1), is ∙ ap (λ vs. sp ++ vs) r.2)
 
-then_laid : (xs : List ℕ) (n : ℕ) (s end : State) (r : Option (Token × List ℕ)) → Backs xs r →
+then_laid : (xs : List ℕ) (n : ℕ) (s end : State) (r : Option (RulesToken × List ℕ)) → Backs xs r →
     (or_syntax r >>= λ t. step s t.0 >>= λ a. read_on n a (skip false t.1)) ≡ Ok end
     → ((us : List ℕ) (a : State) → read_on n a us ≡ Ok end → Laid us) → Laid xs
 then_laid xs n s end None b h rest = cc

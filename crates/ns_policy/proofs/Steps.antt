@@ -2,7 +2,7 @@
 use Rattle.std.proofs.Common.{◌≡◌, ℕ, List, Bool, true, false, Ok, Err, Some, refl, sym, subst, nat_lt, nat_le, ◌==◌, if◌then◌else◌}
 use Rattle.ns_policy.specs.declared.fault.RuleFault.TheVariants.{Value}
 use Rattle.ns_types.specs.declared.acl.RuleKind.{RuleKind}
-use Rattle.ns_policy.specs.declared.parser.Role.TheVariants as Role
+use Rattle.ns_policy.specs.declared.parser.ItemRole.TheVariants as ItemRole
 use Rattle.ns_policy.specs.declared.parser.Place.{Place}
 use Rattle.ns_policy.specs.declared.parser.State.{State}
 use Rattle.ns_types.specs.declared.acl.Pattern.{Pattern}
@@ -54,7 +54,7 @@ pub leave_placed : (s : State) → Placed Place.Item (leave s)
 unfolding leave
 leave_placed s = post_if (s.depth == 0) _ _ _ tt (post_if (nat_lt 1 s.depth) _ _ _ refl refl)
 
-pub named_placed : (s : State) (kind : RuleKind) (l : List ℕ) → Placed (Place.Label (Role.Block kind)) (named s kind l)
+pub named_placed : (s : State) (kind : RuleKind) (l : List ℕ) → Placed (Place.Label (ItemRole.Block kind)) (named s kind l)
 unfolding named
 named_placed s kind l = post_bind (pattern_of kind l) _ _ (λ p. refl)
 
@@ -62,11 +62,11 @@ pub policy_placed : (s : State) (w : List ℕ) → Placed Place.Item (set_policy
 unfolding set_policy
 policy_placed s w = post_bind (draft_of s) _ _ (λ d. post_bind (unless d.has_policy d) _ _ (λ e. post_bind (with_policy e.kind w e.grants) _ _ (λ g. refl)))
 
-pub begin_placed : (s : State) → Placed (Place.Before Role.Capabilities 1) (begin_capabilities s)
+pub begin_placed : (s : State) → Placed (Place.Before ItemRole.Capabilities 1) (begin_capabilities s)
 unfolding begin_capabilities
 begin_placed s = post_bind (draft_of s) _ _ (λ d. post_bind (unless d.has_capabilities d) _ _ (λ e. refl))
 
-pub add_placed : (s : State) (w : List ℕ) → Placed (Place.After Role.Capabilities 1) (add_capability s w)
+pub add_placed : (s : State) (w : List ℕ) → Placed (Place.After ItemRole.Capabilities 1) (add_capability s w)
 unfolding add_capability
 add_placed s w = post_bind (draft_of s) _ _ (λ d. post_bind (with_capability d.kind w d.grants) _ _ (λ g. refl))
 
@@ -77,11 +77,11 @@ broken false x k f h = refl
 
 -- a pattern is only broken by a value
 pub pattern_fault : {A : Type 0} (s : State) (kind : RuleKind) (l : List ℕ) (f : State → Read A) →
-    ((a : State) → f (at a (Place.Label (Role.Block kind))) ≡ Err Value) → (named s kind l >>= f) ≡ Err Value
+    ((a : State) → f (at a (Place.Label (ItemRole.Block kind))) ≡ Err Value) → (named s kind l >>= f) ≡ Err Value
 unfolding named pattern_of
 pattern_fault s kind l f h = broken _ _ _ f (λ p. h
     (record s {
       draft = Some (record { kind = kind; pattern = p; grants = no_grants; has_policy = false; has_capabilities = false });
       place =
-          Place.Label (Role.Block kind);
+          Place.Label (ItemRole.Block kind);
     }))

@@ -4,7 +4,7 @@ use Rattle.std.proofs.lemmas.Bool.{eqb-true}
 use Rattle.ns_policy.specs.declared.fault.RuleFault.{RuleFault}
 use Rattle.ns_policy.specs.declared.fault.RuleFault.TheVariants.{Syntax, Value, Memory}
 use Rattle.ns_policy.specs.declared.parser.State.{State}
-use Rattle.ns_policy.specs.Lex.{Token, skip}
+use Rattle.ns_policy.specs.Lex.{RulesToken, skip}
 use Rattle.ns_policy.specs.Rules.{Read, ◌>>=◌, Fails}
 use Rattle.ns_policy.specs.Grammar.{next, step, read_on}
 
@@ -16,7 +16,7 @@ turn n i s (x ∷ xs) lt some =
     let k : n - i ≡ suc (n - (i + 1)) = omega arith in
     rw k refl
 
-pub goes_on : (n i : ℕ) (s after : State) (rest : List ℕ) (t : Token × List ℕ) (total : Read State) → i < n → eqb (length rest) 0 ≡ false → next rest ≡ Ok t →
+pub goes_on : (n i : ℕ) (s after : State) (rest : List ℕ) (t : RulesToken × List ℕ) (total : Read State) → i < n → eqb (length rest) 0 ≡ false → next rest ≡ Ok t →
     step s t.0 ≡ Ok after
     → read_on (n - i) s rest ≡ total → read_on (n - (i + 1)) after (skip false t.1) ≡ total
 goes_on n i s after rest t total lt some one two so_far =
@@ -29,7 +29,7 @@ fails_at Memory n i s rest total lt some bad so_far = tt
 fails_at Syntax n i s rest total lt some bad so_far = let e : read_on (n - i) s rest ≡ Err Syntax = turn n i s rest lt some ∙ rw bad refl in sym so_far ∙ e
 fails_at Value n i s rest total lt some bad so_far = let e : read_on (n - i) s rest ≡ Err Value = turn n i s rest lt some ∙ rw bad refl in sym so_far ∙ e
 
-pub fails_then : (f : RuleFault) (n i : ℕ) (s : State) (rest : List ℕ) (t : Token × List ℕ) (total : Read State) → i < n → eqb (length rest) 0 ≡ false →
+pub fails_then : (f : RuleFault) (n i : ℕ) (s : State) (rest : List ℕ) (t : RulesToken × List ℕ) (total : Read State) → i < n → eqb (length rest) 0 ≡ false →
     next rest ≡ Ok t → Fails f (step s t.0)
     → read_on (n - i) s rest ≡ total → Fails f total
 fails_then Memory n i s rest t total lt some one bad so_far = tt

@@ -1,7 +1,7 @@
 -- The laws of rules texts, over the machine that reads them.
 use Rattle.std.specs.Prelude.{◌≡◌, ℕ, ◌≤◌, List, length, Ok}
 use Rattle.ns_types.specs.declared.acl.Rule.{Rule}
-use Rattle.ns_policy.specs.Lex.{Token}
+use Rattle.ns_policy.specs.Lex.{RulesToken}
 use Rattle.ns_policy.specs.Grammar.{max_lists, blocks}
 use Rattle.ns_policy.specs.Tree.{Items, items_tokens, rules_in, read_tokens}
 use Rattle.ns_policy.specs.Layout.{Piece, Layout, text_of, tokens_of}
@@ -12,7 +12,7 @@ SpelledTokensAreRead = (is : Items) → length (items_tokens is) ≤ max_lists �
 
 -- tokens that are read spell items that mean it
 abbrev pub ReadTokensAreSpelled : Type 0
-ReadTokensAreSpelled = (ts : List Token) (rules : List Rule) → length ts ≤ max_lists → read_tokens ts ≡ Ok rules →
+ReadTokensAreSpelled = (ts : List RulesToken) (rules : List Rule) → length ts ≤ max_lists → read_tokens ts ≡ Ok rules →
     (is : Items) × (ts ≡ items_tokens is) × (rules_in is ≡ Ok rules)
 
 -- a text that spells items: their tokens, with blanks and comments between

@@ -1,14 +1,14 @@
 -- How tokens lie in a text, between blanks and comments.
 use Rattle.std.specs.Prelude.{◌≡◌, ℕ, ◌==◌, List, [], ◌∷◌, ◌++◌, Bool, true, false, not, codes}
 use Rattle.std.specs.List.{list_all}
-use Rattle.ns_policy.specs.Lex.{Token, open_block, close_block, begin_list, end_list, comma, equals, word, string}
+use Rattle.ns_policy.specs.Lex.{RulesToken, open_block, close_block, begin_list, end_list, comma, equals, word, string}
 use Rattle.ns_policy.specs.Lex.{number, is_blank, is_digit, begins_word, is_word_byte, is_string_byte, has_template}
 
 pub data Piece : Type 0 where
   blank : ℕ → Piece
   -- after `#` or, where it is true, `//`, up to the end of the line
   comment : Bool → List ℕ → Piece
-  part : Token → List ℕ → Piece
+  part : RulesToken → List ℕ → Piece
 
 abbrev pub mark : Bool → List ℕ
 mark true = codes "//"
@@ -23,7 +23,7 @@ abbrev pub text_of : List Piece → List ℕ
 text_of [] = []
 text_of (p ∷ ps) = spelling p ++ text_of ps
 
-abbrev pub tokens_of : List Piece → List Token
+abbrev pub tokens_of : List Piece → List RulesToken
 tokens_of [] = []
 tokens_of (blank b ∷ ps) = tokens_of ps
 tokens_of (comment slashes line ∷ ps) = tokens_of ps
@@ -37,7 +37,7 @@ abbrev pub in_line : ℕ → Bool
 in_line b = not (b == 10)
 
 -- how a token is spelled
-abbrev pub Spells : Token → List ℕ → Type 0
+abbrev pub Spells : RulesToken → List ℕ → Type 0
 Spells open_block s = s ≡ codes "{"
 Spells close_block s = s ≡ codes "}"
 Spells begin_list s = s ≡ codes "["
@@ -49,7 +49,7 @@ Spells (string w) s = (s ≡ 34 ∷ (w ++ 34 ∷ [])) × (list_all is_string_byt
 Spells number s = (first_is is_digit s ≡ true) × (list_all is_digit s ≡ true)
 
 -- a word or number ends where the next byte could not go on with it
-abbrev pub Apart : Token → List ℕ → Type 0
+abbrev pub Apart : RulesToken → List ℕ → Type 0
 Apart (word w) rest = first_is is_word_byte rest ≡ false
 Apart number rest = first_is is_digit rest ≡ false
 Apart _ rest = Unit {0}

@@ -3,16 +3,16 @@ use Rattle.std.specs.Prelude.{ℕ, ◌==◌, ◌&&◌, ◌||◌, nat_le, not, Li
 use Rattle.std.specs.Prelude.{Some, None, if◌then◌else◌}
 use Rattle.std.specs.List.{prefix_len}
 
-pub data Token : Type 0 where
-  open_block : Token
-  close_block : Token
-  begin_list : Token
-  end_list : Token
-  comma : Token
-  equals : Token
-  word : List ℕ → Token
-  string : List ℕ → Token
-  number : Token
+pub data RulesToken : Type 0 where
+  open_block : RulesToken
+  close_block : RulesToken
+  begin_list : RulesToken
+  end_list : RulesToken
+  comma : RulesToken
+  equals : RulesToken
+  word : List ℕ → RulesToken
+  string : List ℕ → RulesToken
+  number : RulesToken
 
 abbrev pub is_blank : ℕ → Bool
 is_blank b = (b == 32) || (b == 9) || (b == 13) || (b == 10)
@@ -60,12 +60,12 @@ abbrev pub after : (ℕ → Bool) → List ℕ → List ℕ
 after test s = drop (prefix_len test s) s
 
 -- the string whose opening quote was read
-unfoldable pub string_at : List ℕ → Option (Token × List ℕ)
+unfoldable pub string_at : List ℕ → Option (RulesToken × List ℕ)
 string_at s =
     if begins_with 34 (after is_string_byte s) && not (has_template (front is_string_byte s))
     then Some (string (front is_string_byte s), drop 1 (after is_string_byte s)) else None
 
-unfoldable pub token_at : List ℕ → Option (Token × List ℕ)
+unfoldable pub token_at : List ℕ → Option (RulesToken × List ℕ)
 token_at [] = None
 token_at (x ∷ xs) =
     if x == 123 then Some (open_block, xs)

@@ -6,7 +6,7 @@ ghost use Rattle.ns_policy.specs.Rules.{Gives, same};
 ghost use Rattle.ns_policy.specs.Grammar.{role_of, start, at, blocks, read_on, next, finish, step, with_rule, step_item, step_name, step_label, step_value, step_before, step_after, close_list, set_policy, begin_capabilities, add_capability, enter, leave, begun, named, is_flag};
 
 use crate::fault::RuleFault;
-use crate::lex::{Token, skip_blanks, token_at};
+use crate::lex::{RulesToken, skip_blanks, token_at};
 use crate::rule::{one_more, read_pattern, with_capability, with_policy};
 use ns_types::acl::{Grants, NO_GRANTS, Pattern, Rule, RuleKind};
 use ns_types::rows::Rows;
@@ -14,7 +14,7 @@ use std::alloc::Global;
 
 /// What the word of an item says.
 #[derive(Clone, Copy, PartialEq, Eq)]
-pub enum Role {
+pub enum ItemRole {
     Block(RuleKind),
     Policy,
     Capabilities,
@@ -27,20 +27,20 @@ pub enum Place {
     /// An item may begin here, or the block or the text end.
     Item,
     /// After the word of an item.
-    Name(Role),
+    Name(ItemRole),
     /// After a label.
-    Label(Role),
+    Label(ItemRole),
     /// After `=`.
-    Value(Role),
+    Value(ItemRole),
     /// In so many open lists, before a value.
-    Before(Role, u64),
+    Before(ItemRole, u64),
     /// In so many open lists, after a value.
-    After(Role, u64),
+    After(ItemRole, u64),
 }
 
 /// A rule whose block is open, or is about to be.
 #[derive(Drop)]
-pub struct Draft {
+pub struct OpenRule {
     pub kind: RuleKind,
     pub pattern: Pattern,
     pub grants: Grants,
@@ -52,7 +52,7 @@ pub struct Draft {
 #[derive(Drop)]
 pub struct State {
     pub rules: Rows<Rule>,
-    pub draft: Option<Draft>,
+    pub draft: Option<OpenRule>,
     pub depth: u64,
     pub place: Place,
 }
@@ -60,27 +60,27 @@ pub struct State {
 const MAX_DEPTH: u64 = 16;
 
 #[tactic(auto, unfolding(crate::specs::Grammar::role_of))]
-fn role_at(depth: u64, in_rule: bool, word: &[u8]) -> Role
+fn role_at(depth: u64, in_rule: bool, word: &[u8]) -> ItemRole
     ensures { result ≡ role_of depth in_rule word.now }
 {
     if depth == 0 {
         if word == b"namespace".as_slice() {
-            return Role::Block(RuleKind::Namespace);
+            return ItemRole::Block(RuleKind::Namespace);
         }
         if word == b"node_pool".as_slice() {
-            return Role::Block(RuleKind::Pool);
+            return ItemRole::Block(RuleKind::Pool);
         }
-        return Role::Other;
+        return ItemRole::Other;
     }
     if depth == 1 && in_rule {
         if word == b"policy".as_slice() {
-            return Role::Policy;
+            return ItemRole::Policy;
         }
         if word == b"capabilities".as_slice() {
-            return Role::Capabilities;
+            return ItemRole::Capabilities;
         }
     }
-    Role::Other
+    ItemRole::Other
 }
 
 fn is_flag(word: &[u8]) -> bool
@@ -98,7 +98,7 @@ fn refused(state: State, fault: RuleFault) -> Result<State, RuleFault>
 }
 
 /// What was read is let go, with the rule whose block is open.
-fn refused_in_rule(rules: Rows<Rule>, draft: Draft, fault: RuleFault) -> Result<State, RuleFault>
+fn refused_in_rule(rules: Rows<Rule>, draft: OpenRule, fault: RuleFault) -> Result<State, RuleFault>
     ensures { result ≡ Err fault }
 {
     drop(rules);
@@ -122,7 +122,7 @@ fn enter(state: State) -> Result<State, RuleFault>
 }
 
 /// The rule of a block that closes comes last.
-fn with_rule(rules: Rows<Rule>, draft: Option<Draft>) -> Result<Rows<Rule>, RuleFault>
+fn with_rule(rules: Rows<Rule>, draft: Option<OpenRule>) -> Result<Rows<Rule>, RuleFault>
     ensures { Gives same result (Ok (with_rule rules draft)) }
 {
     match draft {
@@ -162,18 +162,18 @@ fn leave(state: State) -> Result<State, RuleFault>
 }
 
 #[tactic(auto, unfolding(crate::specs::Grammar::step_item))]
-fn step_item(state: State, token: Token<'_>) -> Result<State, RuleFault>
+fn step_item(state: State, token: RulesToken<'_>) -> Result<State, RuleFault>
     ensures { Gives same result (step_item state (seen token.entry)) }
 {
     match token {
-        Token::Word(word) => {
+        RulesToken::Word(word) => {
             let role = role_at(state.depth, state.draft.is_some(), word);
             Ok(State {
                 place: Place::Name(role),
                 ..state
             })
         }
-        Token::CloseBlock => leave(state),
+        RulesToken::CloseBlock => leave(state),
         _ => refused(state, RuleFault::Syntax),
     }
 }
@@ -191,7 +191,7 @@ fn begun(state: State, kind: RuleKind, pattern: Pattern) -> State
     drop(draft);
     State {
         rules,
-        draft: Some(Draft {
+        draft: Some(OpenRule {
             kind,
             pattern,
             grants: NO_GRANTS,
@@ -199,7 +199,7 @@ fn begun(state: State, kind: RuleKind, pattern: Pattern) -> State
             has_capabilities: false,
         }),
         depth,
-        place: Place::Label(Role::Block(kind)),
+        place: Place::Label(ItemRole::Block(kind)),
     }
 }
 
@@ -215,33 +215,38 @@ fn named(alloc: Global, state: State, kind: RuleKind, label: &[u8]) -> Result<St
 }
 
 #[tactic(auto, unfolding(crate::specs::Grammar::step_name))]
-fn step_name(alloc: Global, state: State, role: Role, token: Token<'_>) -> Result<State, RuleFault>
+fn step_name(
+    alloc: Global,
+    state: State,
+    role: ItemRole,
+    token: RulesToken<'_>,
+) -> Result<State, RuleFault>
     ensures { Gives same result (step_name state role (seen token.entry)) }
 {
     match (token, role) {
-        (Token::Equals, _) => Ok(State {
+        (RulesToken::Equals, _) => Ok(State {
             place: Place::Value(role),
             ..state
         }),
-        (Token::Text(label), Role::Block(kind)) => named(alloc, state, kind, label),
-        (Token::Text(_), Role::Other) => Ok(State {
+        (RulesToken::Text(label), ItemRole::Block(kind)) => named(alloc, state, kind, label),
+        (RulesToken::Text(_), ItemRole::Other) => Ok(State {
             place: Place::Label(role),
             ..state
         }),
-        (Token::OpenBlock, Role::Other) => enter(state),
-        (Token::Text(_) | Token::OpenBlock, _) => refused(state, RuleFault::Value),
+        (RulesToken::OpenBlock, ItemRole::Other) => enter(state),
+        (RulesToken::Text(_) | RulesToken::OpenBlock, _) => refused(state, RuleFault::Value),
         _ => refused(state, RuleFault::Syntax),
     }
 }
 
 #[tactic(auto, unfolding(crate::specs::Grammar::step_label))]
-fn step_label(state: State, role: Role, token: Token<'_>) -> Result<State, RuleFault>
+fn step_label(state: State, role: ItemRole, token: RulesToken<'_>) -> Result<State, RuleFault>
     ensures { Gives same result (step_label state role (seen token.entry)) }
 {
     match (token, role) {
-        (Token::Text(_), Role::Other) => Ok(state),
-        (Token::Text(_), _) => refused(state, RuleFault::Value),
-        (Token::OpenBlock, _) => enter(state),
+        (RulesToken::Text(_), ItemRole::Other) => Ok(state),
+        (RulesToken::Text(_), _) => refused(state, RuleFault::Value),
+        (RulesToken::OpenBlock, _) => enter(state),
         _ => refused(state, RuleFault::Syntax),
     }
 }
@@ -267,7 +272,7 @@ fn set_policy(state: State, word: &[u8]) -> Result<State, RuleFault>
     match with_policy(draft.kind, draft.grants, word) {
         Ok(grants) => Ok(State {
             rules,
-            draft: Some(Draft {
+            draft: Some(OpenRule {
                 grants,
                 has_policy: true,
                 ..draft
@@ -299,12 +304,12 @@ fn begin_capabilities(state: State) -> Result<State, RuleFault>
     }
     Ok(State {
         rules,
-        draft: Some(Draft {
+        draft: Some(OpenRule {
             has_capabilities: true,
             ..draft
         }),
         depth,
-        place: Place::Before(Role::Capabilities, 1),
+        place: Place::Before(ItemRole::Capabilities, 1),
     })
 }
 
@@ -326,9 +331,9 @@ fn add_capability(state: State, word: &[u8]) -> Result<State, RuleFault>
     match with_capability(draft.kind, draft.grants, word) {
         Ok(grants) => Ok(State {
             rules,
-            draft: Some(Draft { grants, ..draft }),
+            draft: Some(OpenRule { grants, ..draft }),
             depth,
-            place: Place::After(Role::Capabilities, 1),
+            place: Place::After(ItemRole::Capabilities, 1),
         }),
         Err(fault) => refused_in_rule(rules, draft, fault),
     }
@@ -341,27 +346,28 @@ fn move_to(state: State, place: Place) -> State
 }
 
 #[tactic(auto, unfolding(crate::specs::Grammar::step_value))]
-fn step_value(state: State, role: Role, token: Token<'_>) -> Result<State, RuleFault>
+fn step_value(state: State, role: ItemRole, token: RulesToken<'_>) -> Result<State, RuleFault>
     ensures { Gives same result (step_value state role (seen token.entry)) }
 {
     match (token, role) {
-        (Token::Text(word), Role::Policy) => set_policy(state, word),
-        (Token::BeginList, Role::Capabilities) => begin_capabilities(state),
-        (Token::Text(_) | Token::Number | Token::BeginList, Role::Policy | Role::Capabilities) => {
+        (RulesToken::Text(word), ItemRole::Policy) => set_policy(state, word),
+        (RulesToken::BeginList, ItemRole::Capabilities) => begin_capabilities(state),
+        (
+            RulesToken::Text(_) | RulesToken::Number | RulesToken::BeginList,
+            ItemRole::Policy | ItemRole::Capabilities,
+        ) => { refused(state, RuleFault::Value) }
+        (RulesToken::Text(_) | RulesToken::Number, _) => Ok(move_to(state, Place::Item)),
+        (RulesToken::BeginList, _) => Ok(move_to(state, Place::Before(role, 1))),
+        (RulesToken::Word(word), ItemRole::Policy | ItemRole::Capabilities) if is_flag(word) => {
             refused(state, RuleFault::Value)
         }
-        (Token::Text(_) | Token::Number, _) => Ok(move_to(state, Place::Item)),
-        (Token::BeginList, _) => Ok(move_to(state, Place::Before(role, 1))),
-        (Token::Word(word), Role::Policy | Role::Capabilities) if is_flag(word) => {
-            refused(state, RuleFault::Value)
-        }
-        (Token::Word(word), _) if is_flag(word) => Ok(move_to(state, Place::Item)),
+        (RulesToken::Word(word), _) if is_flag(word) => Ok(move_to(state, Place::Item)),
         _ => refused(state, RuleFault::Syntax),
     }
 }
 
 /// A list closes, the last of so many open ones.
-fn close_list(state: State, role: Role, lists: u64) -> State
+fn close_list(state: State, role: ItemRole, lists: u64) -> State
     ensures { result ≡ close_list state role lists }
 {
     if lists > 1 {
@@ -372,39 +378,58 @@ fn close_list(state: State, role: Role, lists: u64) -> State
 }
 
 #[tactic(auto, unfolding(crate::specs::Grammar::step_before))]
-fn step_before(state: State, role: Role, lists: u64, token: Token<'_>) -> Result<State, RuleFault>
+fn step_before(
+    state: State,
+    role: ItemRole,
+    lists: u64,
+    token: RulesToken<'_>,
+) -> Result<State, RuleFault>
     ensures { Gives same result (step_before state role lists (seen token.entry)) }
 {
     match (token, role) {
-        (Token::EndList, _) => Ok(close_list(state, role, lists)),
-        (Token::Text(word), Role::Capabilities) => add_capability(state, word),
-        (Token::Number | Token::BeginList, Role::Capabilities) => refused(state, RuleFault::Value),
-        (Token::Text(_) | Token::Number, _) => Ok(move_to(state, Place::After(role, lists))),
-        (Token::BeginList, _) => match lists.checked_add(1) {
+        (RulesToken::EndList, _) => Ok(close_list(state, role, lists)),
+        (RulesToken::Text(word), ItemRole::Capabilities) => add_capability(state, word),
+        (RulesToken::Number | RulesToken::BeginList, ItemRole::Capabilities) => refused(
+            state,
+            RuleFault::Value,
+        ),
+        (RulesToken::Text(_) | RulesToken::Number, _) => Ok(move_to(
+            state,
+            Place::After(role, lists),
+        )),
+        (RulesToken::BeginList, _) => match lists.checked_add(1) {
             Some(lists) => Ok(move_to(state, Place::Before(role, lists))),
             None => refused(state, RuleFault::Syntax),
         },
-        (Token::Word(word), Role::Capabilities) if is_flag(word) => {
+        (RulesToken::Word(word), ItemRole::Capabilities) if is_flag(word) => {
             refused(state, RuleFault::Value)
         }
-        (Token::Word(word), _) if is_flag(word) => Ok(move_to(state, Place::After(role, lists))),
+        (RulesToken::Word(word), _) if is_flag(word) => Ok(move_to(
+            state,
+            Place::After(role, lists),
+        )),
         _ => refused(state, RuleFault::Syntax),
     }
 }
 
 #[tactic(auto, unfolding(crate::specs::Grammar::step_after))]
-fn step_after(state: State, role: Role, lists: u64, token: Token<'_>) -> Result<State, RuleFault>
+fn step_after(
+    state: State,
+    role: ItemRole,
+    lists: u64,
+    token: RulesToken<'_>,
+) -> Result<State, RuleFault>
     ensures { Gives same result (step_after state role lists (seen token.entry)) }
 {
     match token {
-        Token::Comma => Ok(move_to(state, Place::Before(role, lists))),
-        Token::EndList => Ok(close_list(state, role, lists)),
+        RulesToken::Comma => Ok(move_to(state, Place::Before(role, lists))),
+        RulesToken::EndList => Ok(close_list(state, role, lists)),
         _ => refused(state, RuleFault::Syntax),
     }
 }
 
 #[tactic(auto, unfolding(crate::specs::Grammar::step))]
-fn step(alloc: Global, state: State, token: Token<'_>) -> Result<State, RuleFault>
+fn step(alloc: Global, state: State, token: RulesToken<'_>) -> Result<State, RuleFault>
     ensures { Gives same result (step state (seen token.entry)) }
 {
     match state.place {
@@ -439,7 +464,7 @@ fn finish(state: State) -> Result<Rows<Rule>, RuleFault>
 
 /// The first token of a text, and what follows it.
 #[tactic(auto, unfolding(crate::specs::Grammar::next))]
-fn next(text: &[u8]) -> Result<(Token<'_>, &[u8]), RuleFault>
+fn next(text: &[u8]) -> Result<(RulesToken<'_>, &[u8]), RuleFault>
     ensures { Gives (λ x. (seen x.0, x.1.now)) result (next text.now) }
 {
     token_at(text).ok_or(RuleFault::Syntax)

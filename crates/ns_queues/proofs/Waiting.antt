@@ -10,7 +10,7 @@ use Rattle.std.proofs.lemmas.List.Elements.{filter_map-append}
 use Rattle.std.specs.Cmp.Lexicographic.{pointwise}
 use Rattle.std.specs.List.{cons_option}
 use Rattle.std.specs.Option.{option_eq, option_map_or}
-use Rattle.ns_blocked.specs.declared.entry.Entry.{Entry}
+use Rattle.ns_blocked.specs.declared.entry.BlockedEvaluation.{BlockedEvaluation}
 use Rattle.ns_blocked.specs.declared.entry.Waits.TheVariants.{Pool, Quota}
 use Rattle.ns_blocked.specs.Blocked.{BlockedList, entries_of, keys_of}
 use Rattle.ns_blocked.specs.Waking.{entry_of}
@@ -101,7 +101,7 @@ kept_entries : (w : World) (taken keys : List Key) →
 kept_entries w taken [] = refl
 kept_entries w taken (key ∷ keys) = by (evaluation_at w key) refl (not (has_key taken key)) refl (kept_entries w taken keys)
   where
-    rest : List Entry
+    rest : List BlockedEvaluation
     rest = filter (λ e. not (has_key taken e.key)) (entries_for w keys)
 
     by : (r : Option Evaluation) → evaluation_at w key ≡ r → (b : Bool) → not (has_key taken key) ≡ b → rest ≡ entries_for w (without_keys taken keys) →
@@ -148,7 +148,7 @@ unfolding settled_world
 blocked_settled w s = refl
 
 -- some are taken out, and the entries put at the end
-module _ (w : World) (s : Settled) (old left new : BlockedList) (entries : List Entry)
+module _ (w : World) (s : Settled) (old left new : BlockedList) (entries : List BlockedEvaluation)
     (out : entries_of left ≡ filter (λ e. not (has_key s.blocked.taken e.key)) (entries_of old))
     (unmoved : NoneMoves (moves_entry left) w (settled_world w s))
     (added : entries ≡ added_entries w s)
@@ -162,8 +162,8 @@ module _ (w : World) (s : Settled) (old left new : BlockedList) (entries : List 
   kept = without_keys s.blocked.taken w.blocked
 
   left_keys : keys_of left ≡ kept
-  left_keys = ap (map (λ (e : Entry). e.key)) out
-      ∙ sym (elements.filter_map (λ key. not (has_key s.blocked.taken key)) (λ (e : Entry). e.key) (entries_of old))
+  left_keys = ap (map (λ (e : BlockedEvaluation). e.key)) out
+      ∙ sym (elements.filter_map (λ key. not (has_key s.blocked.taken key)) (λ (e : BlockedEvaluation). e.key) (entries_of old))
       ∙ ap (filter (λ key. not (has_key s.blocked.taken key))) h.keys
 
   left_entries : entries_of left ≡ entries_for w' kept
@@ -172,7 +172,7 @@ module _ (w : World) (s : Settled) (old left new : BlockedList) (entries : List 
       (each_map (has_entry left w w' unmoved) (keys_of left) (each_member (keys_of left))))
 
   added_keys : map (λ e. e.key) entries ≡ s.blocked.added
-  added_keys = ap (map (λ (e : Entry). e.key)) added
+  added_keys = ap (map (λ (e : BlockedEvaluation). e.key)) added
       ∙ all_there w' s.blocked.added (subst (λ es. length s.blocked.added ≤ length es) added whole)
 
   pub followed : IsBlockedIndex w' new
@@ -180,7 +180,7 @@ module _ (w : World) (s : Settled) (old left new : BlockedList) (entries : List 
     entries = put ∙ (λ i. left_entries i ++ added i)
         ∙ sym (filter_map-append (λ key. option_map (entry_of key) (evaluation_at w' key)) kept s.blocked.added)
         ∙ ap (entries_for w') (sym (blocked_settled w s));
-    keys = ap (map (λ (e : Entry). e.key)) put ∙ map-append (λ (e : Entry). e.key) (entries_of left) entries
+    keys = ap (map (λ (e : BlockedEvaluation). e.key)) put ∙ map-append (λ (e : BlockedEvaluation). e.key) (entries_of left) entries
         ∙ (λ i. left_keys i ++ added_keys i) ∙ sym (blocked_settled w s);
   }
 
@@ -190,5 +190,5 @@ module _ (w : World) (s : Settled) (old left new : BlockedList) (entries : List 
 pub none_blocked : (w : World) (list : BlockedList) → w.blocked ≡ [] → entries_of list ≡ [] → IsBlockedIndex w list
 none_blocked w list none empty = record {
   entries = empty ∙ ap (entries_for w) (sym none);
-  keys = ap (map (λ (e : Entry). e.key)) empty ∙ sym none;
+  keys = ap (map (λ (e : BlockedEvaluation). e.key)) empty ∙ sym none;
 }

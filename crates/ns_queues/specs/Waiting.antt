@@ -3,7 +3,7 @@ use Rattle.std.specs.Prelude.{◌≡◌, Bool, not, ◌&&◌, List, Option, opti
 use Rattle.std.specs.List.{filter_map}
 use Rattle.std.specs.Option.{option_eq}
 use Rattle.std.specs.Cmp.Lexicographic.{pointwise}
-use Rattle.ns_blocked.specs.declared.entry.Entry.{Entry}
+use Rattle.ns_blocked.specs.declared.entry.BlockedEvaluation.{BlockedEvaluation}
 use Rattle.ns_blocked.specs.Blocked.{BlockedList, entries_of, keys_of}
 use Rattle.ns_blocked.specs.Waking.{entries_in, entry_of}
 use Rattle.ns_change.specs.declared.change.Settled.{Settled}
@@ -20,11 +20,11 @@ pub record IsBlockedIndex (w : World) (list : BlockedList) : Type 0 where
   pub keys : keys_of list ≡ w.blocked
 
 -- the entries of those keys
-abbrev pub entries_for : World → List Key → List Entry
+abbrev pub entries_for : World → List Key → List BlockedEvaluation
 entries_for w keys = filter_map (λ key. option_map (entry_of key) (evaluation_at w key)) keys
 
 -- those of the keys that a step adds, as it leaves them
-abbrev pub added_entries : World → Settled → List Entry
+abbrev pub added_entries : World → Settled → List BlockedEvaluation
 added_entries w s = entries_for (settled_world w s) s.blocked.added
 
 -- ---- who gets another entry

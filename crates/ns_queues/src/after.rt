@@ -36,7 +36,7 @@ pub(crate) fn evaluation_after<'a>(
 }
 
 /// Who watches whether evaluations move.
-pub(crate) trait Watch {
+pub(crate) trait WatchesMoves {
     /// Whether the evaluation at that key, which was so and is so after the step, moves.
     ghost moves: { Self → Key → Option Evaluation → Option Evaluation → Bool };
 
@@ -53,7 +53,7 @@ pub(crate) trait Watch {
 }
 
 /// Whether the change of one evaluation moves it.
-fn moves_slot<W: Watch>(
+fn moves_slot<W: WatchesMoves>(
     watch: &W,
     namespace: &Text,
     before: &NumberTable<Evaluation>,
@@ -64,7 +64,7 @@ fn moves_slot<W: Watch>(
     watch.moves(namespace, slot.0, before.get(slot.0), slot.1.as_ref())
 }
 
-fn any_moves<W: Watch>(
+fn any_moves<W: WatchesMoves>(
     watch: &W,
     namespace: &Text,
     before: &NumberTable<Evaluation>,
@@ -79,7 +79,7 @@ fn any_moves<W: Watch>(
 }
 
 /// Whether a changed evaluation of the namespace moves.
-fn moves_in<W: Watch>(watch: &W, tables: &Tables, slot: &NameSlot<SettledTenant>) -> bool
+fn moves_in<W: WatchesMoves>(watch: &W, tables: &Tables, slot: &NameSlot<SettledTenant>) -> bool
     ensures { result ≡ moves_in (W.moves watch.now) tables.now.tenants slot.now }
 {
     match (tables.tenants.get(&slot.0), &slot.1) {
@@ -93,7 +93,11 @@ fn moves_in<W: Watch>(watch: &W, tables: &Tables, slot: &NameSlot<SettledTenant>
     }
 }
 
-fn any_moves_in<W: Watch>(watch: &W, tables: &Tables, slots: &[NameSlot<SettledTenant>]) -> bool
+fn any_moves_in<W: WatchesMoves>(
+    watch: &W,
+    tables: &Tables,
+    slots: &[NameSlot<SettledTenant>],
+) -> bool
     ensures { result ≡ list_any (moves_in (W.moves watch.now) tables.now.tenants) slots.now }
 {
     slots.iter().any(|slot| moves_in(watch, tables, slot))
@@ -101,7 +105,7 @@ fn any_moves_in<W: Watch>(watch: &W, tables: &Tables, slots: &[NameSlot<SettledT
 
 /// Whether a changed evaluation moves, of whatever namespace. Where none does, and none moves that stays as it is, none
 /// moves at all.
-pub(crate) fn any_moved<W: Watch>(watch: &W, tables: &Tables, settled: &Settled) -> bool
+pub(crate) fn any_moved<W: WatchesMoves>(watch: &W, tables: &Tables, settled: &Settled) -> bool
     ensures { result ≡ false → StillUnmoved (W.moves watch.now) → let w = world_of tables.now in
         NoneMoves (W.moves watch.now) w (settled_world w settled.now) }
 {

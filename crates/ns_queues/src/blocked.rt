@@ -9,8 +9,8 @@ ghost use Rattle.ns_queues.specs.Waiting.{IsBlockedIndex, added_entries, moves_e
 ghost use Rattle.ns_types.specs.State.Names.{same_class};
 ghost use Rattle.ns_tables.specs.World.{world_of};
 
-use crate::after::{Watch, any_moved, evaluation_after};
-use ns_blocked::{BlockedList, Entry, Waits};
+use crate::after::{WatchesMoves, any_moved, evaluation_after};
+use ns_blocked::{BlockedEvaluation, BlockedList, Waits};
 use ns_change::Settled;
 use ns_equality::{same_class, same_flag, same_optional_text};
 use ns_tables::Tables;
@@ -32,10 +32,10 @@ fn waits_of(evaluation: &Evaluation) -> Result<Waits, AllocError>
     }
 }
 
-fn entry_of(key: &EvalKey, evaluation: &Evaluation) -> Result<Entry, AllocError>
+fn entry_of(key: &EvalKey, evaluation: &Evaluation) -> Result<BlockedEvaluation, AllocError>
     ensures { IfOk result (λ entry. entry ≡ entry_of key.now evaluation.now) }
 {
-    Ok(Entry {
+    Ok(BlockedEvaluation {
         key: key.clone()?,
         waits: waits_of(evaluation)?,
         escapes: evaluation.escapes,
@@ -44,7 +44,7 @@ fn entry_of(key: &EvalKey, evaluation: &Evaluation) -> Result<Entry, AllocError>
 }
 
 /// The entries of the keys that the step adds, as it leaves them.
-fn added_entries(tables: &Tables, settled: &Settled) -> Result<Rows<Entry>, AllocError>
+fn added_entries(tables: &Tables, settled: &Settled) -> Result<Rows<BlockedEvaluation>, AllocError>
     ensures { IfOk result (λ entries. entries ≡ added_entries (world_of tables.now) settled.now) }
 {
     let mut entries = Rows::new(tables.alloc);
@@ -62,7 +62,7 @@ pub(crate) fn reserve(
     list: &mut BlockedList,
     tables: &Tables,
     settled: &Settled,
-) -> Result<Rows<Entry>, AllocError>
+) -> Result<Rows<BlockedEvaluation>, AllocError>
     ensures same { entries_of list.new ≡ entries_of list.old }
     ensures added { IfOk result
         (λ entries. entries ≡ added_entries (world_of tables.now) settled.now) }
@@ -117,7 +117,7 @@ struct Standing<'a> {
 }
 
 /// Whether one of them gets another entry.
-impl Watch for Standing<'_> {
+impl WatchesMoves for Standing<'_> {
     ghost moves = { λ s key before after. moves_entry s.list.now key before after };
 
     fn moves(
@@ -137,7 +137,7 @@ pub(crate) fn follow(
     list: &mut BlockedList,
     tables: &Tables,
     settled: &Settled,
-    entries: Rows<Entry>,
+    entries: Rows<BlockedEvaluation>,
 ) -> bool
     requires room { CanAdd entries list.old }
     requires added { entries ≡ added_entries (world_of tables.now) settled.now }

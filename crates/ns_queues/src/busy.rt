@@ -10,7 +10,7 @@ ghost use Rattle.ns_types.specs.State.Rows.{World};
 ghost use Rattle.ns_types.specs.Working.Looks.{row_of};
 ghost use Rattle.ns_tables.specs.World.{world_of};
 
-use keyed::{NameTable, NumberSlot, NumberTable};
+use keyed::{NameSlot, NameTable, NumberSlot, NumberTable};
 use ns_change::Settled;
 use ns_tables::Tables;
 use ns_types::text::Text;
@@ -170,7 +170,7 @@ impl BusyWorkers {
 }
 
 /// The first name that is there.
-fn first_name(slots: &[(Text, Option<()>)]) -> Option<&Text>
+fn first_name(slots: &[NameSlot<()>]) -> Option<&Text>
     ensures { option_copied result ≡ option_map (λ e. e.0) (find (λ e. is_some e.1) slots.now) }
 {
     let slot = slots.iter().find(|slot| slot.1.is_some())?;

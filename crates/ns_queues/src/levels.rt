@@ -6,7 +6,7 @@ ghost use Rattle.keyed.specs.Table.{row_at};
 ghost use Rattle.ns_queues.specs.Ready.{CanAddTo, HasRoomFor, KeepsOthers, KeepsRoom, SameKeys};
 ghost use Rattle.ns_queues.specs.Ready.{first_key, first_of_highest, group_at, left_of, level_at};
 
-use keyed::{KeyQueue, NumberTable};
+use keyed::{KeyQueue, NumberSlot, NumberTable};
 use ns_types::key::EvalKey;
 use ns_types::rows::Rows;
 use std::alloc::{AllocError, Global};
@@ -116,7 +116,7 @@ pub(crate) fn clear(levels: &mut NumberTable<KeyQueue>, priority: u64, keys: &[E
 }
 
 /// The first key of a level.
-fn first_of(slot: &(u64, Option<KeyQueue>)) -> Option<&EvalKey>
+fn first_of(slot: &NumberSlot<KeyQueue>) -> Option<&EvalKey>
     ensures { option_copied result ≡ first_key slot.now.1 }
 {
     match &slot.1 {

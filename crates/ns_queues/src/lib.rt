@@ -13,5 +13,5 @@ mod levels;
 mod ready;
 mod turns;
 
-pub(crate) use after::{Watch, any_moved, evaluation_after};
+pub(crate) use after::{WatchesMoves, any_moved, evaluation_after};
 pub use turns::{Coming, Turns};

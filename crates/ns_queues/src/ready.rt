@@ -12,7 +12,7 @@ ghost use Rattle.ns_queues.specs.Ready.{moves_ready, priority_of};
 ghost use Rattle.ns_change.specs.Changed.{without_keys};
 ghost use Rattle.ns_tables.specs.World.{world_of};
 
-use crate::after::{Watch, any_moved, evaluation_after};
+use crate::after::{WatchesMoves, any_moved, evaluation_after};
 use crate::levels;
 use keyed::{KeyQueue, NumberTable};
 use ns_change::Settled;
@@ -48,7 +48,7 @@ fn priority_after(tables: &Tables, settled: &Settled, key: &EvalKey) -> u64
 }
 
 /// A ready evaluation that gets another priority.
-impl Watch for KeyQueue {
+impl WatchesMoves for KeyQueue {
     ghost moves = { moves_ready };
 
     fn moves(

@@ -10,7 +10,7 @@ ghost use Rattle.ns_tables.specs.World.{world_of};
 use crate::blocked;
 use crate::busy::BusyWorkers;
 use crate::ready::{Arrivals, ByPriority};
-use ns_blocked::{BlockedList, Entry};
+use ns_blocked::{BlockedEvaluation, BlockedList};
 use ns_change::Settled;
 use ns_tables::Tables;
 use ns_types::key::EvalKey;
@@ -44,7 +44,7 @@ impl Drop for Turns {
 #[derive(Drop)]
 pub struct Coming {
     ready: Arrivals,
-    blocked: Rows<Entry>,
+    blocked: Rows<BlockedEvaluation>,
 }
 
 impl Turns {

@@ -67,7 +67,12 @@ fn gives<Q: Question>(question: &Q, pool: &Text, rows: &PoolRows, slot: &NameSlo
     }
 }
 
-fn any_gives<Q: Question>(question: &Q, pool: &Text, rows: &PoolRows, slots: &[NameSlot<Node>]) -> bool
+fn any_gives<Q: Question>(
+    question: &Q,
+    pool: &Text,
+    rows: &PoolRows,
+    slots: &[NameSlot<Node>],
+) -> bool
     ensures { result ≡ list_any (λ slot. list_any (Q.of_room question.now)
         (rooms_at pool.now (pool_of rows.now) slot)) slots.now }
 {
@@ -160,7 +165,11 @@ fn tenant_leaves<Q: Question>(
     }
 }
 
-fn any_pool_gives<Q: Question>(question: &Q, tables: &Tables, slots: &[NameSlot<PoolChange>]) -> bool
+fn any_pool_gives<Q: Question>(
+    question: &Q,
+    tables: &Tables,
+    slots: &[NameSlot<PoolChange>],
+) -> bool
     ensures { result ≡ list_any (λ slot. list_any (Q.of_room question.now)
         (rooms_of_pool (world_of tables.now) slot)) slots.now }
 {
@@ -209,7 +218,11 @@ fn frees<Q: Question>(question: &Q, tenant: &TenantRows, slot: &NumberSlot<Alloc
     ended(tenant, slot).is_some() && is_own(question, tenant)
 }
 
-fn any_frees<Q: Question>(question: &Q, tenant: &TenantRows, slots: &[NumberSlot<Allocation>]) -> bool
+fn any_frees<Q: Question>(
+    question: &Q,
+    tenant: &TenantRows,
+    slots: &[NumberSlot<Allocation>],
+) -> bool
     ensures { result ≡ list_any (λ slot. list_any (Q.of_quota question.now)
         (quotas_ended (tenant_of tenant.now) slot)) slots.now }
 {
@@ -229,7 +242,11 @@ fn tenant_frees<Q: Question>(question: &Q, tables: &Tables, slot: &NameSlot<Tena
     }
 }
 
-fn any_tenant_frees<Q: Question>(question: &Q, tables: &Tables, slots: &[NameSlot<TenantChange>]) -> bool
+fn any_tenant_frees<Q: Question>(
+    question: &Q,
+    tables: &Tables,
+    slots: &[NameSlot<TenantChange>],
+) -> bool
     ensures { result ≡ list_any (λ slot. list_any (Q.of_quota question.now)
         (quotas_ended_in (world_of tables.now) slot)) slots.now }
 {

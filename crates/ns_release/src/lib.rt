@@ -14,4 +14,4 @@ mod showing;
 pub use asking::{Question, releases_quota, releases_room};
 pub use blocked::{does_wake, releases, stays};
 pub use releasing::{ended, gives_itself, relimits};
-pub use showing::{Shown, any_job, any_row, changes_job_slot, changes_row, changes_slot};
+pub use showing::{ShownByNumber, any_job, any_row, changes_job_slot, changes_row, changes_slot};

@@ -10,7 +10,7 @@ ghost use Rattle.ns_release.specs.Shown.{Kind, allocations_shown, changes_job_sl
 ghost use Rattle.ns_release.specs.Shown.{evaluations_shown};
 ghost use Rattle.ns_tables.specs.World.{tenant_of};
 
-use keyed::{NameSlot, NumberTable};
+use keyed::{NameSlot, NumberSlot, NumberTable};
 use ns_equality::{same_allocation, same_evaluation, same_job};
 use ns_tables::TenantRows;
 use ns_types::allocation::Allocation;
@@ -20,7 +20,7 @@ use ns_types::job::Job;
 use ns_types::text::Text;
 
 /// A row that replies show, under its number in a namespace.
-pub trait Shown: Drop {
+pub trait ShownByNumber: Drop {
     /// How it is shown.
     ghost kind: { Kind Self };
 
@@ -41,7 +41,7 @@ pub trait Shown: Drop {
         ensures { result ≡ kind.topic number };
 }
 
-impl Shown for Evaluation {
+impl ShownByNumber for Evaluation {
     ghost kind = { evaluations_shown };
 
     fn is_alike(&self, other: &Evaluation) -> bool {
@@ -62,7 +62,7 @@ impl Shown for Evaluation {
     }
 }
 
-impl Shown for Allocation {
+impl ShownByNumber for Allocation {
     ghost kind = { allocations_shown };
 
     fn is_alike(&self, other: &Allocation) -> bool {
@@ -84,7 +84,7 @@ impl Shown for Allocation {
 }
 
 /// Whether the row is new, or shown otherwise than before.
-pub fn changes_row<R: Shown>(before: &NumberTable<R>, number: u64, row: &R) -> bool
+pub fn changes_row<R: ShownByNumber>(before: &NumberTable<R>, number: u64, row: &R) -> bool
     ensures { result ≡ changes_row R.kind (rows before.now) number row.now }
 {
     match before.get(number) {
@@ -94,7 +94,7 @@ pub fn changes_row<R: Shown>(before: &NumberTable<R>, number: u64, row: &R) -> b
 }
 
 /// Whether the slot has such a row.
-pub fn changes_slot<R: Shown>(before: &NumberTable<R>, slot: &(u64, Option<R>)) -> bool
+pub fn changes_slot<R: ShownByNumber>(before: &NumberTable<R>, slot: &NumberSlot<R>) -> bool
     ensures { result ≡ changes_slot R.kind (rows before.now) slot.now }
 {
     match &slot.1 {
@@ -104,7 +104,7 @@ pub fn changes_slot<R: Shown>(before: &NumberTable<R>, slot: &(u64, Option<R>)) 
 }
 
 /// Whether a row is new, or shown otherwise than before.
-pub fn any_row<R: Shown>(before: &NumberTable<R>, slots: &[(u64, Option<R>)]) -> bool
+pub fn any_row<R: ShownByNumber>(before: &NumberTable<R>, slots: &[NumberSlot<R>]) -> bool
     ensures { result ≡ list_any (changes_slot R.kind (rows before.now)) slots.now }
 {
     slots.iter().any(|slot| changes_slot(before, slot))

@@ -9,7 +9,7 @@ use crate::evictions::Evictions;
 use ns_types::plan::{Eviction, Placement};
 
 /// Which evictions of which placements count. It takes no memory to ask.
-pub trait Counts: Copy {
+pub trait CountsEviction: Copy {
     /// Whether the eviction counts, as one of the placement.
     ghost passes: { Self → Placement → Eviction → Bool };
 
@@ -20,7 +20,7 @@ pub trait Counts: Copy {
 
 /// The evictions of placements that count, in the order of the placements.
 #[derive(Clone, Copy)]
-pub struct Counted<'a, C> {
+pub struct CountedEvictions<'a, C> {
     /// The first one is gone over.
     placements: &'a [Placement],
     /// What is left of the first one.
@@ -38,7 +38,7 @@ fn first_evictions(placements: &[Placement]) -> &[Eviction]
 }
 
 /// The first eviction that counts, and those behind it.
-fn split_counted<'a, C: Counts>(
+fn split_counted<'a, C: CountsEviction>(
     of: C,
     placement: &Placement,
     evictions: &'a [Eviction],
@@ -57,13 +57,13 @@ fn split_counted<'a, C: Counts>(
     None
 }
 
-impl<'a, C: Counts> Counted<'a, C> {
+impl<'a, C: CountsEviction> CountedEvictions<'a, C> {
     /// Those of the placements that count. It takes no memory.
-    pub fn new(placements: &'a [Placement], of: C) -> Counted<'a, C>
+    pub fn new(placements: &'a [Placement], of: C) -> CountedEvictions<'a, C>
         ensures { left_of (C.passes result.of) result.placements.now result.evictions.now
             ≡ counted_of (C.passes of) placements.now }
     {
-        Counted {
+        CountedEvictions {
             placements,
             evictions: first_evictions(placements),
             of,
@@ -71,7 +71,7 @@ impl<'a, C: Counts> Counted<'a, C> {
     }
 }
 
-impl<'a, C: Counts> Evictions for Counted<'a, C> {
+impl<'a, C: CountsEviction> Evictions for CountedEvictions<'a, C> {
     ghost list = { λ c. left_of (C.passes c.of) c.placements.now c.evictions.now };
 
     fn split_first(&self) -> Option<(&Eviction, Self)> {
@@ -80,7 +80,7 @@ impl<'a, C: Counts> Evictions for Counted<'a, C> {
         let mut evictions = self.evictions;
         while let Some((placement, others)) = placements.split_first() {
             if let Some((eviction, later)) = split_counted(of, placement, evictions) {
-                let rest = Counted {
+                let rest = CountedEvictions {
                     placements,
                     evictions: later,
                     of,

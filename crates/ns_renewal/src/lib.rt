@@ -10,7 +10,7 @@ mod making;
 mod numbers;
 mod renewing;
 
-pub use counted::{Counted, Counts};
+pub use counted::{CountedEvictions, CountsEviction};
 pub use evictions::Evictions;
 pub use laws::{numbers_suffice, once_is_enough, once_needs_no_more, rows_before_stops};
 pub use making::make_up;

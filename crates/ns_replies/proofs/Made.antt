@@ -37,25 +37,25 @@ use Rattle.ns_steps.specs.Told.{Holds, Shape, is_of_write}
 use Rattle.ns_steps.proofs.Telling.{is_served_ask, is_served_node, served_tells, told}
 use Rattle.ns_replies.specs.Bodies.{nothing_bytes, registered_bytes, stopped_bytes}
 use Rattle.ns_replies.specs.Laws.{may_change, row_of}
-use Rattle.ns_replies.specs.Rooms.{HasRoom, Room, plan_bytes, room_of}
+use Rattle.ns_replies.specs.Rooms.{AnswerRoom, HasRoom, plan_bytes, room_of}
 use Rattle.ns_replies.proofs.Applying.{commit_fits}
 use Rattle.ns_types.proofs.Named.{first_of_both}
 
 -- ---- what is asked for
 
-fits_registered : (room : Room) (content : Content) → registered_bytes ≤ room.bytes → Holds Shape.Registered content → HasRoom room content
+fits_registered : (room : AnswerRoom) (content : Content) → registered_bytes ≤ room.bytes → Holds Shape.Registered content → HasRoom room content
 fits_registered room (Content.Registered evaluation index job_index) fits h = fits
 fits_registered room _ fits h = absurd h
 
-fits_stopped : (room : Room) (content : Content) → stopped_bytes ≤ room.bytes → Holds Shape.Stopped content → HasRoom room content
+fits_stopped : (room : AnswerRoom) (content : Content) → stopped_bytes ≤ room.bytes → Holds Shape.Stopped content → HasRoom room content
 fits_stopped room (Content.Stopped evaluation index) fits h = fits
 fits_stopped room _ fits h = absurd h
 
-fits_written : (room : Room) (content : Content) → nothing_bytes ≤ room.bytes → Holds Shape.Written content → HasRoom room content
+fits_written : (room : AnswerRoom) (content : Content) → nothing_bytes ≤ room.bytes → Holds Shape.Written content → HasRoom room content
 fits_written room Content.Written fits h = fits
 fits_written room _ fits h = absurd h
 
-fits_token : (room : Room) (content : Content) (new : NewToken) → room.token ≡ Some (body_of (Content.Token (made_token new))) →
+fits_token : (room : AnswerRoom) (content : Content) (new : NewToken) → room.token ≡ Some (body_of (Content.Token (made_token new))) →
     Holds (Shape.TokenOf new) content → HasRoom room content
 fits_token room content new is h = subst (HasRoom room) (sym h) is
 

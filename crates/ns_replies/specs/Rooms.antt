@@ -17,7 +17,7 @@ use Rattle.ns_json.specs.Replies.{body_of}
 use Rattle.ns_replies.specs.Bodies.{applied_bytes, body_bytes, finished_bytes, id_bytes, one_id_bytes, registered_bytes}
 use Rattle.ns_replies.specs.Bodies.{stopped_bytes, text_bytes}
 
-pub record Room : Type 0 where
+pub record AnswerRoom : Type 0 where
   -- in which a body is written, or the text of a refusal
   pub bytes : ℕ
   -- the body that is to answer a new token
@@ -28,16 +28,16 @@ abbrev pub refusal_bytes : ℕ
 refusal_bytes = 32
 
 -- it is enough for the body of this content
-abbrev pub HasRoom : Room → Content → Type 0
+abbrev pub HasRoom : AnswerRoom → Content → Type 0
 HasRoom room (Content.Token token) = room.token ≡ Some (body_of (Content.Token token))
 HasRoom room content = IsSomeAnd (body_bytes content) (λ bytes. bytes ≤ room.bytes)
 
 -- no answer that is written in it has more bytes
-abbrev pub answer_bytes : Room → ℕ
+abbrev pub answer_bytes : AnswerRoom → ℕ
 answer_bytes room = max room.bytes (option_map_or length room.token 0)
 
 -- in which such an answer is copied
-abbrev pub copy_room : Room → Room
+abbrev pub copy_room : AnswerRoom → AnswerRoom
 copy_room room = record { bytes = answer_bytes room; token = None }
 
 -- ---- what a step needs
@@ -71,5 +71,5 @@ abbrev pub token_body : Step → Option Name
 token_body (Step.Admin secret (AdminCommand.CreateToken new)) = Some (body_of (Content.Token (made_token new)))
 token_body _ = None
 
-abbrev pub room_of : Step → Option Worker → Room
+abbrev pub room_of : Step → Option Worker → AnswerRoom
 room_of step row = record { bytes = step_bytes step row; token = token_body step }

@@ -9,4 +9,4 @@ mod sizes;
 
 pub use changing::may_change;
 pub use rendering::{refused, render};
-pub use room::Room;
+pub use room::AnswerRoom;

@@ -23,7 +23,7 @@ use std::marker::Model;
 /// a reply that says nothing. The room of a token also holds the body that is to answer it.
 #[derive(Drop)]
 pub struct Room {
-    numbers: ns_json::Room,
+    numbers: ns_json::ReplyRoom,
     token: Option<String>,
 }
 
@@ -40,7 +40,7 @@ impl Room {
     pub fn new(alloc: Global) -> Result<Room, AllocError>
         ensures { IfOk result (λ room. room ≡ None) }
     {
-        let numbers = ns_json::Room::new(alloc)?;
+        let numbers = ns_json::ReplyRoom::new(alloc)?;
         Ok(Room {
             numbers,
             token: None,
@@ -52,7 +52,7 @@ impl Room {
     pub fn for_token(alloc: Global, new: &NewToken) -> Result<Room, AllocError>
         ensures { IfOk result (λ room. room ≡ Some (body_of (Content.Token (made_token new.now)))) }
     {
-        let numbers = ns_json::Room::new(alloc)?;
+        let numbers = ns_json::ReplyRoom::new(alloc)?;
         let body = text_of(alloc, new)?;
         Ok(Room {
             numbers,
@@ -96,13 +96,13 @@ fn parts_text(bytes: Vec<u8>, parts: &[Part<'_>]) -> String
     written_text(out)
 }
 
-fn nothing_text(numbers: ns_json::Room) -> String
+fn nothing_text(numbers: ns_json::ReplyRoom) -> String
     ensures { string_bytes result ≡ body_of Content.Written }
 {
     parts_text(numbers.into_bytes(), &[Part::BeginObject, Part::EndObject])
 }
 
-fn stopped_text(numbers: ns_json::Room, evaluation: u64, index: u64) -> String
+fn stopped_text(numbers: ns_json::ReplyRoom, evaluation: u64, index: u64) -> String
     ensures { string_bytes result ≡ body_of (Content.Stopped evaluation index) }
 {
     let mut buffer = [0; 36];

@@ -3,7 +3,7 @@ use Rattle.std.proofs.Common.{◌≡◌, ℕ, List, ◌∷◌, Option, Some, Non
 use Rattle.std.specs.Option.{option_or}
 use Rattle.std.specs.Prelude.{bytes_eq, codes, find, option_map}
 use Rattle.form_urlencoded.specs.Form.{DecodesTo, raw_pairs}
-use Rattle.ns_request.specs.declared.parameters.Values.{Values}
+use Rattle.ns_request.specs.declared.parameters.QueryValues.{QueryValues}
 use Rattle.ns_request.specs.Parameters.{value_in, text_of, parameter}
 use Rattle.ns_request.specs.Values.{kept, no_values, values_of, values_with}
 
@@ -37,7 +37,7 @@ kept-first wanted name value key text old rest decodes shows =
     by false old = refl
 
 -- the values so far, else those of the pairs that are left
-abbrev pub joined : Values → Pairs → Values
+abbrev pub joined : QueryValues → Pairs → QueryValues
 joined values left = record {
   namespace = option_or values.namespace (value_in (codes "namespace") left);
   filter = option_or values.filter (value_in (codes "filter") left);
@@ -54,7 +54,7 @@ unfolding parameter
 joined-none query left is = rw is
 
 -- what stands for these values still does with one pair more
-pub joined-first : (name value key text : List ℕ) (old new values : Values) (left rest : Pairs) → left ≡ (name, value) ∷ rest →
+pub joined-first : (name value key text : List ℕ) (old new values : QueryValues) (left rest : Pairs) → left ≡ (name, value) ∷ rest →
     DecodesTo name key → DecodesTo value text → new ≡ values_with key text old → joined old left ≡ values → joined new rest ≡ values
 joined-first name value key text old new values left rest is decodes shows kept same =
     let namespace = kept-first (codes "namespace") name value key text old.namespace rest decodes shows in

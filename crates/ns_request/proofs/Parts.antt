@@ -14,7 +14,7 @@ use Rattle.std.proofs.lemmas.Str.{IsUtf8-from_ascii}
 use Rattle.ns_types.specs.declared.name.NameKind.TheVariants as NameKind
 use Rattle.ns_types.specs.State.Name.{is_name, is_name_byte}
 use Rattle.ns_request.specs.Secrets.{known, unknown}
-use Rattle.ns_request.specs.declared.part.Part.{Part}
+use Rattle.ns_request.specs.declared.part.PathPart.{PathPart}
 use Rattle.ns_request.specs.Judging.{part_of}
 use Rattle.ns_request.specs.Parts.{segments_of, segment_at, is_part, is_good}
 
@@ -28,14 +28,14 @@ pub segment_none : (bytes path : List ℕ) (place : ℕ) (r : Option (Bor (List 
 segment_none bytes path place r same found is =
     ap (λ o. unwrap_or (option_map (λ (x : Bor (List ℕ)). x.now) o) []) (sym is) ∙ ap (λ o. unwrap_or o []) found ∙ ap (λ b. segment_at place b) same
 
-part-good : (part : Part) (segment text : List ℕ) → text ≡ percent_decode segment → IsUtf8 (percent_decode segment) →
+part-good : (part : PathPart) (segment text : List ℕ) → text ≡ percent_decode segment → IsUtf8 (percent_decode segment) →
     is_good part text ≡ is_part part segment
 unfolding is_part
 part-good part segment text same utf8 =
     ap (λ x. is_good part x) same
     ∙ ap (λ v. v && is_good part (percent_decode segment)) (sym (is_utf8-from_IsUtf8 (percent_decode segment) utf8))
 
-part-bad : (part : Part) (segment : List ℕ) → (IsUtf8 (percent_decode segment) → ⊥) → is_part part segment ≡ false
+part-bad : (part : PathPart) (segment : List ℕ) → (IsUtf8 (percent_decode segment) → ⊥) → is_part part segment ≡ false
 unfolding is_part
 part-bad part segment bad = by (is_utf8 (percent_decode segment)) (λ e. bad (IsUtf8-from_is_utf8 (percent_decode segment) e))
   where
@@ -44,18 +44,18 @@ part-bad part segment bad = by (is_utf8 (percent_decode segment)) (λ e. bad (Is
     by false h = refl
 
 -- the text of a part
-pub good_part : (part : Part) (segment text : List ℕ) → is_good part text ≡ true → text ≡ percent_decode segment → IsUtf8 (percent_decode segment) →
+pub good_part : (part : PathPart) (segment text : List ℕ) → is_good part text ≡ true → text ≡ percent_decode segment → IsUtf8 (percent_decode segment) →
     Some text ≡ part_of part segment
 good_part part segment text good same utf8 =
     ap (λ x. let o : Option (List ℕ) = Some x in o) same
     ∙ ap (λ v. if v then Some (percent_decode segment) else None) (sym good ∙ part-good part segment text same utf8)
 
-pub no_part : (part : Part) (segment text : List ℕ) → is_good part text ≡ false → text ≡ percent_decode segment → IsUtf8 (percent_decode segment) →
+pub no_part : (part : PathPart) (segment text : List ℕ) → is_good part text ≡ false → text ≡ percent_decode segment → IsUtf8 (percent_decode segment) →
     None ≡ part_of part segment
 no_part part segment text good same utf8 =
     ap (λ v. if v then Some (percent_decode segment) else None) (sym good ∙ part-good part segment text same utf8)
 
-pub no_text : (part : Part) (segment : List ℕ) → (IsUtf8 (percent_decode segment) → ⊥) → None ≡ part_of part segment
+pub no_text : (part : PathPart) (segment : List ℕ) → (IsUtf8 (percent_decode segment) → ⊥) → None ≡ part_of part segment
 no_text part segment bad = ap (λ v. if v then Some (percent_decode segment) else None) (sym (part-bad part segment bad))
 
 -- a secret is text

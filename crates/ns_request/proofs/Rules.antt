@@ -11,7 +11,7 @@ use Rattle.ns_types.specs.State.Name.{is_name}
 use Rattle.ns_json.specs.Ids.{id_of}
 use Rattle.ns_request.specs.declared.endpoint.Endpoint.{Endpoint}
 use Rattle.ns_request.specs.declared.endpoint.Placed.{Placed}
-use Rattle.ns_request.specs.declared.part.Part.TheVariants as Part
+use Rattle.ns_request.specs.declared.part.PathPart.TheVariants as PathPart
 use Rattle.ns_request.specs.Endpoints.{parts_of}
 use Rattle.ns_request.specs.Parts.{is_good, is_part, segment_at}
 use Rattle.ns_request.specs.Targets.{first_text, first_text_in, has_good_parts, is_placed_part, second_text, second_text_in, text_at}
@@ -44,22 +44,22 @@ second_is_good endpoint at first placed rest path name is parts good named =
 
 -- the same where the part is a name, or an id
 pub first_is_name : (kind : NameKind) (place : ℕ) (endpoint at : Endpoint) (rest : List Placed) (path name : List ℕ) → endpoint ≡ at →
-    parts_of at ≡ record { place = place; part = Part.Name kind } ∷ rest → has_good_parts endpoint path ≡ true → name ≡ first_text endpoint path →
+    parts_of at ≡ record { place = place; part = PathPart.Name kind } ∷ rest → has_good_parts endpoint path ≡ true → name ≡ first_text endpoint path →
     is_name kind name ≡ true
 unfolding is_good
 first_is_name kind place endpoint at rest path name is parts good named =
-    first_is_good endpoint at (record { place = place; part = Part.Name kind }) rest path name is parts good named
+    first_is_good endpoint at (record { place = place; part = PathPart.Name kind }) rest path name is parts good named
 
 pub second_is_name : (kind : NameKind) (place : ℕ) (endpoint at : Endpoint) (first : Placed) (rest : List Placed) (path name : List ℕ) → endpoint ≡ at →
-    parts_of at ≡ first ∷ record { place = place; part = Part.Name kind } ∷ rest → has_good_parts endpoint path ≡ true →
+    parts_of at ≡ first ∷ record { place = place; part = PathPart.Name kind } ∷ rest → has_good_parts endpoint path ≡ true →
     name ≡ second_text endpoint path → is_name kind name ≡ true
 unfolding is_good
 second_is_name kind place endpoint at first rest path name is parts good named =
-    second_is_good endpoint at first (record { place = place; part = Part.Name kind }) rest path name is parts good named
+    second_is_good endpoint at first (record { place = place; part = PathPart.Name kind }) rest path name is parts good named
 
 pub first_is_id : (kind : IdKind) (place : ℕ) (endpoint at : Endpoint) (rest : List Placed) (path name : List ℕ) → endpoint ≡ at →
-    parts_of at ≡ record { place = place; part = Part.Id kind } ∷ rest → has_good_parts endpoint path ≡ true → name ≡ first_text endpoint path →
+    parts_of at ≡ record { place = place; part = PathPart.Id kind } ∷ rest → has_good_parts endpoint path ≡ true → name ≡ first_text endpoint path →
     is_some (id_of kind name) ≡ true
 unfolding is_good
 first_is_id kind place endpoint at rest path name is parts good named =
-    first_is_good endpoint at (record { place = place; part = Part.Id kind }) rest path name is parts good named
+    first_is_good endpoint at (record { place = place; part = PathPart.Id kind }) rest path name is parts good named

@@ -16,8 +16,8 @@ use Rattle.percent_encoding.specs.Percent.{percent_decode}
 use Rattle.ns_types.specs.Wire.Http.{Asked}
 use Rattle.ns_request.specs.declared.endpoint.Endpoint.{Endpoint}
 use Rattle.ns_request.specs.declared.endpoint.Placed.{Placed}
-use Rattle.ns_request.specs.declared.part.Part.{Part}
-use Rattle.ns_request.specs.declared.target.Named.{Named}
+use Rattle.ns_request.specs.declared.part.PathPart.{PathPart}
+use Rattle.ns_request.specs.declared.target.PathNames.{PathNames}
 use Rattle.ns_request.specs.Finding.{found_at}
 use Rattle.ns_request.specs.Judging.{judged, named_in, part_of, second_with}
 use Rattle.ns_request.specs.Methods.{method_of}
@@ -26,7 +26,7 @@ use Rattle.ns_request.specs.Targets.{first_text, has_good_parts, is_every_pool, 
 use Rattle.ns_request.specs.Targets.{names_every_pool, path_in, query_in, second_text, text_at}
 
 -- a part that has a text
-some_part : (part : Part) (segment text : List ℕ) → part_of part segment ≡ Some text →
+some_part : (part : PathPart) (segment text : List ℕ) → part_of part segment ≡ Some text →
     (is_part part segment ≡ true) × (text ≡ percent_decode segment)
 some_part part segment text is = by (is_part part segment) is
   where
@@ -91,7 +91,7 @@ says_more parts i default path segment text shown found first second every_pool 
 
 -- ---- what is found by the parts
 
-pub named_some : (endpoint : Endpoint) (path : List ℕ) (named : Named) → named_in endpoint path ≡ Some named →
+pub named_some : (endpoint : Endpoint) (path : List ℕ) (named : PathNames) → named_in endpoint path ≡ Some named →
     (has_good_parts endpoint path ≡ true) × (named.every_pool ≡ names_every_pool endpoint path)
 named_some endpoint path named is = by (has_good_parts endpoint path) is
   where
@@ -104,7 +104,7 @@ named_some endpoint path named is = by (has_good_parts endpoint path) is
     by true e = (refl, cc)
     by false e = let bad : ⊥ = cc in absurd bad
 
-pub found_at-good : (endpoint : Endpoint) (a : Asked) (named : Named) → named_in endpoint (path_in a.target) ≡ Some named →
+pub found_at-good : (endpoint : Endpoint) (a : Asked) (named : PathNames) → named_in endpoint (path_in a.target) ≡ Some named →
     named.every_pool ≡ false → judged endpoint (method_of a.method) (query_in a.target) ≡ found_at endpoint a
 unfolding found_at
 found_at-good endpoint a named is none =
@@ -116,12 +116,12 @@ found_at-good endpoint a named is none =
 -- ---- accessors
 
 -- an accessor is a UUID
-pub accessor_parsed : (place : ℕ) (path : List ℕ) → (b : Bool) → (is_part Part.Accessor (segment_at place path) && b) ≡ true →
+pub accessor_parsed : (place : ℕ) (path : List ℕ) → (b : Bool) → (is_part PathPart.Accessor (segment_at place path) && b) ≡ true →
     is_some (parsed (text_at place path)) ≡ true
 unfolding is_part is_good
 accessor_parsed place path b h = by (parsed (text_at place path))
     (and_parts (is_utf8 (percent_decode (segment_at place path))) (is_some (uuid_number (text_at place path)))
-    (and_parts (is_part Part.Accessor (segment_at place path)) b h).0).1
+    (and_parts (is_part PathPart.Accessor (segment_at place path)) b h).0).1
   where
     by : (o : Option (List ℕ)) → is_some (option_map (from_be_bytes w128) o) ≡ true → is_some o ≡ true
     by None e = e

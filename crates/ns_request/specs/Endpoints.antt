@@ -7,7 +7,7 @@ use Rattle.ns_types.specs.declared.name.NameKind.TheVariants as NameKind
 use Rattle.ns_request.specs.declared.endpoint.Endpoint.{Endpoint}
 use Rattle.ns_request.specs.declared.endpoint.Placed.{Placed}
 use Rattle.ns_request.specs.declared.method.Methods.{Methods}
-use Rattle.ns_request.specs.declared.part.Part.TheVariants as Part
+use Rattle.ns_request.specs.declared.part.PathPart.TheVariants as PathPart
 use Rattle.ns_request.specs.Parts.{segments_of}
 
 -- ---- the table
@@ -106,34 +106,34 @@ methods_of Endpoint.Token = delete
 -- ---- parts, by the places of their segments
 
 abbrev pub job : Placed
-job = record { place = 3; part = Part.Name NameKind.Job }
+job = record { place = 3; part = PathPart.Name NameKind.Job }
 
 abbrev pub evaluation : Placed
-evaluation = record { place = 3; part = Part.Id IdKind.Evaluation }
+evaluation = record { place = 3; part = PathPart.Id IdKind.Evaluation }
 
 abbrev pub allocation : Placed
-allocation = record { place = 3; part = Part.Id IdKind.Allocation }
+allocation = record { place = 3; part = PathPart.Id IdKind.Allocation }
 
 abbrev pub namespace : Placed
-namespace = record { place = 3; part = Part.Name NameKind.Namespace }
+namespace = record { place = 3; part = PathPart.Name NameKind.Namespace }
 
 abbrev pub quota : Placed
-quota = record { place = 3; part = Part.Name NameKind.Quota }
+quota = record { place = 3; part = PathPart.Name NameKind.Quota }
 
 abbrev pub used_quota : Placed
-used_quota = record { place = 4; part = Part.Name NameKind.Quota }
+used_quota = record { place = 4; part = PathPart.Name NameKind.Quota }
 
 abbrev pub pool : Placed
-pool = record { place = 4; part = Part.Name NameKind.Pool }
+pool = record { place = 4; part = PathPart.Name NameKind.Pool }
 
 abbrev pub node : Placed
-node = record { place = 6; part = Part.Name NameKind.Node }
+node = record { place = 6; part = PathPart.Name NameKind.Node }
 
 abbrev pub policy : Placed
-policy = record { place = 4; part = Part.Name NameKind.Policy }
+policy = record { place = 4; part = PathPart.Name NameKind.Policy }
 
 abbrev pub accessor : Placed
-accessor = record { place = 4; part = Part.Accessor }
+accessor = record { place = 4; part = PathPart.Accessor }
 
 abbrev pub parts_of : Endpoint → List Placed
 parts_of Endpoint.Jobs = []

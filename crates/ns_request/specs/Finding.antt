@@ -3,14 +3,14 @@ use Rattle.std.specs.Prelude.{Option, Some, None, Result, Ok, Err, if◌then◌e
 use Rattle.ns_types.specs.declared.refusal.Refusal.{Refusal}
 use Rattle.ns_types.specs.Wire.Http.{Asked}
 use Rattle.ns_request.specs.declared.endpoint.Endpoint.{Endpoint}
-use Rattle.ns_request.specs.declared.finding.Target.{Target}
+use Rattle.ns_request.specs.declared.finding.RequestTarget.{RequestTarget}
 use Rattle.ns_request.specs.declared.method.Method.{Method}
 use Rattle.ns_request.specs.Endpoints.{endpoint_of, methods_of}
 use Rattle.ns_request.specs.Methods.{method_of, has_method}
 use Rattle.ns_request.specs.Queries.{is_unserved}
 use Rattle.ns_request.specs.Targets.{path_in, query_in, has_good_parts, names_every_pool}
 
-abbrev pub place_of : Target → Endpoint × Method
+abbrev pub place_of : RequestTarget → Endpoint × Method
 place_of target = (target.endpoint, target.method)
 
 abbrev pub found_by : Endpoint → Option Method → Result (Endpoint × Method) Refusal

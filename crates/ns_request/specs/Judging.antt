@@ -5,15 +5,15 @@ use Rattle.percent_encoding.specs.Percent.{percent_decode}
 use Rattle.ns_types.specs.declared.refusal.Refusal.{Refusal}
 use Rattle.ns_request.specs.declared.endpoint.Endpoint.{Endpoint}
 use Rattle.ns_request.specs.declared.method.Method.{Method}
-use Rattle.ns_request.specs.declared.part.Part.{Part}
-use Rattle.ns_request.specs.declared.target.Named.{Named}
+use Rattle.ns_request.specs.declared.part.PathPart.{PathPart}
+use Rattle.ns_request.specs.declared.target.PathNames.{PathNames}
 use Rattle.ns_request.specs.Finding.{found_by}
 use Rattle.ns_request.specs.Parts.{is_part}
 use Rattle.ns_request.specs.Queries.{is_unserved}
 use Rattle.ns_request.specs.Targets.{first_text, has_good_parts, names_every_pool, second_text}
 
 -- the text of the part, where the segment stands for it
-abbrev pub part_of : Part → List ℕ → Option (List ℕ)
+abbrev pub part_of : PathPart → List ℕ → Option (List ℕ)
 part_of part segment = if is_part part segment then Some (percent_decode segment) else None
 
 -- one text more is the second where there is a first
@@ -22,7 +22,7 @@ second_with None second text = second
 second_with (Some first) second text = option_or second (Some text)
 
 -- what the parts of the path say, where each follows the rule of its name
-abbrev pub named_in : Endpoint → List ℕ → Option Named
+abbrev pub named_in : Endpoint → List ℕ → Option PathNames
 named_in endpoint path =
     if has_good_parts endpoint path
     then Some (record {

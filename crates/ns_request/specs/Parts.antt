@@ -6,7 +6,7 @@ use Rattle.percent_encoding.specs.Percent.{percent_decode}
 use Rattle.ns_types.specs.State.Id.{uuid_number}
 use Rattle.ns_types.specs.State.Name.{is_name}
 use Rattle.ns_json.specs.Ids.{id_of}
-use Rattle.ns_request.specs.declared.part.Part.{Part}
+use Rattle.ns_request.specs.declared.part.PathPart.{PathPart}
 
 abbrev pub slash : ℕ
 slash = 47
@@ -20,11 +20,11 @@ abbrev pub segment_at : ℕ → List ℕ → List ℕ
 segment_at place path = unwrap_or (slice_get (segments_of path) place) []
 
 -- the text follows the rule of its part
-unfoldable pub is_good : Part → List ℕ → Bool
-is_good (Part.Name kind) text = is_name kind text
-is_good (Part.Id kind) text = is_some (id_of kind text)
-is_good Part.Accessor text = is_some (uuid_number text)
+unfoldable pub is_good : PathPart → List ℕ → Bool
+is_good (PathPart.Name kind) text = is_name kind text
+is_good (PathPart.Id kind) text = is_some (id_of kind text)
+is_good PathPart.Accessor text = is_some (uuid_number text)
 
 -- the segment stands for a good text
-unfoldable pub is_part : Part → List ℕ → Bool
+unfoldable pub is_part : PathPart → List ℕ → Bool
 is_part part segment = is_utf8 (percent_decode segment) && is_good part (percent_decode segment)

@@ -5,7 +5,7 @@ use Rattle.percent_encoding.specs.Percent.{percent_decode}
 use Rattle.ns_types.specs.declared.name.NameKind.TheVariants as NameKind
 use Rattle.ns_request.specs.declared.endpoint.Endpoint.{Endpoint}
 use Rattle.ns_request.specs.declared.endpoint.Placed.{Placed}
-use Rattle.ns_request.specs.declared.part.Part.{Part}
+use Rattle.ns_request.specs.declared.part.PathPart.{PathPart}
 use Rattle.ns_request.specs.Parts.{is_part, segment_at}
 use Rattle.ns_request.specs.Endpoints.{parts_of}
 
@@ -30,8 +30,8 @@ has_good_parts endpoint path = list_all (is_placed_part path) (parts_of endpoint
 abbrev pub text_at : ℕ → List ℕ → List ℕ
 text_at place path = percent_decode (segment_at place path)
 
-abbrev pub is_pool : Part → Bool
-is_pool (Part.Name NameKind.Pool) = true
+abbrev pub is_pool : PathPart → Bool
+is_pool (PathPart.Name NameKind.Pool) = true
 is_pool _ = false
 
 abbrev pub is_every_pool : List ℕ → Placed → Bool

@@ -1,14 +1,14 @@
 -- The values of the names that are known.
 use Rattle.std.specs.Prelude.{ℕ, List, Option, Some, None, bytes_eq, codes, if◌then◌else◌}
 use Rattle.std.specs.Option.{option_or}
-use Rattle.ns_request.specs.declared.parameters.Values.{Values}
+use Rattle.ns_request.specs.declared.parameters.QueryValues.{QueryValues}
 use Rattle.ns_request.specs.Parameters.{parameter}
 
-abbrev pub no_values : Values
+abbrev pub no_values : QueryValues
 no_values = record { namespace = None; filter = None; per_page = None; next_token = None; index = None; prefix = None; purge = None }
 
 -- the names that are known
-abbrev pub values_of : List ℕ → Values
+abbrev pub values_of : List ℕ → QueryValues
 values_of query = record {
   namespace = parameter (codes "namespace") query;
   filter = parameter (codes "filter") query;
@@ -23,7 +23,7 @@ values_of query = record {
 abbrev pub kept : List ℕ → List ℕ → List ℕ → Option (List ℕ) → Option (List ℕ)
 kept wanted name value old = if bytes_eq name wanted then option_or old (Some value) else old
 
-abbrev pub values_with : List ℕ → List ℕ → Values → Values
+abbrev pub values_with : List ℕ → List ℕ → QueryValues → QueryValues
 values_with name value old = record {
   namespace = kept (codes "namespace") name value old.namespace;
   filter = kept (codes "filter") name value old.filter;

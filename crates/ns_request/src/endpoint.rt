@@ -4,7 +4,7 @@ ghost use Rattle.std.specs.Prelude.{◌≡◌};
 ghost use Rattle.ns_request.specs.Endpoints.{pattern_of, methods_of, parts_of};
 
 use crate::method::Methods;
-use crate::part::Part;
+use crate::part::PathPart;
 use ns_types::id::IdKind;
 use ns_types::name::NameKind;
 
@@ -75,57 +75,57 @@ pub const ENDPOINTS: [Endpoint; 27] = [
 #[derive(Clone, Copy)]
 pub struct Placed {
     pub place: usize,
-    pub part: Part,
+    pub part: PathPart,
 }
 
 const JOB: Placed = Placed {
     place: 3,
-    part: Part::Name(NameKind::Job),
+    part: PathPart::Name(NameKind::Job),
 };
 
 const EVALUATION: Placed = Placed {
     place: 3,
-    part: Part::Id(IdKind::Evaluation),
+    part: PathPart::Id(IdKind::Evaluation),
 };
 
 const ALLOCATION: Placed = Placed {
     place: 3,
-    part: Part::Id(IdKind::Allocation),
+    part: PathPart::Id(IdKind::Allocation),
 };
 
 const NAMESPACE: Placed = Placed {
     place: 3,
-    part: Part::Name(NameKind::Namespace),
+    part: PathPart::Name(NameKind::Namespace),
 };
 
 const QUOTA: Placed = Placed {
     place: 3,
-    part: Part::Name(NameKind::Quota),
+    part: PathPart::Name(NameKind::Quota),
 };
 
 const USED_QUOTA: Placed = Placed {
     place: 4,
-    part: Part::Name(NameKind::Quota),
+    part: PathPart::Name(NameKind::Quota),
 };
 
 const POOL: Placed = Placed {
     place: 4,
-    part: Part::Name(NameKind::Pool),
+    part: PathPart::Name(NameKind::Pool),
 };
 
 const NODE: Placed = Placed {
     place: 6,
-    part: Part::Name(NameKind::Node),
+    part: PathPart::Name(NameKind::Node),
 };
 
 const POLICY: Placed = Placed {
     place: 4,
-    part: Part::Name(NameKind::Policy),
+    part: PathPart::Name(NameKind::Policy),
 };
 
 const ACCESSOR: Placed = Placed {
     place: 4,
-    part: Part::Accessor,
+    part: PathPart::Accessor,
 };
 
 const READ: Methods = Methods {

@@ -22,7 +22,7 @@ use std::alloc::Global;
 
 /// What a request asks for, found once.
 #[derive(Drop)]
-pub struct Target<'a> {
+pub struct RequestTarget<'a> {
     pub request: Request<'a>,
     pub endpoint: Endpoint,
     pub method: Method,
@@ -37,7 +37,7 @@ pub struct Target<'a> {
     pub ghost parts: { has_good_parts endpoint (path_in (asked request).target) ≡ true },
 }
 
-impl<'a> Target<'a> {
+impl<'a> RequestTarget<'a> {
     ghost use Rattle.std.specs.Prelude.{IfOk};
     ghost use Rattle.ns_request.specs.Gives.{Gives};
     ghost use Rattle.ns_request.specs.Judging.{judged};
@@ -67,7 +67,7 @@ impl<'a> Target<'a> {
         request: &Request<'a>,
         path: &'a str,
         query: &'a str,
-    ) -> Result<Target<'a>, Refusal>
+    ) -> Result<RequestTarget<'a>, Refusal>
         requires path { path.now ≡ path_in (asked request.now).target }
         requires query { query.now ≡ query_in (asked request.now).target }
         ensures found { Gives place_of result (found_at endpoint (asked request.now)) }
@@ -80,8 +80,8 @@ impl<'a> Target<'a> {
             return Err(Refusal::NotServed);
         }
         let query = Query::read(alloc, query)?;
-        match Target::judged(endpoint, Method::read(request.method), &query) {
-            Ok(method) => Ok(Target {
+        match RequestTarget::judged(endpoint, Method::read(request.method), &query) {
+            Ok(method) => Ok(RequestTarget {
                 request: *request,
                 endpoint,
                 method,
@@ -102,13 +102,13 @@ impl<'a> Target<'a> {
         alloc: Global,
         routes: &Routes,
         request: &Request<'a>,
-    ) -> Result<Target<'a>, Refusal>
+    ) -> Result<RequestTarget<'a>, Refusal>
         ensures found { Gives place_of result (found (asked request.now)) }
         ensures request { IfOk result (λ target. target.request ≡ request.now) }
     {
         let (path, query) = split_target(request.target);
         match routes.find(path) {
-            Some(endpoint) => Target::at(alloc, endpoint, request, path, query),
+            Some(endpoint) => RequestTarget::at(alloc, endpoint, request, path, query),
             None => Err(Refusal::NotFound),
         }
     }

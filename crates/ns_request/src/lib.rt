@@ -13,7 +13,7 @@ mod target;
 mod token;
 
 pub use endpoint::Endpoint;
-pub use finding::Target;
+pub use finding::RequestTarget;
 pub use method::Method;
 pub use query::{Query, number_of};
 pub use routes::Routes;

@@ -9,7 +9,7 @@ use std::alloc::{AllocError, Global};
 
 /// The values of the names that are known, of each name the first one.
 #[derive(Drop)]
-pub struct Values {
+pub struct QueryValues {
     pub namespace: Option<Text>,
     pub filter: Option<Text>,
     pub per_page: Option<Text>,
@@ -19,7 +19,7 @@ pub struct Values {
     pub purge: Option<Text>,
 }
 
-const NO_VALUES: Values = Values {
+const NO_VALUES: QueryValues = QueryValues {
     namespace: None,
     filter: None,
     per_page: None,
@@ -39,7 +39,7 @@ fn keep_first(alloc: Global, kept: &mut Option<Text>, value: &str) -> Result<(),
     Ok(())
 }
 
-impl Values {
+impl QueryValues {
     ghost use Rattle.ns_request.specs.Values.{no_values, values_of, values_with};
 
     /// Keeps the value of a name that has none yet.
@@ -71,7 +71,7 @@ impl Values {
     }
 
     /// The values of the query.
-    pub fn read(alloc: Global, text: &str) -> Result<Values, AllocError>
+    pub fn read(alloc: Global, text: &str) -> Result<QueryValues, AllocError>
         ensures { IfOk result (λ values. values ≡ values_of text.now) }
     {
         let mut values = NO_VALUES;

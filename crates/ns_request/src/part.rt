@@ -9,23 +9,23 @@ use uuid::Uuid;
 
 /// What a part of a path is.
 #[derive(Clone, Copy)]
-pub enum Part {
+pub enum PathPart {
     Name(NameKind),
     Id(IdKind),
     /// The accessor of a token.
     Accessor,
 }
 
-impl Part {
+impl PathPart {
     /// Whether a text is such a part.
     #[tactic(auto, unfolding(crate::specs::Parts::is_good))]
     pub fn is_good(self, text: &str) -> bool
         ensures { result ≡ is_good self text.now }
     {
         match self {
-            Part::Name(kind) => Name::read(kind, text).is_some(),
-            Part::Id(kind) => matches!(id_read(kind, text), Some(_)),
-            Part::Accessor => Uuid::parse_str(text).is_ok(),
+            PathPart::Name(kind) => Name::read(kind, text).is_some(),
+            PathPart::Id(kind) => matches!(id_read(kind, text), Some(_)),
+            PathPart::Accessor => Uuid::parse_str(text).is_ok(),
         }
     }
 }

@@ -11,7 +11,7 @@ ghost use Rattle.ns_request.specs.Queries.{index_in, is_awaited, is_not_empty, i
 
 use crate::endpoint::Endpoint;
 use crate::method::Method;
-use crate::parameters::Values;
+use crate::parameters::QueryValues;
 use ns_types::name::{Name, NameKind};
 use ns_types::refusal::{Member, Refusal};
 use ns_types::text::Text;
@@ -22,7 +22,7 @@ use std::marker::Model;
 #[derive(Drop)]
 pub struct Query<'a> {
     text: &'a str,
-    values: Values,
+    values: QueryValues,
 }
 
 impl<'a> Model for Query<'a> {
@@ -89,7 +89,7 @@ impl<'a> Query<'a> {
     pub fn read(alloc: Global, text: &'a str) -> Result<Query<'a>, AllocError>
         ensures { IfOk result (λ query. query ≡ text.now) }
     {
-        let values = Values::read(alloc, text)?;
+        let values = QueryValues::read(alloc, text)?;
         Ok(Query { text, values })
     }
 

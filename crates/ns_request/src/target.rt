@@ -7,7 +7,7 @@ ghost use Rattle.ns_request.specs.Parts.{segment_at};
 ghost use Rattle.ns_request.specs.Targets.{is_pool, path_in, query_in};
 
 use crate::endpoint::Endpoint;
-use crate::part::Part;
+use crate::part::PathPart;
 use ns_types::name::NameKind;
 use ns_types::text::Text;
 use percent_encoding::{DecodeError, percent_decode};
@@ -35,7 +35,7 @@ pub fn segment(path: &str, place: usize) -> &[u8]
 }
 
 /// The text of the segment, where it stands for the part.
-fn part_of(alloc: Global, part: Part, segment: &[u8]) -> Result<Option<Text>, AllocError>
+fn part_of(alloc: Global, part: PathPart, segment: &[u8]) -> Result<Option<Text>, AllocError>
     ensures { IfOk result (λ text. text ≡ part_of part segment.now) }
 {
     match percent_decode(segment).decode_utf8(alloc) {
@@ -51,10 +51,10 @@ fn part_of(alloc: Global, part: Part, segment: &[u8]) -> Result<Option<Text>, Al
 }
 
 /// Whether the part is the pool `all`.
-fn is_every_pool(part: Part, text: &str) -> bool
+fn is_every_pool(part: PathPart, text: &str) -> bool
     ensures { result ≡ (is_pool part && bytes_eq text.now (codes "all")) }
 {
-    matches!(part, Part::Name(NameKind::Pool)) && text == "all"
+    matches!(part, PathPart::Name(NameKind::Pool)) && text == "all"
 }
 
 /// Keeps the text, where it is the first or the second.
@@ -81,7 +81,7 @@ fn text_or_empty(alloc: Global, text: Option<Text>) -> Text
 
 /// What the parts of a path say.
 #[derive(Drop)]
-pub struct Named {
+pub struct PathNames {
     /// The text of the first part, empty where there is none.
     pub first: Text,
     /// The text of the second part, empty where there is none.
@@ -91,7 +91,11 @@ pub struct Named {
 }
 
 /// What the parts of the path say, or none where one of them does not follow the rule of its name. Each is decoded once.
-pub fn named_in(alloc: Global, endpoint: Endpoint, path: &str) -> Result<Option<Named>, AllocError>
+pub fn named_in(
+    alloc: Global,
+    endpoint: Endpoint,
+    path: &str,
+) -> Result<Option<PathNames>, AllocError>
     ensures { IfOk result (λ named. named ≡ named_in endpoint path.now) }
 {
     let mut first = None;
@@ -104,7 +108,7 @@ pub fn named_in(alloc: Global, endpoint: Endpoint, path: &str) -> Result<Option<
         every_pool |= is_every_pool(placed.part, text.as_str());
         keep(&mut first, &mut second, text);
     }
-    Ok(Some(Named {
+    Ok(Some(PathNames {
         first: text_or_empty(alloc, first),
         second: text_or_empty(alloc, second),
         every_pool,

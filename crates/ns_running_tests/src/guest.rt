@@ -10,9 +10,9 @@ use std::sync::ledger::Ledger;
 
 /// Draws the same bits again and again.
 #[derive(Clone, Copy)]
-pub(crate) struct SameBits;
+pub(crate) struct GuestBits;
 
-impl Draws for SameBits {
+impl Draws for GuestBits {
     ghost use Rattle.std.specs.Prelude.{◌≡◌, replicate};
 
     ghost draws = { λ old bytes new. bytes ≡ replicate 16 1 };
@@ -23,7 +23,7 @@ impl Draws for SameBits {
 }
 
 /// A client with a seat of its own.
-pub(crate) type Guest<'a, L, R> = Client<SharedSeat<'a, L, R, Retains>, SameBits>;
+pub(crate) type Guest<'a, L, R> = Client<SharedSeat<'a, L, R, Retains>, GuestBits>;
 
 /// A new seat.
 pub(crate) fn seat<L: Ledger, R: Wait + Abort>(
@@ -40,7 +40,7 @@ pub(crate) fn guest<'a, L: Ledger, R: Wait + Abort>(
     shared: &'a Shared<L>,
 ) -> Guest<'a, L, R> {
     let seat = seat(rt, alloc, shared);
-    Client::new(alloc, SharedSeat { rt, shared, seat }, SameBits).expect(rt, "memory")
+    Client::new(alloc, SharedSeat { rt, shared, seat }, GuestBits).expect(rt, "memory")
 }
 
 /// The client's seat.

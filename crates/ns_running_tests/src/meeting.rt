@@ -79,12 +79,12 @@ impl Meeting {
 
 /// Lets workers pass by the plot.
 #[derive(Drop)]
-pub(crate) struct Watch<'a, R> {
+pub(crate) struct MeetingGate<'a, R> {
     pub rt: &'a R,
     pub meeting: &'a Meeting,
 }
 
-impl<R: Clock + Abort> Watch<'_, R> {
+impl<R: Clock + Abort> MeetingGate<'_, R> {
     /// Holds the worker, where the plot is this one.
     fn hold(&self, plot: Plot) {
         if self.meeting.plot == plot {
@@ -94,7 +94,7 @@ impl<R: Clock + Abort> Watch<'_, R> {
     }
 }
 
-impl<R: Clock + Abort> Gate for Watch<'_, R> {
+impl<R: Clock + Abort> Gate for MeetingGate<'_, R> {
     fn plan(
         &self,
         alloc: Global,

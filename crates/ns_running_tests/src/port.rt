@@ -1,7 +1,7 @@
 // A server over a port of the system's, with its clients in other threads.
 ghost use Rattle.std.specs.Prelude.{◌≡◌, ◌+◌, IfOk, vec_len};
 
-use crate::guest::SameBits;
+use crate::guest::GuestBits;
 use crate::visits::{Visit, sent, text};
 use ns_http::Counted;
 use ns_listener::{Service, serve};
@@ -37,19 +37,19 @@ impl<'a, R: Wait> Write for Notes<'a, R> {
 
 /// Where the log is printed: what takes all bytes, or none.
 #[derive(Drop)]
-pub(crate) enum Output {
+pub(crate) enum LogOutput {
     Open(Vec<u8>),
     Broken,
 }
 
-impl Write for Output {
+impl Write for LogOutput {
     fn write(&mut self, buf: &[u8]) -> io::Result<usize> {
         match self {
-            Output::Open(bytes) => {
+            LogOutput::Open(bytes) => {
                 bytes.extend_from_slice(buf)?;
                 Ok(buf.len())
             }
-            Output::Broken => Err(io::Error::from(ErrorKind::BrokenPipe)),
+            LogOutput::Broken => Err(io::Error::from(ErrorKind::BrokenPipe)),
         }
     }
 
@@ -60,14 +60,14 @@ impl Write for Output {
 
 /// How a server ended: its exit status, the log that it printed, its lines of standard error, and what it sent to each client.
 #[derive(Drop)]
-pub(crate) struct Ending {
+pub(crate) struct ServerEnd {
     pub status: u8,
     log: Vec<u8>,
     errors: Vec<u8>,
     pub replies: Vec<Vec<u8>>,
 }
 
-impl Ending {
+impl ServerEnd {
     pub(crate) fn log(&self) -> &str {
         text(self.log.as_slice())
     }
@@ -77,13 +77,13 @@ impl Ending {
     }
 }
 
-fn drawers(alloc: Global, connections: u64) -> Result<Vec<SameBits>, AllocError>
+fn drawers(alloc: Global, connections: u64) -> Result<Vec<GuestBits>, AllocError>
     ensures { IfOk result (λ drawers. vec_len drawers ≡ connections + 1) }
 {
     let mut drawers = Vec::new(alloc);
-    drawers.push(SameBits)?;
+    drawers.push(GuestBits)?;
     for _ in 0..connections {
-        drawers.push(SameBits)?;
+        drawers.push(GuestBits)?;
     }
     Ok(drawers)
 }
@@ -94,8 +94,8 @@ fn served<R: Threads + Wait + Clock + Sync + Net<Listener = TcpListener, Stream 
     alloc: Global,
     service: &Service,
     notes: &Mutex<Vec<u8>>,
-    output: Output,
-) -> Result<(u8, Output), AllocError> {
+    output: LogOutput,
+) -> Result<(u8, LogOutput), AllocError> {
     let writer = Counted::new(output);
     let mut errors = Counted::new(Notes { rt, bytes: notes });
     let drawers = drawers(alloc, service.connections)?;
@@ -119,10 +119,10 @@ pub(crate) fn run<
     rt: &R,
     alloc: Global,
     service: &Service,
-    output: Output,
+    output: LogOutput,
     clients: usize,
     visit: Visit,
-) -> Result<Ending, AllocError> {
+) -> Result<ServerEnd, AllocError> {
     let notes = Mutex::new(Vec::new(alloc));
     let errors = &notes;
     let (ended, replies) = thread::join(
@@ -132,10 +132,10 @@ pub(crate) fn run<
     );
     let (status, output) = ended?;
     let log = match output {
-        Output::Open(bytes) => bytes,
-        Output::Broken => Vec::new(alloc),
+        LogOutput::Open(bytes) => bytes,
+        LogOutput::Broken => Vec::new(alloc),
     };
-    Ok(Ending {
+    Ok(ServerEnd {
         status,
         log,
         errors: notes.into_inner(),
@@ -159,7 +159,7 @@ pub(crate) fn service(alloc: Global, connections: u64) -> Result<Service, AllocE
 }
 
 /// Whether the server ended with exit status 0, and the last line says how many entries the printed log has.
-pub(crate) fn is_settled(alloc: Global, ending: &Ending) -> Result<bool, AllocError> {
+pub(crate) fn is_settled(alloc: Global, ending: &ServerEnd) -> Result<bool, AllocError> {
     let entries = ending.log().matches("\n{").count();
     let line = format!(in alloc; "settled {entries}")?;
     Ok(ending.status == 0 && ending.errors().lines().last() == Some(line.as_str()))

@@ -6,7 +6,7 @@ use crate::server::{core, opened};
 use ns_core::Core;
 use ns_log::receipts::SettleFault;
 use ns_log::segments::Segment;
-use ns_work_lock::{PARTS, Retains, Seat, Settled, Shared};
+use ns_work_lock::{PARTS, Retains, Seat, SettledLog, Shared};
 use ns_work_log::Held;
 use std::alloc::Global;
 use std::marker::Brand;
@@ -63,7 +63,7 @@ fn settled<L: Ledger, R: Wait + Abort>(
     first: &Core,
     has_segment: bool,
     blank: Blank,
-) -> Result<Settled, SettleFault>
+) -> Result<SettledLog, SettleFault>
     requires name { blank.name ≡ L.name }
     requires parts { (blank.parts ≡ L.parts) × (L.parts ≡ 18446744073709551615) }
 {

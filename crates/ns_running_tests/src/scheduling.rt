@@ -5,11 +5,11 @@
 ghost use Rattle.std.specs.Prelude.{◌≡◌};
 
 use crate::guest::{Guest, guest, look, register_with, seat, seat_of, set_up, write};
-use crate::meeting::{Meeting, Plot, Watch, await_that};
+use crate::meeting::{Meeting, MeetingGate, Plot, await_that};
 use crate::server::{opened, settle};
 use ns_log::receipts::Receipt;
 use ns_work_lock::{PARTS, Retains, Seat, Shared};
-use ns_workers::{Nowhere, Point, applier, worker};
+use ns_workers::{KeepsNothing, Point, applier, worker};
 use std::alloc::Global;
 use std::marker::Brand;
 use std::process::Abort;
@@ -37,10 +37,10 @@ const REPORT: &str =
     "{\"Namespace\":\"tb\",\"ID\":\"00000000-0000-0002-0000-000000000001\",\"ClientStatus\":\"running\"}";
 
 /// A path, what it shows, and how often.
-type Shown<'a> = (&'a str, &'a str, usize);
+type ShownAt<'a> = (&'a str, &'a str, usize);
 
 /// The second job's evaluation is complete, and each job has one allocation, which is live.
-static BOTH_PLACED: [Shown; 7] = [
+static BOTH_PLACED: [ShownAt; 7] = [
     (
         "/v1/evaluation/00000000-0000-0001-0000-000000000002?namespace=tb",
         "\"Status\":\"complete\"",
@@ -71,7 +71,7 @@ static BOTH_PLACED: [Shown; 7] = [
 ];
 
 /// One of the jobs has an allocation. Both evaluations are complete, and one that follows waits for room.
-static ONE_PLACED: [Shown; 4] = [
+static ONE_PLACED: [ShownAt; 4] = [
     ("/v1/allocations?namespace=tb", "\"JobID\":", 1),
     ("/v1/evaluations?namespace=tb", "\"Status\":\"complete\"", 2),
     ("/v1/evaluations?namespace=tb", "\"Status\":\"blocked\"", 1),
@@ -111,7 +111,7 @@ fn expect_shown<L: Ledger, R: Wait + Abort>(
     rt: &R,
     alloc: Global,
     guest: &mut Guest<'_, L, R>,
-    (path, word, times): Shown<'_>,
+    (path, word, times): ShownAt<'_>,
 ) {
     let shown = look(rt, alloc, guest, path);
     assert!(rt; shown.as_str().matches(word).count() == times, "{shown}");
@@ -193,7 +193,14 @@ fn work<L: Ledger, R: Wait + Clock + Abort>(
     if ends && number == 1 {
         meeting.wait(rt);
     }
-    worker(rt, alloc, shared, &Watch { rt, meeting }, number, seat);
+    worker(
+        rt,
+        alloc,
+        shared,
+        &MeetingGate { rt, meeting },
+        number,
+        seat,
+    );
     if ends && number == 0 {
         meeting.come();
     }
@@ -215,7 +222,7 @@ fn perform<L: Ledger, R: Wait + Clock + Abort>(
         if leaves_a_plan(meeting.plot) {
             meeting.wait(rt);
         }
-        applier(rt, alloc, shared, &mut Nowhere, &mut seat);
+        applier(rt, alloc, shared, &mut KeepsNothing, &mut seat);
     } else {
         work(rt, alloc, shared, meeting, number as u64, &mut seat);
     }

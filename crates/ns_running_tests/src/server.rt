@@ -4,7 +4,7 @@ ghost use Rattle.std.specs.Prelude.{◌≡◌};
 use ns_core::Core;
 use ns_log::receipts::SettleFault;
 use ns_types::name::Secret;
-use ns_work_lock::{Retains, Seat, Settled, Shared};
+use ns_work_lock::{Retains, Seat, SettledLog, Shared};
 use ns_work_log::Held;
 use std::alloc::Global;
 use std::process::Abort;
@@ -35,7 +35,7 @@ pub(crate) fn settle<L: Ledger, R: Abort>(
     alloc: Global,
     shared: Shared<L>,
     seats: Vec<Seat<L, Retains>>,
-) -> Result<Settled, SettleFault>
+) -> Result<SettledLog, SettleFault>
     requires { L.parts ≡ 18446744073709551615 }
 {
     let first = core(rt, alloc);

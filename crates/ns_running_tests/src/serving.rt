@@ -1,5 +1,5 @@
 // What a server over a port of the system's answers and prints. Expected bytes are written from the formats.
-use crate::port::{Output, is_settled, run, service};
+use crate::port::{LogOutput, is_settled, run, service};
 use crate::visits::{REGISTERED, Visit, text};
 use std::alloc::Global;
 use std::net::{SocketAddr, TcpListener};
@@ -8,7 +8,7 @@ use std::test::Fail;
 #[test]
 fn stored_run(rt: HostRuntime) -> Result<(), Fail> {
     let alloc: Global = rt.alloc();
-    let output = Output::Open(Vec::new(alloc));
+    let output = LogOutput::Open(Vec::new(alloc));
     let ending = run(&rt, alloc, &service(alloc, 1)?, output, 1, Visit::Asks)?;
     assert_eq!(rt; ending.replies.len(), 1);
     for replies in ending.replies.iter() {
@@ -27,7 +27,7 @@ fn stored_run(rt: HostRuntime) -> Result<(), Fail> {
 #[test]
 fn many_connections_at_once(rt: HostRuntime) -> Result<(), Fail> {
     let alloc: Global = rt.alloc();
-    let output = Output::Open(Vec::new(alloc));
+    let output = LogOutput::Open(Vec::new(alloc));
     let ending = run(&rt, alloc, &service(alloc, 64)?, output, 64, Visit::Asks)?;
     assert_eq!(rt; ending.replies.len(), 64);
     for replies in ending.replies.iter() {
@@ -44,7 +44,7 @@ fn many_connections_at_once(rt: HostRuntime) -> Result<(), Fail> {
 #[test]
 fn closed_in_mid_request(rt: HostRuntime) -> Result<(), Fail> {
     let alloc: Global = rt.alloc();
-    let output = Output::Open(Vec::new(alloc));
+    let output = LogOutput::Open(Vec::new(alloc));
     let service = service(alloc, 2)?;
     let ending = run(&rt, alloc, &service, output, 1, Visit::AsksBesideAnother)?;
     assert_eq!(rt; ending.replies.len(), 1);
@@ -59,7 +59,7 @@ fn closed_in_mid_request(rt: HostRuntime) -> Result<(), Fail> {
 #[test]
 fn drawn_secret(rt: HostRuntime) -> Result<(), Fail> {
     let alloc: Global = rt.alloc();
-    let output = Output::Open(Vec::new(alloc));
+    let output = LogOutput::Open(Vec::new(alloc));
     let mut service = service(alloc, 1)?;
     service.bootstrap = None;
     let ending = run(&rt, alloc, &service, output, 1, Visit::Leaves)?;
@@ -80,7 +80,7 @@ fn drawn_secret(rt: HostRuntime) -> Result<(), Fail> {
 fn broken_output(rt: HostRuntime) -> Result<(), Fail> {
     let alloc: Global = rt.alloc();
     let service = service(alloc, 1)?;
-    let ending = run(&rt, alloc, &service, Output::Broken, 1, Visit::Asks)?;
+    let ending = run(&rt, alloc, &service, LogOutput::Broken, 1, Visit::Asks)?;
     let (_, rest) = ending.errors().split_once('\n').ok_or("one line")?;
     assert_eq!(rt; rest, "write fault\n");
     assert_eq!(rt; ending.status, 4);
@@ -91,7 +91,7 @@ fn broken_output(rt: HostRuntime) -> Result<(), Fail> {
 fn port_in_use(rt: HostRuntime) -> Result<(), Fail> {
     let alloc: Global = rt.alloc();
     let taken = TcpListener::bind(&rt, SocketAddr::from(([127, 0, 0, 1], 0)))?;
-    let output = Output::Open(Vec::new(alloc));
+    let output = LogOutput::Open(Vec::new(alloc));
     let mut service = service(alloc, 1)?;
     service.address = taken.local_addr()?;
     let ending = run(&rt, alloc, &service, output, 0, Visit::Leaves)?;
@@ -107,7 +107,7 @@ fn rotates_while_it_serves(rt: HostRuntime) -> Result<(), Fail> {
     let alloc: Global = rt.alloc();
     let mut service = service(alloc, 8)?;
     service.rotate = Some(3);
-    let output = Output::Open(Vec::new(alloc));
+    let output = LogOutput::Open(Vec::new(alloc));
     let ending = run(&rt, alloc, &service, output, 8, Visit::Asks)?;
     assert_eq!(rt; ending.replies.len(), 8);
     let heads = ending.log().matches("nsd-log 3 ").count();
@@ -124,7 +124,7 @@ fn rotates_by_its_text(rt: HostRuntime) -> Result<(), Fail> {
     let mut service = service(alloc, 8)?;
     service.rotate = Some(1_000);
     service.rotate_bytes = Some(1);
-    let output = Output::Open(Vec::new(alloc));
+    let output = LogOutput::Open(Vec::new(alloc));
     let ending = run(&rt, alloc, &service, output, 8, Visit::Asks)?;
     assert_eq!(rt; ending.replies.len(), 8);
     let heads = ending.log().matches("nsd-log 3 ").count();
@@ -139,7 +139,7 @@ fn a_segment_is_not_written(rt: HostRuntime) -> Result<(), Fail> {
     let alloc: Global = rt.alloc();
     let mut service = service(alloc, 8)?;
     service.rotate = Some(3);
-    let ending = run(&rt, alloc, &service, Output::Broken, 8, Visit::Asks)?;
+    let ending = run(&rt, alloc, &service, LogOutput::Broken, 8, Visit::Asks)?;
     assert_eq!(rt; ending.replies.len(), 8);
     for replies in ending.replies.iter() {
         assert_eq!(rt;

@@ -10,7 +10,7 @@ use ns_types::refusal::Refusal;
 use ns_types::shared;
 use ns_types::snapshot::Snapshot;
 use ns_work_lock::{PARTS, Shared};
-use ns_workers::{Gate, Nowhere, Open, Point, applier, worker};
+use ns_workers::{Gate, KeepsNothing, Open, Point, applier, worker};
 use std::alloc::Global;
 use std::marker::Brand;
 use std::process::Abort;
@@ -94,7 +94,7 @@ fn works<L: Ledger, G: Gate, R: Wait + Clock + Abort>(
 /// How many steps the applier makes until it ends.
 fn applies<L: Ledger, R: Wait + Clock + Abort>(rt: &R, alloc: Global, shared: &Shared<L>) -> usize {
     let mut seat = seat(rt, alloc, shared);
-    applier(rt, alloc, shared, &mut Nowhere, &mut seat);
+    applier(rt, alloc, shared, &mut KeepsNothing, &mut seat);
     seat.receipts().len()
 }
 

@@ -7,7 +7,7 @@ use Rattle.std.proofs.Math.Seq.{take-suc}
 use Rattle.std.specs.FinMap.{contains_key}
 use Rattle.std.specs.List.{cons_option, list_any}
 use Rattle.std.specs.Option.{option_map_or}
-use Rattle.ns_blocked.specs.declared.entry.Entry.{Entry}
+use Rattle.ns_blocked.specs.declared.entry.BlockedEvaluation.{BlockedEvaluation}
 use Rattle.ns_blocked.specs.declared.entry.Waits.TheVariants.{Pool, Quota}
 use Rattle.ns_blocked.specs.declared.releases.ReleasedPool.{ReleasedPool}
 use Rattle.ns_blocked.specs.declared.releases.Releases.{Releases}
@@ -128,7 +128,7 @@ module _ (w : World) (rooms : List (Name × Class)) (released : List Name) (r : 
   wakes_same : (key : Key) (e : Evaluation) → is_woken r (entry_of key e) ≡ releases_wake w rooms released e
   wakes_same key e = by e.quota
     where
-      as_entry : Option Name → Entry
+      as_entry : Option Name → BlockedEvaluation
       as_entry quota = record { key = key; waits = option_map_or Quota quota (Pool e.pool); escapes = e.escapes; infeasible = e.infeasible }
 
       by : (quota : Option Name) → is_woken r (as_entry quota) ≡ release.woken_by w rooms released e quota
@@ -147,7 +147,7 @@ module _ (w : World) (rooms : List (Name × Class)) (released : List Name) (r : 
   woken_of x [] = refl
   woken_of x (key ∷ keys) = by (evaluation_at w key) (woken_of x keys)
     where
-      passing : List Entry
+      passing : List BlockedEvaluation
       passing = filter (is_woken r) (entries_for w keys)
 
       left : List Key

@@ -8,7 +8,7 @@ ghost use Rattle.ns_queues.specs.Waiting.{IsBlockedIndex};
 ghost use Rattle.ns_types.specs.State.Names.{has_class, has_name};
 ghost use Rattle.ns_tables.specs.World.{world_of};
 
-use crate::rooms::Room;
+use crate::rooms::ReleasedClass;
 use ns_blocked::{BlockedList, ReleasedPool, Releases};
 use ns_change::{Change, ListChange};
 use ns_equality::{has_name, same_class};
@@ -28,19 +28,19 @@ fn has_class(classes: &[Class], class: &Class) -> bool
     classes.iter().any(|other| same_class(class, other))
 }
 
-fn is_room(room: &Room, released: &ReleasedPool) -> bool
+fn is_room(room: &ReleasedClass, released: &ReleasedPool) -> bool
     ensures { result ≡ is_room room.now released.now }
 {
     same_text(&room.0, &released.pool) && has_class(released.classes.as_slice(), &room.1)
 }
 
-fn has_room(pools: &[ReleasedPool], room: &Room) -> bool
+fn has_room(pools: &[ReleasedPool], room: &ReleasedClass) -> bool
     ensures { result ≡ has_room pools.now room.now }
 {
     pools.iter().any(|released| is_room(room, released))
 }
 
-fn pool_of(alloc: Global, room: &Room) -> Result<ReleasedPool, AllocError>
+fn pool_of(alloc: Global, room: &ReleasedClass) -> Result<ReleasedPool, AllocError>
     ensures { IfOk result (λ p. p ≡ record { pool = room.now.0; classes = room.now.1 ∷ [] }) }
 {
     let mut classes = Rows::new(alloc);
@@ -52,7 +52,7 @@ fn pool_of(alloc: Global, room: &Room) -> Result<ReleasedPool, AllocError>
 }
 
 /// A released pool of each room, once.
-fn pools_of(alloc: Global, rooms: &[Room]) -> Result<Rows<ReleasedPool>, AllocError>
+fn pools_of(alloc: Global, rooms: &[ReleasedClass]) -> Result<Rows<ReleasedPool>, AllocError>
     ensures { IfOk result (λ pools. AreOfRooms rooms.now pools) }
 {
     let mut pools = Rows::new(alloc);
@@ -85,7 +85,11 @@ fn quotas_of(tables: &Tables, names: &[Text]) -> Result<Rows<Text>, AllocError>
     Ok(quotas)
 }
 
-fn releases_of(tables: &Tables, rooms: &[Room], names: &[Text]) -> Result<Releases, AllocError>
+fn releases_of(
+    tables: &Tables,
+    rooms: &[ReleasedClass],
+    names: &[Text],
+) -> Result<Releases, AllocError>
     ensures rooms { IfOk result (λ releases. AreOfRooms rooms.now releases.pools) }
     ensures quotas { IfOk result
         (λ releases. AreOfNames (world_of tables.now) names.now releases.quotas) }
@@ -112,7 +116,7 @@ pub fn woken_through(
     tables: &Tables,
     list: &BlockedList,
     change: &Change,
-    rooms: &Rows<Room>,
+    rooms: &Rows<ReleasedClass>,
     released: &Rows<Text>,
 ) -> Result<Rows<EvalKey>, AllocError>
     requires index { IsBlockedIndex (world_of tables.now) list.now }

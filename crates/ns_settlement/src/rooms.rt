@@ -19,10 +19,10 @@ use ns_types::text::Text;
 use std::alloc::{AllocError, Global};
 
 /// A released class with its pool.
-pub type Room = (Text, Class);
+pub type ReleasedClass = (Text, Class);
 
 fn add_room(
-    rooms: &mut Rows<Room>,
+    rooms: &mut Rows<ReleasedClass>,
     alloc: Global,
     pool: &Text,
     node: &Node,
@@ -34,7 +34,7 @@ fn add_room(
 }
 
 fn add_changed(
-    rooms: &mut Rows<Room>,
+    rooms: &mut Rows<ReleasedClass>,
     alloc: Global,
     pool: &Text,
     rows: &PoolRows,
@@ -51,7 +51,7 @@ fn add_changed(
 }
 
 fn add_all_changed(
-    rooms: &mut Rows<Room>,
+    rooms: &mut Rows<ReleasedClass>,
     alloc: Global,
     pool: &Text,
     rows: &PoolRows,
@@ -67,7 +67,11 @@ fn add_all_changed(
 }
 
 /// The classes of a pool's nodes that give room themselves.
-fn add_pool(rooms: &mut Rows<Room>, tables: &Tables, slot: &NameSlot<PoolChange>) -> Result<(), AllocError>
+fn add_pool(
+    rooms: &mut Rows<ReleasedClass>,
+    tables: &Tables,
+    slot: &NameSlot<PoolChange>,
+) -> Result<(), AllocError>
     ensures { OnOk result (rooms.new ≡ rooms.old ++ rooms_of_pool (world_of tables.now) slot.now) }
 {
     if let Some(change) = &slot.1 {
@@ -78,7 +82,11 @@ fn add_pool(rooms: &mut Rows<Room>, tables: &Tables, slot: &NameSlot<PoolChange>
     Ok(())
 }
 
-fn add_pools(rooms: &mut Rows<Room>, tables: &Tables, slots: &[NameSlot<PoolChange>]) -> Result<(), AllocError>
+fn add_pools(
+    rooms: &mut Rows<ReleasedClass>,
+    tables: &Tables,
+    slots: &[NameSlot<PoolChange>],
+) -> Result<(), AllocError>
     ensures { OnOk result (rooms.new ≡ rooms.old
         ++ flat_map (rooms_of_pool (world_of tables.now)) slots.now) }
 {
@@ -90,7 +98,7 @@ fn add_pools(rooms: &mut Rows<Room>, tables: &Tables, slots: &[NameSlot<PoolChan
 
 /// The class of the node from which an allocation went, if it takes others.
 fn add_left(
-    rooms: &mut Rows<Room>,
+    rooms: &mut Rows<ReleasedClass>,
     tables: &Tables,
     change: &Change,
     allocation: &Allocation,
@@ -107,7 +115,7 @@ fn add_left(
 }
 
 fn add_ended(
-    rooms: &mut Rows<Room>,
+    rooms: &mut Rows<ReleasedClass>,
     tables: &Tables,
     change: &Change,
     tenant: &TenantRows,
@@ -123,7 +131,7 @@ fn add_ended(
 }
 
 fn add_all_ended(
-    rooms: &mut Rows<Room>,
+    rooms: &mut Rows<ReleasedClass>,
     tables: &Tables,
     change: &Change,
     tenant: &TenantRows,
@@ -139,7 +147,7 @@ fn add_all_ended(
 }
 
 fn add_tenant(
-    rooms: &mut Rows<Room>,
+    rooms: &mut Rows<ReleasedClass>,
     tables: &Tables,
     change: &Change,
     slot: &NameSlot<TenantChange>,
@@ -162,7 +170,7 @@ fn add_tenant(
 }
 
 fn add_tenants(
-    rooms: &mut Rows<Room>,
+    rooms: &mut Rows<ReleasedClass>,
     tables: &Tables,
     change: &Change,
     slots: &[NameSlot<TenantChange>],
@@ -177,7 +185,7 @@ fn add_tenants(
 }
 
 /// The classes of all nodes that give room, each with its pool, in no order and perhaps twice.
-pub fn released_rooms(tables: &Tables, change: &Change) -> Result<Rows<Room>, AllocError>
+pub fn released_rooms(tables: &Tables, change: &Change) -> Result<Rows<ReleasedClass>, AllocError>
     ensures { IfOk result (λ rooms. rooms ≡ released_rooms (world_of tables.now) change.now) }
 {
     let mut rooms = Rows::new(tables.alloc);

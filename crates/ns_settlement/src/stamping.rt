@@ -8,9 +8,9 @@ ghost use Rattle.ns_release.specs.Shown.{changes_job_slot, changes_slot};
 ghost use Rattle.ns_settlement.specs.Stamped.{job_topic, made_at, stamped_row, stamped_slot, events_for, topic_at, touches};
 ghost use Rattle.ns_tables.specs.World.{tenant_of};
 
-use keyed::{NameSlot, NumberTable};
+use keyed::{NameSlot, NumberSlot, NumberTable};
 use ns_change::TenantChange;
-use ns_release::{Shown, any_job, any_row, changes_job_slot, changes_row, changes_slot};
+use ns_release::{ShownByNumber, any_job, any_row, changes_job_slot, changes_row, changes_slot};
 use ns_tables::TenantRows;
 use ns_types::event::{Event, Topic};
 use ns_types::job::Job;
@@ -19,11 +19,11 @@ use ns_types::text::Text;
 use std::alloc::AllocError;
 
 /// An event of each changed row, by number.
-pub fn publish_rows<R: Shown>(
+pub fn publish_rows<R: ShownByNumber>(
     events: &mut Rows<Event>,
     before: &NumberTable<R>,
     index: u64,
-    slots: &[(u64, Option<R>)],
+    slots: &[NumberSlot<R>],
 ) -> Result<(), AllocError>
     ensures { OnOk result (events.new ≡ events.old
         ++ events_for index (topic_at R.kind) (changes_slot R.kind (rows before.now)) slots.now) }
@@ -38,7 +38,7 @@ pub fn publish_rows<R: Shown>(
 }
 
 /// The index at which the row was made.
-fn made_at<R: Shown>(before: &NumberTable<R>, index: u64, number: u64) -> u64
+fn made_at<R: ShownByNumber>(before: &NumberTable<R>, index: u64, number: u64) -> u64
     ensures { result ≡ made_at R.kind index (rows before.now) number }
 {
     match before.get(number) {
@@ -48,7 +48,7 @@ fn made_at<R: Shown>(before: &NumberTable<R>, index: u64, number: u64) -> u64
 }
 
 /// A changed row gets the index.
-fn stamp<R: Shown>(before: &NumberTable<R>, index: u64, number: u64, row: &mut R)
+fn stamp<R: ShownByNumber>(before: &NumberTable<R>, index: u64, number: u64, row: &mut R)
     ensures { row.new ≡ stamped_row R.kind index (rows before.now) number row.old }
 {
     if changes_row(before, number, row) {
@@ -56,7 +56,7 @@ fn stamp<R: Shown>(before: &NumberTable<R>, index: u64, number: u64, row: &mut R
     }
 }
 
-fn stamp_slot<R: Shown>(before: &NumberTable<R>, index: u64, slot: &mut (u64, Option<R>))
+fn stamp_slot<R: ShownByNumber>(before: &NumberTable<R>, index: u64, slot: &mut NumberSlot<R>)
     ensures { slot.new
         ≡ (slot.old.0, stamped_slot R.kind index (rows before.now) slot.old.0 slot.old.1) }
 {
@@ -67,7 +67,7 @@ fn stamp_slot<R: Shown>(before: &NumberTable<R>, index: u64, slot: &mut (u64, Op
 }
 
 /// The changed rows with the index.
-pub fn stamp_rows<R: Shown>(
+pub fn stamp_rows<R: ShownByNumber>(
     before: &NumberTable<R>,
     index: u64,
     changes: NumberTable<R>,

@@ -7,7 +7,7 @@ ghost use Rattle.ns_queues.specs.Turns.{IsRight};
 ghost use Rattle.ns_tables.specs.World.{world_of};
 
 use crate::reached::woken_through;
-use crate::rooms::Room;
+use crate::rooms::ReleasedClass;
 use keyed::NumberSlot;
 use ns_change::Change;
 use ns_queues::Turns;
@@ -56,7 +56,7 @@ pub fn woken_keys(
     tables: &Tables,
     turns: &Turns,
     change: &Change,
-    rooms: &Rows<Room>,
+    rooms: &Rows<ReleasedClass>,
     released: &Rows<Text>,
 ) -> Result<Rows<EvalKey>, AllocError>
     requires right { IsRight (world_of tables.now) turns.now }

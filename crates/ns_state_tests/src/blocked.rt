@@ -4,7 +4,8 @@ ghost use Rattle.ns_blocked.specs.Blocked.{are_new, keys_of};
 ghost use Rattle.ns_types.specs.State.Names.{has_key};
 
 use crate::made::{both, only, text};
-use ns_blocked::{BlockedList, Entry, ReleasedPool, Releases, Waiting, Waits};
+use keyed::NumberSlot;
+use ns_blocked::{BlockedEvaluation, BlockedList, ReleasedPool, Releases, Waiting, Waits};
 use ns_equality::same_key;
 use ns_types::key::EvalKey;
 use ns_types::node::{Attribute, Class};
@@ -71,8 +72,8 @@ pub(crate) fn classes(rt: &impl Abort, alloc: Global, names: &[Named]) -> Rows<C
     rows
 }
 
-fn entry(rt: &impl Abort, alloc: Global, waiter: &Waiter) -> Entry {
-    Entry {
+fn entry(rt: &impl Abort, alloc: Global, waiter: &Waiter) -> BlockedEvaluation {
+    BlockedEvaluation {
         key: key(rt, alloc, waiter.key),
         waits: match waiter.source {
             Source::Quota(name) => Waits::Quota(text(rt, alloc, name)),
@@ -99,7 +100,7 @@ fn block(rt: &impl Abort, alloc: Global, list: &mut BlockedList, waiter: &Waiter
 }
 
 #[tactic(auto, using(crate::proofs::Fresh::both_new))]
-fn are_new(list: &BlockedList, first: &Entry, second: &Entry) -> bool
+fn are_new(list: &BlockedList, first: &BlockedEvaluation, second: &BlockedEvaluation) -> bool
     ensures { result ≡ are_new (keys_of list.now) (first.now ∷ second.now ∷ []) }
 {
     !has(list, &first.key) & !has(list, &second.key) & !same_key(&second.key, &first.key)
@@ -147,7 +148,7 @@ fn is_among(keys: &[KeyText], key: &EvalKey) -> bool {
 }
 
 /// Whether these are the keys in the slots, in this order. A vacant slot has none.
-fn have_keys(slots: &[(u64, Option<Waiting>)], expected: &[KeyText]) -> bool {
+fn have_keys(slots: &[NumberSlot<Waiting>], expected: &[KeyText]) -> bool {
     let mut rest = expected;
     for slot in slots {
         if let Some(row) = &slot.1 {

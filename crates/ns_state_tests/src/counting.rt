@@ -6,7 +6,7 @@ ghost use Rattle.std.specs.List.{All};
 use crate::made::{each, only, text};
 use crate::missing::only_row;
 use crate::plans::{allocation, looked};
-use keyed::{NumberTable, OwnerTable};
+use keyed::{NumberSlot, NumberTable, OwnerTable};
 use ns_admin::opening;
 use ns_applier::view::Present;
 use ns_copies::live_of;
@@ -23,12 +23,7 @@ use std::process::Abort;
 
 // ---- the present state
 
-fn slot(
-    rt: &impl Abort,
-    alloc: Global,
-    number: u64,
-    client: ClientStatus,
-) -> (u64, Option<Allocation>)
+fn slot(rt: &impl Abort, alloc: Global, number: u64, client: ClientStatus) -> NumberSlot<Allocation>
     ensures { result.0 ≡ number }
 {
     let mut row = allocation(rt, alloc);

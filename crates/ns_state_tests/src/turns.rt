@@ -20,7 +20,7 @@ use std::alloc::Global;
 use std::process::Abort;
 
 /// A job by the key of its first evaluation, with its priority, and whether its pool is `gpu`.
-type Asked<'a> = (KeyText<'a>, u64, bool);
+type AskedJob<'a> = (KeyText<'a>, u64, bool);
 
 // ---- steps
 
@@ -51,7 +51,7 @@ fn pool(rt: &impl Abort, alloc: Global, gpu: bool) -> Option<Text>
 }
 
 /// The job is registered, whose id is the number of its evaluation.
-fn registered(rt: &impl Abort, alloc: Global, root: &Text, (key, priority, gpu): Asked) -> Step {
+fn registered(rt: &impl Abort, alloc: Global, root: &Text, (key, priority, gpu): AskedJob) -> Step {
     assert!(rt; 1 <= priority && priority <= 100);
     let pool = pool(rt, alloc, gpu);
     let command = registration_of(rt, alloc, key.1, priority, pool);
@@ -91,7 +91,7 @@ fn takes(rt: &impl Abort, alloc: Global, core: &mut Core, worker: u64, wanted: K
 // ---- tests
 
 /// Those with the same priority stand apart, and not by their keys.
-static JOBS: [Asked; 9] = [
+static JOBS: [AskedJob; 9] = [
     (("default", 1), 40, false),
     (("team", 1), 70, false),
     (("default", 2), 10, false),
@@ -163,7 +163,7 @@ fn a_copy_serves_in_the_same_order(rt: HostRuntime) {
 }
 
 /// Each has one evaluation more before the next is registered, which is blocked.
-static BLOCKED: [Asked; 6] = [
+static BLOCKED: [AskedJob; 6] = [
     (("default", 1), 50, false),
     (("team", 1), 50, true),
     (("team", 3), 50, false),
@@ -183,7 +183,7 @@ static OF_DEFAULT: [(u64, KeyText); 4] = [
 static OF_GPU: [(u64, KeyText); 2] = [(4, ("team", 2)), (5, ("default", 6))];
 
 /// Whether the job is registered, and a worker finishes its evaluation, which finds no node.
-fn blocks(rt: &impl Abort, alloc: Global, core: &mut Core, root: &Text, job: Asked) -> bool {
+fn blocks(rt: &impl Abort, alloc: Global, core: &mut Core, root: &Text, job: AskedJob) -> bool {
     let (namespace, number) = job.0;
     let dequeue = Step::Dequeue(0, text(rt, alloc, namespace), number);
     let snap = Step::Snap(0, text(rt, alloc, namespace));

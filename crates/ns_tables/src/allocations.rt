@@ -103,7 +103,7 @@ impl AllocationTable {
     }
 
     /// The slots with their numbers, which rise.
-    pub fn as_slice(&self) -> &[(u64, Option<Allocation>)]
+    pub fn as_slice(&self) -> &[NumberSlot<Allocation>]
         ensures { result.now ≡ entries self.now.slots }
     {
         self.slots.as_slice()
@@ -165,7 +165,7 @@ impl AllocationTable {
     }
 
     /// Takes the slot of that number out, if it is vacant, with the room that was made for its row.
-    pub fn clear_slot(&mut self, slot: &(u64, Option<Allocation>))
+    pub fn clear_slot(&mut self, slot: &NumberSlot<Allocation>)
         ensures { self.new.slots ≡ without_vacant self.old.slots slot.now.0 }
     {
         self.slots.clear_slot(slot.0);

@@ -9,7 +9,7 @@ ghost use Rattle.ns_types.specs.State.Rows.{is_blocked, is_pending};
 ghost use Rattle.ns_tables.specs.Filing.{AreNumbersUnder, evaluation_job, job_where};
 
 use crate::filing::{BlockedJob, EvaluationJob, PendingJob, clear, refile, reserve_all};
-use keyed::{KeySet, NumberTable};
+use keyed::{KeySet, NumberSlot, NumberTable};
 use ns_types::evaluation::Evaluation;
 use ns_types::text::Text;
 use std::alloc::{AllocError, Global};
@@ -125,7 +125,7 @@ impl EvaluationTable {
     }
 
     /// Takes the slot of that number out, if it is vacant, with the room that was made for its row.
-    pub fn clear_slot(&mut self, slot: &(u64, Option<Evaluation>))
+    pub fn clear_slot(&mut self, slot: &NumberSlot<Evaluation>)
         ensures { self.new.slots ≡ without_vacant self.old.slots slot.now.0 }
     {
         self.slots.clear_slot(slot.0);

@@ -183,7 +183,11 @@ fn leave<F: Filing>(numbers: &mut KeySet, before: &NumberTable<F::Row>, slot: &N
     }
 }
 
-fn leave_all<F: Filing>(numbers: &mut KeySet, before: &NumberTable<F::Row>, slots: &[NumberSlot<F::Row>])
+fn leave_all<F: Filing>(
+    numbers: &mut KeySet,
+    before: &NumberTable<F::Row>,
+    slots: &[NumberSlot<F::Row>],
+)
     ensures { (key : Key) → holds_key numbers.new key
         ≡ (not (list_any (λ slot. is_left F.name_of before.now slot key) slots.now)
         && holds_key numbers.old key) }

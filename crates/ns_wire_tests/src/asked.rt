@@ -1,15 +1,15 @@
 // What good words come to.
 use ns_api::Driven;
-use ns_command_line::{Wanted, read};
-use ns_pipe::{Asked, Printed};
+use ns_command_line::{Invocation, read};
+use ns_pipe::{Printed, WordsRead};
 use ns_types::text::Text;
 use std::net::{Ipv4Addr, Ipv6Addr, SocketAddr};
 use std::rt::HostRuntime;
 
 /// Whether a connection is asked for with the secret `root` and these.
-fn is_pipe(wanted: &Wanted, driven: Driven, printed: Printed) -> bool {
+fn is_pipe(wanted: &Invocation, driven: Driven, printed: Printed) -> bool {
     match wanted {
-        Wanted::Run(Asked::Pipe(secret, drives, prints)) => {
+        Invocation::Run(WordsRead::Pipe(secret, drives, prints)) => {
             secret.get().as_str() == "root" && *drives == driven && *prints == printed
         }
         _ => false,
@@ -34,9 +34,9 @@ fn are_words(texts: &[Text], words: &[&str]) -> bool {
 }
 
 /// Whether the namespace `ta` is to run alone from that entry on, with these pools and these quotas.
-fn is_alone(wanted: &Wanted, count: u64, pools: &[&str], quotas: &[&str]) -> bool {
+fn is_alone(wanted: &Invocation, count: u64, pools: &[&str], quotas: &[&str]) -> bool {
     match wanted {
-        Wanted::Run(Asked::Alone(replay)) => {
+        Invocation::Run(WordsRead::Alone(replay)) => {
             replay.namespace.as_str() == "ta"
                 && replay.from == count
                 && are_words(replay.pools.as_slice(), pools)
@@ -86,7 +86,7 @@ fn alone_with_pools_and_quotas(rt: HostRuntime) {
 /// Whether this server is asked for, with these workers, connections, connections to accept, idle seconds, entries, and entries and
 /// bytes to rotate at.
 fn is_serve(
-    wanted: &Wanted,
+    wanted: &Invocation,
     address: SocketAddr,
     bootstrap: Option<&str>,
     numbers: (
@@ -100,7 +100,7 @@ fn is_serve(
     ),
 ) -> bool {
     match wanted {
-        Wanted::Serve(service) => {
+        Invocation::Serve(service) => {
             let given = match &service.bootstrap {
                 Some(secret) => Some(secret.get().as_str()),
                 None => None,
@@ -117,7 +117,7 @@ fn is_serve(
                     service.rotate_bytes,
                 ) == numbers
         }
-        Wanted::Run(_) => false,
+        Invocation::Run(_) => false,
     }
 }
 

@@ -1,6 +1,6 @@
 // Readers and writers that are slow or fail.
 use crate::same_bits::SameBits;
-use ns_command_line::{Outcome, run_words};
+use ns_command_line::{RunEnd, run_words};
 use ns_http::Counted;
 use std::alloc::Global;
 use std::io::{self, ErrorKind, Read, Write};
@@ -63,13 +63,13 @@ impl Write for Narrow {
 
 /// What a run left.
 #[derive(Drop)]
-struct Left {
+struct RunLeft {
     status: u8,
     written: Vec<u8>,
     errors: Vec<u8>,
 }
 
-fn run(alloc: Global, reader: Slow<'_>, room: usize) -> Left {
+fn run(alloc: Global, reader: Slow<'_>, room: usize) -> RunLeft {
     let mut errors = Counted::new(Vec::new(alloc));
     let writer = Narrow {
         taken: Vec::new(alloc),
@@ -77,10 +77,10 @@ fn run(alloc: Global, reader: Slow<'_>, room: usize) -> Left {
     };
     let outcome = run_words(alloc, &WORDS, SameBits, reader, writer, &mut errors);
     let (status, written) = match outcome {
-        Outcome::Ended(ended) => (ended.status, ended.writer.into_inner().taken),
-        Outcome::Serve(..) => (u8::MAX, Vec::new(alloc)),
+        RunEnd::Ended(ended) => (ended.status, ended.writer.into_inner().taken),
+        RunEnd::Serve(..) => (u8::MAX, Vec::new(alloc)),
     };
-    Left {
+    RunLeft {
         status,
         written,
         errors: errors.into_inner(),
@@ -88,7 +88,7 @@ fn run(alloc: Global, reader: Slow<'_>, room: usize) -> Left {
 }
 
 /// Whether the run left these.
-fn leaves(left: &Left, status: u8, written: &[&[u8]], errors: &[u8]) -> bool {
+fn leaves(left: &RunLeft, status: u8, written: &[&[u8]], errors: &[u8]) -> bool {
     let mut rest = left.written.as_slice();
     for part in written {
         match rest.strip_prefix(*part) {

@@ -99,7 +99,7 @@ impl Write for Narrow {
 }
 
 #[derive(Drop)]
-struct Outcome {
+struct ServedOutcome {
     result: Result<u64, ConnFault>,
     steps: u64,
     bytes: Vec<u8>,
@@ -109,14 +109,14 @@ struct Outcome {
     write_faults: u64,
 }
 
-fn talk(alloc: Global, reader: Slow<'_>, writer: Narrow) -> Outcome {
+fn talk(alloc: Global, reader: Slow<'_>, writer: Narrow) -> ServedOutcome {
     let mut reader = Counted::new(reader);
     let mut writer = Counted::new(writer);
     let mut handler = Echo { alloc, steps: 0 };
     let result = serve(alloc, &mut reader, &mut writer, &mut handler);
     let (reads, writes) = (reader.counts(), writer.counts());
     let Narrow { bytes, .. } = writer.into_inner();
-    Outcome {
+    ServedOutcome {
         result,
         steps: handler.steps,
         bytes,
@@ -404,12 +404,12 @@ fn refused_heads(rt: HostRuntime) {
 }
 
 /// What is repeated, between a front and an end.
-type Parts<'a> = (&'a [u8], &'a [u8], &'a [u8]);
+type RepeatedParts<'a> = (&'a [u8], &'a [u8], &'a [u8]);
 
 /// The front, so many times the middle, and the end.
 fn repeated(
     alloc: Global,
-    (front, middle, end): Parts<'_>,
+    (front, middle, end): RepeatedParts<'_>,
     count: usize,
 ) -> Result<Vec<u8>, AllocError> {
     let mut bytes = Vec::from_slice(alloc, front)?;
@@ -426,7 +426,11 @@ fn serves(alloc: Global, input: &[u8]) -> bool {
 }
 
 /// The length of the request, if it is served.
-fn served_len(alloc: Global, parts: Parts<'_>, count: usize) -> Result<Option<usize>, AllocError> {
+fn served_len(
+    alloc: Global,
+    parts: RepeatedParts<'_>,
+    count: usize,
+) -> Result<Option<usize>, AllocError> {
     let input = repeated(alloc, parts, count)?;
     if serves(alloc, &input) {
         Ok(Some(input.len()))
@@ -435,7 +439,7 @@ fn served_len(alloc: Global, parts: Parts<'_>, count: usize) -> Result<Option<us
     }
 }
 
-fn is_too_large(alloc: Global, parts: Parts<'_>, count: usize) -> Result<bool, AllocError> {
+fn is_too_large(alloc: Global, parts: RepeatedParts<'_>, count: usize) -> Result<bool, AllocError> {
     let input = repeated(alloc, parts, count)?;
     Ok(refuses(alloc, &input, TOO_LARGE))
 }
@@ -448,7 +452,7 @@ fn is_read_in_room(alloc: Global, input: &[u8]) -> bool {
 
 /// Whether the longest body is served, and read in room.
 fn serves_the_longest(alloc: Global) -> Result<bool, AllocError> {
-    let large: Parts<'_> = (
+    let large: RepeatedParts<'_> = (
         b"POST / HTTP/1.0\r\nContent-Length: 1048576\r\n\r\n",
         b"x",
         b"",
@@ -459,10 +463,10 @@ fn serves_the_longest(alloc: Global) -> Result<bool, AllocError> {
 
 #[test]
 fn limits(rt: HostRuntime) -> Result<(), Fail> {
-    let long: Parts<'_> = (b"GET / HTTP/1.1\r\nA: ", b"x", b"\r\n\r\n");
+    let long: RepeatedParts<'_> = (b"GET / HTTP/1.1\r\nA: ", b"x", b"\r\n\r\n");
     assert_eq!(rt; served_len(rt.alloc(), long, 16_361)?, Some(16_384));
     assert!(rt; is_too_large(rt.alloc(), long, 16_362)?);
-    let many: Parts<'_> = (b"GET / HTTP/1.0\r\n", b"A: b\r\n", b"\r\n");
+    let many: RepeatedParts<'_> = (b"GET / HTTP/1.0\r\n", b"A: b\r\n", b"\r\n");
     assert!(rt; served_len(rt.alloc(), many, 64)?.is_some());
     assert!(rt; is_too_large(rt.alloc(), many, 65)?);
     assert!(rt; serves_the_longest(rt.alloc())?);

@@ -1,10 +1,10 @@
 // What words that ask for nothing are answered, and the lines of faults.
 use crate::same_bits::SameBits;
 use crate::serving;
-use ns_command_line::{Outcome, run_words};
+use ns_command_line::{RunEnd, run_words};
 use ns_faults::{print_fault, print_no_random, print_no_words};
 use ns_http::{ConnFault, Counted};
-use ns_pipe::{Asked, run};
+use ns_pipe::{WordsRead, run};
 use std::alloc::Global;
 use std::io::{self, ErrorKind};
 use std::rt::HostRuntime;
@@ -13,13 +13,13 @@ const NO_INPUT: &[u8] = b"";
 
 /// The exit status, and what was written.
 #[derive(Drop)]
-struct Ran {
+struct RunText {
     status: u8,
     output: Vec<u8>,
     errors: Vec<u8>,
 }
 
-fn run_with(alloc: Global, words: &[&str]) -> Ran {
+fn run_with(alloc: Global, words: &[&str]) -> RunText {
     let mut errors = Counted::new(Vec::new(alloc));
     let outcome = run_words(
         alloc,
@@ -30,10 +30,10 @@ fn run_with(alloc: Global, words: &[&str]) -> Ran {
         &mut errors,
     );
     let (status, output) = match outcome {
-        Outcome::Ended(ended) => (ended.status, ended.writer.into_inner()),
-        Outcome::Serve(..) => (u8::MAX, Vec::new(alloc)),
+        RunEnd::Ended(ended) => (ended.status, ended.writer.into_inner()),
+        RunEnd::Serve(..) => (u8::MAX, Vec::new(alloc)),
     };
-    Ran {
+    RunText {
         status,
         output,
         errors: errors.into_inner(),
@@ -301,7 +301,7 @@ fn no_memory(alloc: Global) -> (u8, Vec<u8>) {
     let mut errors = Counted::new(Vec::new(alloc));
     let ended = run(
         alloc,
-        &Asked::NoMemory,
+        &WordsRead::NoMemory,
         SameBits,
         NO_INPUT,
         Vec::new(alloc),

@@ -9,7 +9,7 @@ use Rattle.ns_types.specs.Steps.{Answer}
 use Rattle.ns_types.proofs.Lists.{not_both}
 use Rattle.ns_json.specs.Replies.{rendered}
 use Rattle.ns_replies.specs.Laws.{may_change, row_of}
-use Rattle.ns_replies.specs.Rooms.{HasRoom, Room, room_of}
+use Rattle.ns_replies.specs.Rooms.{AnswerRoom, HasRoom, room_of}
 use Rattle.ns_replies.proofs.Made.{made_has_room}
 use Rattle.ns_log.specs.declared.receipts.receipt.Receipt.{Receipt}
 use Rattle.ns_work_log.specs.Logs.{History, next_place}
@@ -35,10 +35,10 @@ adds_count step old answer new (inr a) = let same = ap next_place a.1 in omega (
 
 -- ---- and room for its answer
 
-pub adds_room : (step : Step) (old : History) (answer : Answer) (new : History) (room : Room) → may_change step ≡ true →
+pub adds_room : (step : Step) (old : History) (answer : Answer) (new : History) (room : AnswerRoom) → may_change step ≡ true →
     room ≡ room_of step (row_of step old.state.world) → Adds step old answer new → IfOk answer (λ reply. HasRoom room reply.content)
 adds_room step old (Ok reply) new room may is (inl a) =
-    subst (λ (r : Room). HasRoom r reply.content) (sym is) (made_has_room step old.state new.state reply may a.1.made)
+    subst (λ (r : AnswerRoom). HasRoom r reply.content) (sym is) (made_has_room step old.state new.state reply may a.1.made)
 adds_room step old (Ok reply) new room may is (inr a) = not_both refl a.0
 adds_room step old (Err refusal) new room may is a = tt
 

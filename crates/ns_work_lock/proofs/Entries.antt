@@ -27,7 +27,7 @@ use Rattle.ns_json.specs.Replies.{Entry, applied_json, body_of, finished_json, o
 use Rattle.ns_json.proofs.Parts.{room-append}
 use Rattle.ns_json.proofs.Replies.{length-escaped_id}
 use Rattle.ns_replies.specs.Bodies.{id_tokens, nacked_json, text_bytes, text_tokens}
-use Rattle.ns_replies.specs.Rooms.{HasRoom, Room}
+use Rattle.ns_replies.specs.Rooms.{AnswerRoom, HasRoom}
 use Rattle.ns_replies.proofs.Writing.{applied_tokens, escaped_follower, escaped_status, finished_room, first_tokens, last_tokens, length-print_from-le}
 use Rattle.ns_replies.proofs.Writing.{middle_tokens, nacked_room, one_id_room, room-first, room-ids, room-last, room-middle, room-texts}
 use Rattle.ns_work_log.specs.Logs.{History}
@@ -77,7 +77,7 @@ work_fits (Content.Finished status follower) h =
 work_fits (Content.Nacked status) h = json_fits (nacked_json status) 25 (nacked_room (status_text status) (escaped_status status))
 work_fits _ h = not_both h refl
 
-room_fits : (room : Room) (content : Content) → is_work content ≡ true → HasRoom room content → length (body_of content) ≤ room.bytes
+room_fits : (room : AnswerRoom) (content : Content) → is_work content ≡ true → HasRoom room content → length (body_of content) ≤ room.bytes
 room_fits room (Content.Took n) is has = omega (arith, work_fits (Content.Took n) refl, has)
 room_fits room (Content.Snapped n) is has = omega (arith, work_fits (Content.Snapped n) refl, has)
 room_fits room (Content.Queued n) is has = omega (arith, work_fits (Content.Queued n) refl, has)
@@ -87,7 +87,7 @@ room_fits room (Content.Nacked status) is has = omega (arith, work_fits (Content
 room_fits room _ is has = not_both is refl
 
 -- so the room is enough for a copy
-pub copy_fits : (room : Room) (reply : Reply) (shown : Rendered) → is_work reply.content ≡ true → HasRoom room reply.content →
+pub copy_fits : (room : AnswerRoom) (reply : Reply) (shown : Rendered) → is_work reply.content ≡ true → HasRoom room reply.content →
     shown ≡ rendered (Ok reply) → length shown.body ≤ room.bytes
 unfolding rendered
 copy_fits room reply shown is has same = omega (arith, ap (λ (r : Rendered). length r.body) same, room_fits room reply.content is has)

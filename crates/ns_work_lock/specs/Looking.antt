@@ -6,10 +6,10 @@ use Rattle.ns_types.specs.State.Names.{Key, Name, same_name}
 use Rattle.ns_types.specs.State.Rows.{World}
 use Rattle.ns_types.specs.Working.Looks.{first_plan, row_of, worker_at}
 use Rattle.ns_types.specs.Working.Work.{workers_end}
-use Rattle.ns_work_lock.specs.declared.changes.Busy.{Busy}
+use Rattle.ns_work_lock.specs.declared.changes.BusyWorker.{BusyWorker}
 use Rattle.ns_work_lock.specs.declared.changes.Planner.{Planner}
 
-abbrev pub fields_of : Busy → Name × ℕ × Phase × ℕ
+abbrev pub fields_of : BusyWorker → Name × ℕ × Phase × ℕ
 fields_of b = (b.namespace, b.evaluation, b.phase, b.tries)
 
 -- ---- a worker that is busy with an evaluation

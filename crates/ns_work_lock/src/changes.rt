@@ -106,7 +106,7 @@ impl Notified {
 
 /// What a thread waits for.
 #[derive(Clone, Copy)]
-pub enum Waits {
+pub enum WaitsFor {
     /// A worker waits for an evaluation.
     ForWork,
     /// A worker waits for its plan to be applied.
@@ -129,7 +129,7 @@ pub struct Moment {
 
 /// What a worker is busy with.
 #[derive(Drop)]
-pub struct Busy {
+pub struct BusyWorker {
     pub namespace: Text,
     /// The number of its evaluation there.
     pub evaluation: u64,
@@ -149,7 +149,7 @@ pub struct Planner {
 #[derive(Drop)]
 pub struct WorkerView {
     pub seen: Moment,
-    pub busy: Option<Busy>,
+    pub busy: Option<BusyWorker>,
     /// The next evaluation, where the worker is idle.
     pub next: Option<EvalKey>,
 }

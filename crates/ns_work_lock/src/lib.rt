@@ -15,10 +15,10 @@ mod spent;
 mod work;
 mod worker_step;
 
-pub use changes::{ApplierView, Busy, Moment, Planner, Role, Waits, WorkerView};
+pub use changes::{ApplierView, BusyWorker, Moment, Planner, Role, WaitsFor, WorkerView};
 pub use ended::{Ended, PARTS};
 pub use looking::WORKERS_END;
 pub use retention::{Forgets, Retains, Retention};
 pub use seat::Seat;
-pub use settling::Settled;
+pub use settling::SettledLog;
 pub use shared::Shared;

@@ -5,7 +5,7 @@ ghost use Rattle.ns_types.specs.Working.Looks.{row_of, served_ready};
 ghost use Rattle.ns_broker.specs.Looking.{busy_of};
 ghost use Rattle.ns_work_lock.specs.Looking.{IsFirstAt, IsFirstPlanner, fields_of, has_evaluation, is_busy_with};
 
-use crate::changes::{ApplierView, Busy, Moment, Planner, WorkerView};
+use crate::changes::{ApplierView, BusyWorker, Moment, Planner, WorkerView};
 use ns_core::Core;
 use ns_types::key::EvalKey;
 use ns_types::text::same_text;
@@ -25,12 +25,12 @@ pub(crate) fn served(core: &Core) -> Result<Option<EvalKey>, AllocError>
 }
 
 /// What the worker is busy with. None: it is idle.
-pub(crate) fn busy(core: &Core, worker: u64) -> Result<Option<Busy>, AllocError>
+pub(crate) fn busy(core: &Core, worker: u64) -> Result<Option<BusyWorker>, AllocError>
     ensures { IfOk result (λ busy.
         option_map fields_of busy ≡ option_map busy_of (row_of core.now.world worker)) }
 {
     match core.phase(worker) {
-        Some(busy) => Ok(Some(Busy {
+        Some(busy) => Ok(Some(BusyWorker {
             namespace: busy.namespace.clone()?,
             evaluation: busy.evaluation,
             phase: busy.phase,

@@ -15,7 +15,7 @@ use crate::copying::repeat_entry;
 use crate::seat::{begin, receive};
 use ns_log::receipts::Receipt;
 use ns_log::{Entry, Owned};
-use ns_replies::answers::Room;
+use ns_replies::answers::AnswerRoom;
 use ns_steps::work::{Work, step_of};
 use ns_types::refusal::Refusal;
 use ns_types::reply::Reply;
@@ -31,7 +31,7 @@ use std::sync::ledger::{Book, Ledger, Share};
 #[derive(Drop)]
 pub(crate) struct Ready {
     pub(crate) step: Owned<Step>,
-    pub(crate) room: Room,
+    pub(crate) room: AnswerRoom,
     pub(crate) place: u64,
     pub(crate) number: u64,
 }
@@ -46,7 +46,7 @@ fn with_room(alloc: Global, held: &Held, step: Step, row: Option<&Worker>) -> Re
     }) }
     ensures memory { IfErr result (λ refusal. refusal ≡ Refusal.Memory) }
 {
-    match Room::for_step(alloc, &step, row) {
+    match AnswerRoom::for_step(alloc, &step, row) {
         Ok(room) => Ok(Ready {
             step: Owned::alone(step),
             room,

@@ -27,7 +27,7 @@ use std::sync::ledger::{Ledger, Share};
 
 /// A log with which the receipts of seats have settled, whole: with what was given out of it in segments. `Ended::settle` alone
 /// makes one. Contracts see it as a settlement.
-pub struct Settled {
+pub struct SettledLog {
     /// Where the log begins.
     base: Snapshot<Core>,
     log: Vec<Entry>,
@@ -37,9 +37,9 @@ pub struct Settled {
     core: Core,
 }
 
-impl Drop for Settled {
+impl Drop for SettledLog {
     fn drop(self) {
-        let Settled {
+        let SettledLog {
             base: _base,
             log: _log,
             given: _,
@@ -48,7 +48,7 @@ impl Drop for Settled {
     }
 }
 
-impl Model for Settled {
+impl Model for SettledLog {
     ghost use Rattle.std.specs.Coded.{codes};
     ghost use Rattle.std.specs.FinMap.{code};
     ghost use Rattle.std.specs.Prelude.{◌≤◌, length};
@@ -70,7 +70,7 @@ impl Model for Settled {
         × IsSettled s.log.items × (s.given ≤ length s.log.items) };
 }
 
-impl Settled {
+impl SettledLog {
     /// The server where the log leads, to be looked at.
     pub fn core(&self) -> &Core
         ensures { result.now ≡ self.now.state }
@@ -159,7 +159,7 @@ fn settle_run(
     given: u64,
     log: Vec<Entry>,
     lists: Vec<Vec<Receipt>>,
-) -> Result<Settled, SettleFault>
+) -> Result<SettledLog, SettleFault>
     requires given { given ≤ length log.items }
     ensures base { IfOk result (λ settled. settled.base ≡ first.now) }
     ensures log { IfOk result (λ settled. settled.log ≡ log.items) }
@@ -176,7 +176,7 @@ fn settle_run(
         return Err(fault);
     }
     match rerun_from(alloc, first, log.as_slice()) {
-        Ok(core) => Ok(Settled {
+        Ok(core) => Ok(SettledLog {
             base: Snapshot::of(first),
             log,
             given,
@@ -211,7 +211,7 @@ impl<L: Ledger> Ended<L> {
         seats: Vec<Seat<L, Retains>>,
         first: &Core,
         segments: Vec<Segment>,
-    ) -> Result<Settled, SettleFault>
+    ) -> Result<SettledLog, SettleFault>
         requires { L.parts ≡ 18446744073709551615 }
         ensures log { let held = held_of self in IfOk result
             (λ settled. IsOf first.now segments.items held.start held.log settled) }

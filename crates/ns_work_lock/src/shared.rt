@@ -10,7 +10,7 @@ ghost use Rattle.ns_work_lock.specs.Receiving.{Asks, Receives};
 ghost use Rattle.ns_work_lock.specs.WorkerSteps.{worker_step};
 
 use crate::changes::{
-    ApplierView, Busy, Moment, Notified, Planner, Role, Waits, Wakes, WorkerView,
+    ApplierView, BusyWorker, Moment, Notified, Planner, Role, WaitsFor, Wakes, WorkerView,
 };
 use crate::desk::Desk;
 use crate::ended::Ended;
@@ -397,7 +397,7 @@ impl<L: Ledger> Shared<L> {
     }
 
     /// What the worker is busy with. None: it is idle.
-    pub fn busy<R: Wait>(&self, rt: &R, worker: u64) -> Result<Option<Busy>, AllocError> {
+    pub fn busy<R: Wait>(&self, rt: &R, worker: u64) -> Result<Option<BusyWorker>, AllocError> {
         looking::busy(self.desk.lock(rt).kept.held.core(), worker)
     }
 
@@ -412,13 +412,13 @@ impl<L: Ledger> Shared<L> {
     }
 
     /// Waits for a change after this moment that concerns whoever waits for that.
-    pub fn wait_past<R: Wait>(&self, rt: &R, waits: Waits, seen: Moment) -> Moment
+    pub fn wait_past<R: Wait>(&self, rt: &R, waits: WaitsFor, seen: Moment) -> Moment
         ensures { result.changes ≢ seen.changes }
     {
         let room = match waits {
-            Waits::ForWork => &self.idle,
-            Waits::ForApply => &self.planners,
-            Waits::ForPlans => &self.applier,
+            WaitsFor::ForWork => &self.idle,
+            WaitsFor::ForApply => &self.planners,
+            WaitsFor::ForPlans => &self.applier,
         };
         let desk = room.wait_while(rt, self.desk.lock(rt), |desk| {
             desk.changes == seen.changes

@@ -7,7 +7,7 @@ ghost use Rattle.ns_replies.specs.Rooms.{HasRoom, room_of};
 ghost use Rattle.ns_work_log.specs.Noting.{Begins, noted};
 
 use ns_log::{Entry, Owned};
-use ns_replies::answers::Room;
+use ns_replies::answers::AnswerRoom;
 use ns_types::refusal::Refusal;
 use ns_types::reply::Reply;
 use ns_types::step::Step;
@@ -33,11 +33,11 @@ pub fn with_room(
     alloc: Global,
     step: Owned<Step>,
     row: Option<&Worker>,
-) -> Result<(Owned<Step>, Room), Refusal>
+) -> Result<(Owned<Step>, AnswerRoom), Refusal>
     ensures room { IfOk result (λ made. made ≡ (step, room_of step (option_copied row.entry))) }
     ensures memory { IfErr result (λ refusal. refusal ≡ Refusal.Memory) }
 {
-    match Room::for_step(alloc, step.get(), row) {
+    match AnswerRoom::for_step(alloc, step.get(), row) {
         Ok(room) => Ok((step, room)),
         Err(_) => {
             drop(step);
@@ -63,7 +63,12 @@ pub fn is_of_steps(refusal: Refusal) -> bool
 }
 
 /// Adds the step with its answer, if it is the answer of a step.
-pub fn note(log: &mut Vec<Entry>, step: Owned<Step>, room: Room, answer: &Result<Reply, Refusal>)
+pub fn note(
+    log: &mut Vec<Entry>,
+    step: Owned<Step>,
+    room: AnswerRoom,
+    answer: &Result<Reply, Refusal>,
+)
     requires place { vec_len log.old < vec_capacity log.old }
     requires room { IfOk answer.now (λ reply. HasRoom room reply.content) }
     ensures { log.new.items ≡ noted step answer.now log.old.items }

@@ -7,7 +7,7 @@ ghost use Rattle.ns_work_log.specs.Noting.{Begins};
 
 use crate::noting::{begin, with_room};
 use ns_log::{Entry, Owned};
-use ns_replies::answers::Room;
+use ns_replies::answers::AnswerRoom;
 use ns_steps::work::{Work, step_of};
 use ns_types::refusal::Refusal;
 use ns_types::step::Step;
@@ -24,7 +24,7 @@ pub(crate) fn prepare_work(
     worker: u64,
     namespace: &Text,
     row: Option<&Worker>,
-) -> Result<(Owned<Step>, Room), Refusal>
+) -> Result<(Owned<Step>, AnswerRoom), Refusal>
     requires { length log.old.items ≤ limit }
     ensures begins { Begins (length log.old.items) limit result }
     ensures same { log.new.items ≡ log.old.items }
@@ -43,7 +43,7 @@ pub(crate) fn prepare_write(
     log: &mut Vec<Entry>,
     limit: u64,
     step: Owned<Step>,
-) -> Result<(Owned<Step>, Room), Refusal>
+) -> Result<(Owned<Step>, AnswerRoom), Refusal>
     requires { length log.old.items ≤ limit }
     ensures begins { Begins (length log.old.items) limit result }
     ensures same { log.new.items ≡ log.old.items }

@@ -17,7 +17,7 @@ use crate::preparing::prepare_write;
 use crate::rendering::{rendered_anew, rendered_in, response, shared_with};
 use ns_core::Core;
 use ns_log::{Entry, Owned};
-use ns_replies::answers::{Room, may_change};
+use ns_replies::answers::{AnswerRoom, may_change};
 use ns_types::refusal::Refusal;
 use ns_types::reply::{Rendered, Reply, Response};
 use ns_types::step::Step;
@@ -26,15 +26,15 @@ use std::alloc::{AllocError, Global};
 /// Room for the answer of a step that a request asks for: in the log, and for its copies, a receipt's and the response's.
 #[derive(Drop)]
 struct Rooms {
-    entry: Room,
-    receipt: Room,
-    response: Room,
+    entry: AnswerRoom,
+    receipt: AnswerRoom,
+    response: AnswerRoom,
     ghost receipt_is: { receipt ≡ copy_room entry },
     ghost response_is: { response ≡ copy_room entry },
 }
 
 /// Rooms like that in the log for the copies of the answer.
-fn with_copies(alloc: Global, entry: Room) -> Result<Rooms, AllocError>
+fn with_copies(alloc: Global, entry: AnswerRoom) -> Result<Rooms, AllocError>
     ensures { IfOk result (λ rooms. rooms.entry ≡ entry) }
 {
     let receipt = entry.for_copy(alloc)?;

@@ -9,14 +9,14 @@ ghost use Rattle.ns_work_log.specs.Rendered.{IsGiven, rendered_step};
 
 use crate::noting::is_of_steps;
 use ns_log::Owned;
-use ns_replies::answers::{Room, refused, render};
+use ns_replies::answers::{AnswerRoom, refused, render};
 use ns_types::refusal::Refusal;
 use ns_types::reply::{Rendered, Reply, Response};
 use ns_types::shared::Shared;
 use std::alloc::{AllocError, Global};
 
 /// The answer in the room that was taken for it, if it is the answer of a step. It takes no memory.
-pub fn rendered_in(room: Room, answer: &Result<Reply, Refusal>) -> Option<Rendered>
+pub fn rendered_in(room: AnswerRoom, answer: &Result<Reply, Refusal>) -> Option<Rendered>
     requires { IfOk answer.now (λ reply. HasRoom room reply.content) }
     ensures shown { result ≡ rendered_step answer.now }
     ensures fits { IfSome result (λ shown. length shown.body ≤ answer_bytes room) }

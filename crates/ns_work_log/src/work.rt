@@ -13,7 +13,7 @@ use crate::held::Held;
 use crate::noting::note;
 use crate::preparing::prepare_work;
 use ns_log::{Entry, Owned};
-use ns_replies::answers::Room;
+use ns_replies::answers::AnswerRoom;
 use ns_steps::work::Work;
 use ns_types::planned::Planned;
 use ns_types::refusal::Refusal;
@@ -41,7 +41,7 @@ pub fn snapped(seen: &Result<Shared<Snapshot>, Refusal>) -> Result<Reply, Refusa
 fn note_snapped(
     log: &mut Vec<Entry>,
     step: Owned<Step>,
-    room: Room,
+    room: AnswerRoom,
     seen: &Result<Shared<Snapshot>, Refusal>,
 )
     requires place { vec_len log.old < vec_capacity log.old }

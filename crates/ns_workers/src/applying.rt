@@ -10,7 +10,7 @@ use crate::pausing::pause;
 use ns_log::segments::Segment;
 use ns_types::refusal::Refusal;
 use ns_types::reply::Reply;
-use ns_work_lock::{ApplierView, Moment, Planner, Retention, Role, Seat, Shared, Waits};
+use ns_work_lock::{ApplierView, Moment, Planner, Retention, Role, Seat, Shared, WaitsFor};
 use std::alloc::Global;
 use std::rt::Clock;
 use std::sync::Wait;
@@ -91,7 +91,7 @@ fn await_plan<L: Ledger, R: Wait>(rt: &R, shared: &Shared<L>, seen: Moment) -> b
     if is_over(seen) {
         return false;
     }
-    shared.wait_past(rt, Waits::ForPlans, seen);
+    shared.wait_past(rt, WaitsFor::ForPlans, seen);
     true
 }
 

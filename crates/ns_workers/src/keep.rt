@@ -19,9 +19,9 @@ pub trait Keep {
 
 /// Needs none.
 #[derive(Clone, Copy)]
-pub struct Nowhere;
+pub struct KeepsNothing;
 
-impl Keep for Nowhere {
+impl Keep for KeepsNothing {
     ghost takes = { λ _ _ _. Unit {0} };
 
     fn keep(&mut self, _alloc: Global, segment: Segment) -> Option<Segment> {

@@ -12,5 +12,5 @@ mod working;
 
 pub use applying::applier;
 pub use gate::{Gate, Open, Point};
-pub use keep::{Keep, Nowhere};
+pub use keep::{Keep, KeepsNothing};
 pub use working::worker;

@@ -11,7 +11,7 @@ use ns_types::key::EvalKey;
 use ns_types::planned::Planned;
 use ns_types::text::Text;
 use ns_types::worker::Phase;
-use ns_work_lock::{Busy, Moment, Retention, Seat, Shared, WORKERS_END, Waits};
+use ns_work_lock::{BusyWorker, Moment, Retention, Seat, Shared, WORKERS_END, WaitsFor};
 use std::alloc::Global;
 use std::sync::Wait;
 use std::sync::ledger::Ledger;
@@ -55,7 +55,7 @@ impl<'a, L: Ledger, G: Gate, R: Wait> Post<'a, L, G, R> {
             return Err(Halt::Ends);
         }
         let Some(key) = next else {
-            self.shared.wait_past(self.rt, Waits::ForWork, seen);
+            self.shared.wait_past(self.rt, WaitsFor::ForWork, seen);
             return Ok(());
         };
         self.dequeue(seat, key)?;
@@ -165,7 +165,7 @@ impl<'a, L: Ledger, G: Gate, R: Wait> Post<'a, L, G, R> {
         if seen.applier_left {
             return Err(Halt::Ends);
         }
-        self.shared.wait_past(self.rt, Waits::ForApply, seen);
+        self.shared.wait_past(self.rt, WaitsFor::ForApply, seen);
         Ok(())
     }
 
@@ -174,7 +174,7 @@ impl<'a, L: Ledger, G: Gate, R: Wait> Post<'a, L, G, R> {
         &self,
         seat: &mut Seat<L, M>,
         kept: &mut Kept,
-        busy: &Busy,
+        busy: &BusyWorker,
         seen: Moment,
     ) -> Result<(), Halt>
         ensures { Grows (IsOfWorker self.now.number) seat.old seat.new }

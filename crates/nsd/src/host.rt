@@ -5,13 +5,13 @@ ghost use Rattle.ns_pipe.specs.Ending.{uncounted};
 ghost use Rattle.nsd.specs.Hosting.{EndsHosted};
 ghost use Rattle.ns_command_line.specs.Outcome.{IfServe, MatchOutcome};
 
-use ns_command_line::Outcome;
+use ns_command_line::RunEnd;
 use ns_endpoints::Draws;
 use ns_entropy::{Random, generators};
 use ns_faults::print_fault;
 use ns_http::Counted;
 use ns_listener::{Service, serve};
-use ns_pipe::{Ended, Nowhere};
+use ns_pipe::{EndedRun, Nowhere};
 use ns_work_lock::PARTS;
 use rand::rngs::StdRng;
 use std::alloc::Global;
@@ -65,7 +65,7 @@ pub fn conclude<
     R: Drop,
     W: Write + Drop,
     E: Write,
->(rt: &T, alloc: Global, outcome: Outcome<R, W>, errors: &mut Counted<E>) -> Ended<R, W>
+>(rt: &T, alloc: Global, outcome: RunEnd<R, W>, errors: &mut Counted<E>) -> EndedRun<R, W>
     requires { IfServe outcome (λ service. service.connections ≤ 64) }
     ensures { let draws = ⟦<Random<StdRng> as Draws>⟧.draws in MatchOutcome outcome
         (λ ended. (result ≡ ended) × (errors.new ≡ errors.old))
@@ -74,10 +74,10 @@ pub fn conclude<
         result.status (uncounted writer) result.writer errors.old errors.new) }
 {
     match outcome {
-        Outcome::Ended(ended) => ended,
-        Outcome::Serve(service, reader, writer) => {
+        RunEnd::Ended(ended) => ended,
+        RunEnd::Serve(service, reader, writer) => {
             let (status, writer) = host(rt, alloc, &service, Counted::new(writer), errors);
-            Ended {
+            EndedRun {
                 status,
                 reader: Counted::new(reader),
                 writer,

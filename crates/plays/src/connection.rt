@@ -1,6 +1,6 @@
 //! One connection with a new server, of which the replies or the log are shown.
 
-use crate::ended::Ended;
+use crate::ended::PlayEnd;
 use crate::same_bytes::SameBytes;
 use crate::words::{BAD_HEAD, ROOT, first_word};
 use anyhow::Context;
@@ -34,7 +34,7 @@ fn spaced(alloc: Global, text: &str, name: &str) -> anyhow::Result<String> {
 
 /// Serves the requests, for the replies. The words are the bootstrap secret, the step of the draws, and a name, before which stands
 /// `driven` where a worker is driven, or `spaces` with a number where so many spaces follow the requests.
-pub fn serve(alloc: Global, words: &str, requests: &str) -> anyhow::Result<Ended> {
+pub fn serve(alloc: Global, words: &str, requests: &str) -> anyhow::Result<PlayEnd> {
     let (secret, words) = first_word(words);
     let (step, name) = first_word(words);
     let bootstrap = Secret::read(alloc, secret)?.context(BAD_HEAD)?;
@@ -57,7 +57,7 @@ pub fn serve(alloc: Global, words: &str, requests: &str) -> anyhow::Result<Ended
         &mut writer,
         &mut errors,
     );
-    Ok(Ended {
+    Ok(PlayEnd {
         status,
         written: writer.into_inner(),
         errors: errors.into_inner(),
@@ -65,7 +65,7 @@ pub fn serve(alloc: Global, words: &str, requests: &str) -> anyhow::Result<Ended
 }
 
 /// Serves the requests, for their log. Each draw is the same.
-pub fn log_of(alloc: Global, requests: &str, driven: Driven) -> anyhow::Result<Ended> {
+pub fn log_of(alloc: Global, requests: &str, driven: Driven) -> anyhow::Result<PlayEnd> {
     let bootstrap = Secret::read(alloc, ROOT)?.context("no secret")?;
     let mut next = 1;
     let mut errors = Counted::new(Vec::new(alloc));
@@ -86,7 +86,7 @@ pub fn log_of(alloc: Global, requests: &str, driven: Driven) -> anyhow::Result<E
         &mut writer,
         &mut errors,
     );
-    Ok(Ended {
+    Ok(PlayEnd {
         status,
         written: writer.into_inner(),
         errors: errors.into_inner(),
@@ -94,6 +94,6 @@ pub fn log_of(alloc: Global, requests: &str, driven: Driven) -> anyhow::Result<E
 }
 
 /// The same by a head, whose words are a name, before which stands `driven` where a worker is driven.
-pub fn log(alloc: Global, name: &str, requests: &str) -> anyhow::Result<Ended> {
+pub fn log(alloc: Global, name: &str, requests: &str) -> anyhow::Result<PlayEnd> {
     log_of(alloc, requests, driven_of(name))
 }

@@ -4,13 +4,13 @@ use std::io::Write;
 
 /// The exit status, what was written, and what was written of faults.
 #[derive(Drop)]
-pub struct Ended {
+pub struct PlayEnd {
     pub status: u8,
     pub written: Vec<u8>,
     pub errors: Vec<u8>,
 }
 
-impl Ended {
+impl PlayEnd {
     /// Writes what was written, the exit status on a line of its own, and what was written of faults.
     pub fn print<W: Write>(&self, out: &mut W) -> anyhow::Result<()> {
         let status = self.status;

@@ -18,7 +18,7 @@ pub enum Line<'a> {
 
 /// A worker's step in a namespace.
 #[derive(Clone, Copy)]
-pub enum Work {
+pub enum ScriptWork {
     Dequeue(u64),
     Snap,
     /// The plan of the snapshot that was taken at that place in the script is handed in, or of the worker's last.
@@ -33,7 +33,7 @@ pub enum Work {
 #[derive(Clone, Copy)]
 pub enum Call<'a> {
     /// The worker, and the namespace.
-    Work(u64, &'a str, Work),
+    Work(u64, &'a str, ScriptWork),
     Served,
     Planned,
     Phase(u64),
@@ -72,15 +72,15 @@ fn looks_in(text: &str) -> Option<(u64, &str, &str)> {
     }
 }
 
-impl Work {
-    fn read(word: &str, rest: &str) -> Option<Work> {
+impl ScriptWork {
+    fn read(word: &str, rest: &str) -> Option<ScriptWork> {
         match word {
-            "dequeue" => Some(Work::Dequeue(number(rest)?)),
-            "snap" if rest.is_empty() => Some(Work::Snap),
-            "submit" => Some(Work::Submit(place(rest)?)),
-            "apply" if rest.is_empty() => Some(Work::Apply),
-            "finish" => Some(Work::Finish(place(rest)?)),
-            "nack" if rest.is_empty() => Some(Work::Nack),
+            "dequeue" => Some(ScriptWork::Dequeue(number(rest)?)),
+            "snap" if rest.is_empty() => Some(ScriptWork::Snap),
+            "submit" => Some(ScriptWork::Submit(place(rest)?)),
+            "apply" if rest.is_empty() => Some(ScriptWork::Apply),
+            "finish" => Some(ScriptWork::Finish(place(rest)?)),
+            "nack" if rest.is_empty() => Some(ScriptWork::Nack),
             _ => None,
         }
     }
@@ -98,7 +98,7 @@ impl<'a> Call<'a> {
             }
             _ => {
                 let (worker, namespace, rest) = worker_in(rest)?;
-                Some(Call::Work(worker, namespace, Work::read(word, rest)?))
+                Some(Call::Work(worker, namespace, ScriptWork::read(word, rest)?))
             }
         }
     }

@@ -12,7 +12,7 @@ use std::io::{self, Write};
 /// What they are asked about: what a secret may do, whether a namespace has a pool and the quota `qa` to itself, and whether there is
 /// room for a step.
 #[derive(Drop)]
-pub struct Asked {
+pub struct LookTargets {
     secret: Text,
     namespace: Text,
     pools: [Text; 1],
@@ -20,10 +20,10 @@ pub struct Asked {
     step: Step,
 }
 
-impl Asked {
-    pub fn new(alloc: Global, namespace: &str, pool: &str) -> Result<Asked, AllocError> {
+impl LookTargets {
+    pub fn new(alloc: Global, namespace: &str, pool: &str) -> Result<LookTargets, AllocError> {
         let step = Step::Snap(0, Text::from_str(alloc, namespace)?);
-        Ok(Asked {
+        Ok(LookTargets {
             secret: Text::from_str(alloc, ROOT)?,
             namespace: Text::from_str(alloc, namespace)?,
             pools: [Text::from_str(alloc, pool)?],
@@ -67,8 +67,8 @@ fn busy_with(core: &Core, worker: u64, namespace: &Text) -> u64 {
 
 impl Looked {
     /// Each call once.
-    fn at(core: &Core, asked: &Asked) -> Looked {
-        let Asked {
+    fn at(core: &Core, asked: &LookTargets) -> Looked {
+        let LookTargets {
             secret,
             namespace,
             pools,
@@ -113,7 +113,7 @@ impl Looked {
 pub fn write_looks<W: Write>(
     out: &mut W,
     core: &Core,
-    asked: &Asked,
+    asked: &LookTargets,
     times: u64,
 ) -> anyhow::Result<()> {
     let first = Looked::at(core, asked);

@@ -1,7 +1,7 @@
 //! A long log: that of requests which are made over and over, with what a driven worker does after each.
 
 use crate::connection::log_of;
-use crate::ended::Ended;
+use crate::ended::PlayEnd;
 use crate::replayed::alone;
 use crate::words::{BAD_HEAD, first_word};
 use anyhow::Context;
@@ -40,7 +40,7 @@ fn last_line(text: &str) -> anyhow::Result<(u64, &str)> {
 
 /// Replays the log of the requests, for how many lines that prints, and the last of them. The words are the namespace, how many of
 /// the first entries make the base, how many rounds there are, and a name.
-pub fn rounds(alloc: Global, words: &str, text: &str) -> anyhow::Result<Ended> {
+pub fn rounds(alloc: Global, words: &str, text: &str) -> anyhow::Result<PlayEnd> {
     let (_namespace, rest) = first_word(words);
     let (_from, rest) = first_word(rest);
     let (times, _name) = first_word(rest);
@@ -48,7 +48,7 @@ pub fn rounds(alloc: Global, words: &str, text: &str) -> anyhow::Result<Ended> {
     let requests = repeated(alloc, text, times)?;
     let logged = log_of(alloc, requests.as_str(), Driven::Worker)?;
     let replayed = alone(alloc, words, logged.written.as_slice())?;
-    let Ended {
+    let PlayEnd {
         status,
         written,
         errors,
@@ -56,7 +56,7 @@ pub fn rounds(alloc: Global, words: &str, text: &str) -> anyhow::Result<Ended> {
     let text = String::from_utf8(written).ok().context("no text")?;
     let (lines, last) = last_line(text.as_str())?;
     let written = format!(in alloc; "{lines} lines, the last: {last}")?.into_bytes();
-    Ok(Ended {
+    Ok(PlayEnd {
         status,
         written,
         errors,

@@ -1,6 +1,6 @@
 //! A log, of which a namespace's own part is replayed alone.
 
-use crate::ended::Ended;
+use crate::ended::PlayEnd;
 use crate::words::{BAD_HEAD, first_word};
 use anyhow::Context;
 use ns_http::Counted;
@@ -36,13 +36,13 @@ fn replay_of(alloc: Global, words: &str) -> anyhow::Result<Replay> {
 }
 
 /// Replays the log by the words.
-pub fn alone(alloc: Global, words: &str, log: &[u8]) -> anyhow::Result<Ended> {
+pub fn alone(alloc: Global, words: &str, log: &[u8]) -> anyhow::Result<PlayEnd> {
     let replay = replay_of(alloc, words)?;
     let mut errors = Counted::new(Vec::new(alloc));
     let mut reader = Counted::new(log);
     let mut writer = Counted::new(Vec::new(alloc));
     let status = print_replay(alloc, &replay, &mut reader, &mut writer, &mut errors);
-    Ok(Ended {
+    Ok(PlayEnd {
         status,
         written: writer.into_inner(),
         errors: errors.into_inner(),

@@ -2,11 +2,11 @@
 
 use crate::answers::{write_key, write_phase, write_refusal, write_response, write_snapped};
 use crate::lent::answered;
-use crate::line::{Call, Line, Work};
-use crate::looks::{Asked, write_looks};
-use crate::steps::Step;
+use crate::line::{Call, Line, ScriptWork};
+use crate::looks::{LookTargets, write_looks};
+use crate::steps::ScriptStep;
 use crate::taken::Snapshots;
-use crate::watch::Watch;
+use crate::watch::CopyWatch;
 use crate::words::ROOT;
 use anyhow::Context;
 use ns_core::Core;
@@ -21,7 +21,7 @@ use std::alloc::{AllocError, Global};
 use std::io::Write;
 
 #[derive(Drop)]
-struct Server<'a> {
+struct ScriptServer<'a> {
     alloc: Global,
     core: Core,
     /// That of the requests that follow.
@@ -29,7 +29,7 @@ struct Server<'a> {
     /// The byte that is drawn next.
     next: u8,
     seen: Snapshots,
-    watch: Watch<'a>,
+    watch: CopyWatch<'a>,
 }
 
 fn is_done(answer: &Result<Response, AllocError>) -> bool {
@@ -43,17 +43,17 @@ fn is_unanswered(answer: &Result<Response, AllocError>) -> bool {
     }
 }
 
-impl<'a> Server<'a> {
-    fn new(alloc: Global) -> anyhow::Result<Server<'a>> {
+impl<'a> ScriptServer<'a> {
+    fn new(alloc: Global) -> anyhow::Result<ScriptServer<'a>> {
         let root = Secret::read(alloc, ROOT)?.context("a bad secret")?;
         let core = Core::new(alloc, &root)?;
-        Ok(Server {
+        Ok(ScriptServer {
             alloc,
             core,
             token: Some(ROOT.as_bytes()),
             next: 1,
             seen: Snapshots::new(alloc),
-            watch: Watch::new(alloc),
+            watch: CopyWatch::new(alloc),
         })
     }
 
@@ -125,29 +125,29 @@ impl<'a> Server<'a> {
         &mut self,
         worker: u64,
         namespace: &Text,
-        work: Work,
+        work: ScriptWork,
         out: &mut W,
     ) -> anyhow::Result<()> {
         let alloc = self.alloc;
         match work {
-            Work::Dequeue(number) => {
-                let step = Step::Dequeue(number);
+            ScriptWork::Dequeue(number) => {
+                let step = ScriptStep::Dequeue(number);
                 step.tell(&mut self.core, &self.watch, alloc, worker, namespace, out)
             }
-            Work::Snap => self.snap(worker, namespace, out),
-            Work::Submit(place) => {
-                let step = Step::Submit(self.seen.find(worker, place)?);
+            ScriptWork::Snap => self.snap(worker, namespace, out),
+            ScriptWork::Submit(place) => {
+                let step = ScriptStep::Submit(self.seen.find(worker, place)?);
                 step.tell(&mut self.core, &self.watch, alloc, worker, namespace, out)
             }
-            Work::Apply => {
-                Step::Apply.tell(&mut self.core, &self.watch, alloc, worker, namespace, out)
+            ScriptWork::Apply => {
+                ScriptStep::Apply.tell(&mut self.core, &self.watch, alloc, worker, namespace, out)
             }
-            Work::Finish(place) => {
-                let step = Step::Finish(self.seen.find(worker, place)?);
+            ScriptWork::Finish(place) => {
+                let step = ScriptStep::Finish(self.seen.find(worker, place)?);
                 step.tell(&mut self.core, &self.watch, alloc, worker, namespace, out)
             }
-            Work::Nack => {
-                Step::Nack.tell(&mut self.core, &self.watch, alloc, worker, namespace, out)
+            ScriptWork::Nack => {
+                ScriptStep::Nack.tell(&mut self.core, &self.watch, alloc, worker, namespace, out)
             }
         }
     }
@@ -159,7 +159,7 @@ impl<'a> Server<'a> {
         pool: &str,
         out: &mut W,
     ) -> anyhow::Result<()> {
-        let asked = Asked::new(self.alloc, namespace, pool)?;
+        let asked = LookTargets::new(self.alloc, namespace, pool)?;
         let written = write_looks(out, &self.core, &asked, times);
         drop(asked);
         written
@@ -206,7 +206,7 @@ impl<'a> Server<'a> {
 
 /// Plays the lines of a script with a new server.
 pub fn script<W: Write>(alloc: Global, lines: &str, out: &mut W) -> anyhow::Result<()> {
-    let mut server = Server::new(alloc)?;
+    let mut server = ScriptServer::new(alloc)?;
     let played = server.play(lines, out);
     drop(server);
     played

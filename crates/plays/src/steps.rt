@@ -1,7 +1,7 @@
 //! The steps of workers that are answered by a reply.
 
 use crate::answers::write_reply;
-use crate::watch::Watch;
+use crate::watch::CopyWatch;
 use ns_core::Core;
 use ns_schedule::plan;
 use ns_types::refusal::Refusal;
@@ -14,7 +14,7 @@ use std::io::Write;
 
 /// A step, with the snapshot that it needs.
 #[derive(Clone, Copy)]
-pub enum Step<'a> {
+pub enum ScriptStep<'a> {
     Dequeue(u64),
     /// The plan of the snapshot is made and handed in.
     Submit(&'a Shared<Snapshot>),
@@ -38,7 +38,7 @@ fn finished(
     answer
 }
 
-impl Step<'_> {
+impl ScriptStep<'_> {
     fn make(
         self,
         core: &mut Core,
@@ -47,11 +47,11 @@ impl Step<'_> {
         namespace: &Text,
     ) -> Result<Reply, Refusal> {
         match self {
-            Step::Dequeue(number) => core.dequeue(worker, namespace, number),
-            Step::Submit(seen) => core.submit(worker, namespace, plan(alloc, seen.share()?)?),
-            Step::Apply => core.apply(worker, namespace),
-            Step::Finish(seen) => finished(core, alloc, worker, namespace, seen),
-            Step::Nack => core.nack(worker, namespace),
+            ScriptStep::Dequeue(number) => core.dequeue(worker, namespace, number),
+            ScriptStep::Submit(seen) => core.submit(worker, namespace, plan(alloc, seen.share()?)?),
+            ScriptStep::Apply => core.apply(worker, namespace),
+            ScriptStep::Finish(seen) => finished(core, alloc, worker, namespace, seen),
+            ScriptStep::Nack => core.nack(worker, namespace),
         }
     }
 
@@ -59,7 +59,7 @@ impl Step<'_> {
     pub fn tell<W: Write>(
         self,
         core: &mut Core,
-        watch: &Watch<'_>,
+        watch: &CopyWatch<'_>,
         alloc: Global,
         worker: u64,
         namespace: &Text,

@@ -31,7 +31,7 @@ fn signal(alloc: Global, size: usize) -> Result<(), AllocError> {
 
 /// The targets of reads by which both are compared, beside all that workers and lists show. Without one nothing is copied.
 #[derive(Drop)]
-pub struct Watch<'a> {
+pub struct CopyWatch<'a> {
     alloc: Global,
     targets: Vec<&'a str>,
 }
@@ -108,9 +108,9 @@ fn same_snapshots(before: &Core, core: &Core) -> bool {
     true
 }
 
-impl<'a> Watch<'a> {
-    pub fn new(alloc: Global) -> Watch<'a> {
-        Watch {
+impl<'a> CopyWatch<'a> {
+    pub fn new(alloc: Global) -> CopyWatch<'a> {
+        CopyWatch {
             alloc,
             targets: Vec::new(alloc),
         }

@@ -76,7 +76,12 @@ fn intrudes(other: &Namespace, pools: &[Text], quotas: &[Text]) -> bool
     permits_any(other, pools) || has_name(pools, &other.default_pool) || names_any(other, quotas)
 }
 
-fn other_intrudes(slot: &NameSlot<TenantRows>, namespace: &Text, pools: &[Text], quotas: &[Text]) -> bool
+fn other_intrudes(
+    slot: &NameSlot<TenantRows>,
+    namespace: &Text,
+    pools: &[Text],
+    quotas: &[Text],
+) -> bool
     ensures { result ≡ at_slot (other_intrudes namespace.now pools.now quotas.now) slot.now }
 {
     match &slot.1 {
@@ -87,7 +92,12 @@ fn other_intrudes(slot: &NameSlot<TenantRows>, namespace: &Text, pools: &[Text],
     }
 }
 
-fn some_intrudes(slots: &[NameSlot<TenantRows>], namespace: &Text, pools: &[Text], quotas: &[Text]) -> bool
+fn some_intrudes(
+    slots: &[NameSlot<TenantRows>],
+    namespace: &Text,
+    pools: &[Text],
+    quotas: &[Text],
+) -> bool
     ensures { result ≡ list_any (at_slot (other_intrudes namespace.now pools.now quotas.now)) slots.now }
 {
     slots

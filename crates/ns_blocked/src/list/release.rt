@@ -2,7 +2,7 @@
 
 ghost use Rattle.std.specs.Prelude.{◌≡◌, IfOk, List, OnErr, OnOk};
 ghost use Rattle.ns_blocked.specs.Blocked.{CanAdd, entries_of};
-ghost use Rattle.ns_blocked.specs.declared.entry.Entry.{Entry};
+ghost use Rattle.ns_blocked.specs.declared.entry.BlockedEvaluation.{BlockedEvaluation};
 ghost use Rattle.ns_blocked.specs.Waking.{AreKeysAt, ArePassing, ArePresent, IsLeftWithout};
 ghost use Rattle.ns_blocked.specs.Waking.{is_woken, keys_of_passing, wakes_of_pool};
 ghost use Rattle.ns_blocked.specs.Waking.{wakes_of_quota, without_passing, woken_by};
@@ -36,7 +36,7 @@ impl BlockedList {
         ensures rest { OnOk result (entries_of self.new
             ≡ without_passing (is_woken releases.now) (entries_of self.old)) }
         ensures err { OnErr result (self.new ≡ self.old) }
-        ensures room { (es : List Entry) → CanAdd es self.old → CanAdd es self.new }
+        ensures room { (es : List BlockedEvaluation) → CanAdd es self.old → CanAdd es self.new }
     {
         let places = self.find_woken(releases)?;
         self.take_places(places)
@@ -53,7 +53,7 @@ impl BlockedList {
         ensures rest { OnOk result (entries_of self.new
             ≡ without_passing (wakes_of_pool pool.now classes.now) (entries_of self.old)) }
         ensures err { OnErr result (self.new ≡ self.old) }
-        ensures room { (es : List Entry) → CanAdd es self.old → CanAdd es self.new }
+        ensures room { (es : List BlockedEvaluation) → CanAdd es self.old → CanAdd es self.new }
     {
         let places = self.find_in_pool(pool, classes)?;
         self.take_places(places)
@@ -66,7 +66,7 @@ impl BlockedList {
         ensures rest { OnOk result (entries_of self.new
             ≡ without_passing (wakes_of_quota quota.now) (entries_of self.old)) }
         ensures err { OnErr result (self.new ≡ self.old) }
-        ensures room { (es : List Entry) → CanAdd es self.old → CanAdd es self.new }
+        ensures room { (es : List BlockedEvaluation) → CanAdd es self.old → CanAdd es self.new }
     {
         let places = self.find_of_quota(quota)?;
         self.take_places(places)
@@ -120,7 +120,7 @@ impl BlockedList {
         ensures woken { IfOk result (λ keys. AreKeysAt places.keys self.old keys.items) }
         ensures rest { OnOk result (IsLeftWithout places.keys self.old self.new) }
         ensures err { OnErr result (self.new ≡ self.old) }
-        ensures room { (es : List Entry) → CanAdd es self.old → CanAdd es self.new }
+        ensures room { (es : List BlockedEvaluation) → CanAdd es self.old → CanAdd es self.new }
     {
         let mut keys = Vec::with_capacity(self.alloc, places.len())?;
         while let Some(place) = places.pop_last() {

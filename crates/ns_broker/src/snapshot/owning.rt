@@ -7,7 +7,7 @@ ghost use Rattle.ns_broker.specs.Seen.{is_own, own_at};
 ghost use Rattle.ns_tables.specs.Filing.{slots_at};
 ghost use Rattle.ns_tables.specs.World.{tenant_of};
 
-use keyed::NumberTable;
+use keyed::{NumberSlot, NumberTable};
 use ns_change::copied_allocation;
 use ns_equality::{same_number, same_text};
 use ns_tables::TenantRows;
@@ -69,7 +69,7 @@ fn own_at_numbers(
     id: &Text,
     job: Option<&Job>,
     allocations: &NumberTable<Allocation>,
-    slots: &[(u64, Option<()>)],
+    slots: &[NumberSlot<()>],
 ) -> Result<Rows<OwnAllocation>, AllocError>
     ensures { IfOk result (λ own. own ≡ flat_map (own_at id.now (option_copied job.entry))
         (slots_at allocations.now slots.now)) }

@@ -8,7 +8,7 @@ ghost use Rattle.ns_live_index.specs.Index.{IsRight};
 ghost use Rattle.ns_broker.specs.Seen.{add_namespace, add_number, add_seen, seen_row};
 ghost use Rattle.ns_tables.specs.World.{world_of};
 
-use keyed::{KeySet, NumberTable};
+use keyed::{KeySet, NameSlot, NumberSlot, NumberTable};
 use ns_live_index::Live;
 use ns_tables::Tables;
 use ns_types::allocation::Allocation;
@@ -68,7 +68,7 @@ fn add_number(
     seen: &mut ByPlace,
     namespace: &Shared<Text>,
     allocations: &NumberTable<Allocation>,
-    slot: &(u64, Option<()>),
+    slot: &NumberSlot<()>,
 ) -> Result<(), AllocError>
     ensures { OnOk result (rows seen.new
         ≡ add_number namespace.now allocations.now (rows seen.old) slot.now) }
@@ -86,7 +86,7 @@ fn add_numbers(
     seen: &mut ByPlace,
     namespace: &Shared<Text>,
     allocations: &NumberTable<Allocation>,
-    slots: &[(u64, Option<()>)],
+    slots: &[NumberSlot<()>],
 ) -> Result<(), AllocError>
     ensures { OnOk result (rows seen.new
         ≡ fold (add_number namespace.now allocations.now) (rows seen.old) slots.now) }
@@ -100,7 +100,7 @@ fn add_numbers(
 fn add_namespace(
     seen: &mut ByPlace,
     tables: &Tables,
-    slot: &(Text, Option<NumberTable<()>>),
+    slot: &NameSlot<NumberTable<()>>,
 ) -> Result<(), AllocError>
     ensures { OnOk result (rows seen.new
         ≡ add_namespace tables.now.tenants (rows seen.old) slot.now) }
@@ -123,7 +123,7 @@ fn add_namespace(
 fn add_namespaces(
     seen: &mut ByPlace,
     tables: &Tables,
-    slots: &[(Text, Option<NumberTable<()>>)],
+    slots: &[NameSlot<NumberTable<()>>],
 ) -> Result<(), AllocError>
     ensures { OnOk result (rows seen.new
         ≡ fold (add_namespace tables.now.tenants) (rows seen.old) slots.now) }
@@ -137,7 +137,7 @@ fn add_namespaces(
 /// The rows of the slots, in their order.
 fn in_order(
     alloc: Global,
-    slots: Vec<(u64, Option<LiveAllocation>)>,
+    slots: Vec<NumberSlot<LiveAllocation>>,
 ) -> Result<Rows<LiveAllocation>, AllocError>
     ensures { IfOk result (λ shown. shown ≡ map (λ e. e.1) (row_list slots.items)) }
 {
@@ -151,7 +151,7 @@ fn in_order(
 }
 
 /// How many keys of these namespaces there are.
-fn count_keys(slots: &[(Text, Option<NumberTable<()>>)]) -> usize {
+fn count_keys(slots: &[NameSlot<NumberTable<()>>]) -> usize {
     let mut count: usize = 0;
     for slot in slots {
         if let Some(numbers) = &slot.1 {

@@ -7,7 +7,7 @@ use std::alloc::AllocError;
 
 /// How the replay of a log ended. Lines count from 1, and places count entries from 0.
 #[derive(Clone, Copy, PartialEq, Eq)]
-pub enum Ending {
+pub enum ReplayEnd {
     /// A server that holds the namespace alone answers its own steps as the log has them.
     Same,
     /// A line is not that of a log.
@@ -20,28 +20,28 @@ pub enum Ending {
     Differs(u64),
 }
 
-impl Ending {
+impl ReplayEnd {
     /// The exit status.
     pub fn status(self) -> u8
         ensures { result ≡ status_of self }
     {
         match self {
-            Ending::Same => 0,
-            Ending::NotARun(_) | Ending::PremiseFails(_) | Ending::Differs(_) => 1,
-            Ending::BadLine(_) => 2,
+            ReplayEnd::Same => 0,
+            ReplayEnd::NotARun(_) | ReplayEnd::PremiseFails(_) | ReplayEnd::Differs(_) => 1,
+            ReplayEnd::BadLine(_) => 2,
         }
     }
 }
 
 /// Adds the line of the ending.
-pub fn push_ending(text: &mut String, ending: Ending) -> Result<(), AllocError>
+pub fn push_ending(text: &mut String, ending: ReplayEnd) -> Result<(), AllocError>
     ensures { OnOk result (string_bytes text.new ≡ string_bytes text.old ++ last_line ending) }
 {
     match ending {
-        Ending::Same => text.push_str("same\n"),
-        Ending::BadLine(line) => writeln!(text, "bad log line {line}"),
-        Ending::NotARun(place) => writeln!(text, "not a run at {place}"),
-        Ending::PremiseFails(place) => writeln!(text, "premise fails at {place}"),
-        Ending::Differs(place) => writeln!(text, "differs at {place}"),
+        ReplayEnd::Same => text.push_str("same\n"),
+        ReplayEnd::BadLine(line) => writeln!(text, "bad log line {line}"),
+        ReplayEnd::NotARun(place) => writeln!(text, "not a run at {place}"),
+        ReplayEnd::PremiseFails(place) => writeln!(text, "premise fails at {place}"),
+        ReplayEnd::Differs(place) => writeln!(text, "differs at {place}"),
     }
 }

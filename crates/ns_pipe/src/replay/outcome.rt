@@ -6,7 +6,7 @@ ghost use Rattle.ns_pipe.specs.Outcome.{ComesTo, IsPrintout, ReplaysTo, ending_o
 
 use crate::replay::base::base_of;
 use crate::replay::claimed::claimed_in;
-use crate::replay::ending::{Ending, push_ending};
+use crate::replay::ending::{ReplayEnd, push_ending};
 use crate::replay::lines::own_lines;
 use crate::replay::replay::Replay;
 use ns_core::Core;
@@ -18,9 +18,9 @@ use std::alloc::{AllocError, Global};
 
 /// The lines of the namespace's own entries up to the first fault, and how the replay ended.
 #[derive(Drop)]
-struct Outcome {
+struct ReplayLines {
     lines: String,
-    ending: Ending,
+    ending: ReplayEnd,
 }
 
 /// Where the entry of the fault stands among those replayed.
@@ -37,14 +37,14 @@ fn place_of(fault: ReplayFault) -> u64
 
 /// How a replay ends by its fault, where the first entry stands at the place `first`. None: memory
 /// is wanting.
-fn ending_of(first: u64, fault: ReplayFault) -> Option<Ending>
+fn ending_of(first: u64, fault: ReplayFault) -> Option<ReplayEnd>
     requires { first + place_of fault < 2 ^ 64 }
     ensures { result ≡ ending_of first fault }
 {
     match fault {
-        ReplayFault::Premise(place) => Some(Ending::PremiseFails(first + place)),
-        ReplayFault::Differs(place) => Some(Ending::Differs(first + place)),
-        ReplayFault::NotARun(place) => Some(Ending::NotARun(first + place)),
+        ReplayFault::Premise(place) => Some(ReplayEnd::PremiseFails(first + place)),
+        ReplayFault::Differs(place) => Some(ReplayEnd::Differs(first + place)),
+        ReplayFault::NotARun(place) => Some(ReplayEnd::NotARun(first + place)),
         ReplayFault::Memory => None,
     }
 }
@@ -59,7 +59,7 @@ fn replay_from(
     namespace: &Text,
     pools: &[Text],
     quotas: &[Text],
-) -> Result<Outcome, AllocError>
+) -> Result<ReplayLines, AllocError>
     requires { first + length entries.now < 2 ^ 64 }
     ensures { IfOk result (λ o. ReplaysTo namespace.now pools.now quotas.now
         base.now first entries.now (string_bytes o.lines) o.ending) }
@@ -67,7 +67,7 @@ fn replay_from(
     let (end, ending) = match replay_alone(alloc, base, entries, namespace, pools, quotas) {
         Ok(replies) => {
             drop(replies);
-            (entries.len(), Ending::Same)
+            (entries.len(), ReplayEnd::Same)
         }
         Err(fault) => match ending_of(first, fault) {
             Some(ending) => (place_of(fault) as usize, ending),
@@ -75,7 +75,7 @@ fn replay_from(
         },
     };
     let lines = own_lines(alloc, first, &entries[..end], namespace, pools, quotas)?;
-    Ok(Outcome { lines, ending })
+    Ok(ReplayLines { lines, ending })
 }
 
 /// Replays the entries after those of the base, with the pools and the quotas that are named, or else with those that the
@@ -86,7 +86,7 @@ fn replay_behind(
     first: u64,
     entries: &[Entry],
     replay: &Replay,
-) -> Result<Outcome, AllocError>
+) -> Result<ReplayLines, AllocError>
     requires { first + length entries.now < 2 ^ 64 }
     ensures { IfOk result (λ o. ReplaysTo replay.now.namespace
         (pools_for replay.now base.now) (quotas_for replay.now base.now)
@@ -105,15 +105,15 @@ fn replay_behind(
 }
 
 /// What the bytes come to.
-fn outcome_of(alloc: Global, bytes: &[u8], replay: &Replay) -> Result<Outcome, AllocError>
+fn outcome_of(alloc: Global, bytes: &[u8], replay: &Replay) -> Result<ReplayLines, AllocError>
     ensures { IfOk result (λ o. ComesTo bytes.now replay.now (string_bytes o.lines) o.ending) }
 {
     let lines = String::new(alloc);
     let log = match log_read(alloc, bytes) {
         Ok(log) => log,
         Err(LogFault::Line(line)) => {
-            let ending = Ending::BadLine(line);
-            return Ok(Outcome { lines, ending });
+            let ending = ReplayEnd::BadLine(line);
+            return Ok(ReplayLines { lines, ending });
         }
         Err(LogFault::Memory) => return Err(AllocError),
     };
@@ -123,8 +123,8 @@ fn outcome_of(alloc: Global, bytes: &[u8], replay: &Replay) -> Result<Outcome, A
     match base_of(alloc, &log.secret, front) {
         Ok(base) => replay_behind(alloc, &base, first, rest, replay),
         Err(ReplayFault::NotARun(place)) => {
-            let ending = Ending::NotARun(place);
-            Ok(Outcome { lines, ending })
+            let ending = ReplayEnd::NotARun(place);
+            Ok(ReplayLines { lines, ending })
         }
         Err(_) => Err(AllocError),
     }
@@ -143,7 +143,7 @@ pub fn printout_of(alloc: Global, bytes: &[u8], replay: &Replay) -> Result<Print
         IsPrintout bytes.now replay.now (string_bytes printout.text) printout.status) }
     ensures status { IfOk result (λ printout. printout.status < 3) }
 {
-    let Outcome {
+    let ReplayLines {
         lines: mut text,
         ending,
     } = outcome_of(alloc, bytes, replay)?;

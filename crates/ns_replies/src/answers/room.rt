@@ -20,17 +20,17 @@ use std::marker::Model;
 /// Room for the answer of a step, which is taken before the step. Contracts see in how many bytes a body or the text
 /// of a refusal may be written, and the body that is to answer a new token.
 #[derive(Drop)]
-pub struct Room {
+pub struct AnswerRoom {
     text: String,
     token: Option<String>,
 }
 
-impl Model for Room {
+impl Model for AnswerRoom {
     ghost use Rattle.std.specs.Prelude.{◌≡◌, ◌≤◌, [], option_map};
     ghost use Rattle.std.specs.String.{string_bytes, string_capacity};
     ghost use Rattle.ns_replies.specs.Rooms;
 
-    ghost Value = { Rooms.Room };
+    ghost Value = { Rooms.AnswerRoom };
 
     ghost view = { λ room. record {
       bytes = string_capacity room.text;
@@ -59,9 +59,13 @@ fn token_body(alloc: Global, step: &Step) -> Result<Option<String>, AllocError>
     }
 }
 
-impl Room {
+impl AnswerRoom {
     /// Room for the answer of the step. The row is the worker's before the step, if it is a worker's step.
-    pub fn for_step(alloc: Global, step: &Step, row: Option<&Worker>) -> Result<Room, AllocError>
+    pub fn for_step(
+        alloc: Global,
+        step: &Step,
+        row: Option<&Worker>,
+    ) -> Result<AnswerRoom, AllocError>
         ensures { IfOk result (λ room. room ≡ room_of step.now (option_copied row.entry)) }
     {
         let Some(bytes) = step_bytes(step, row) else {
@@ -69,11 +73,11 @@ impl Room {
         };
         let token = token_body(alloc, step)?;
         let text = String::with_capacity(alloc, bytes)?;
-        Ok(Room { text, token })
+        Ok(AnswerRoom { text, token })
     }
 
     /// Room for a copy of an answer that this one has room for.
-    pub fn for_copy(&self, alloc: Global) -> Result<Room, AllocError>
+    pub fn for_copy(&self, alloc: Global) -> Result<AnswerRoom, AllocError>
         ensures { IfOk result (λ copy. copy ≡ copy_room self.now) }
     {
         let text_bytes = self.text.capacity();
@@ -82,7 +86,7 @@ impl Room {
             None => text_bytes,
         };
         let text = String::with_capacity(alloc, bytes)?;
-        Ok(Room { text, token: None })
+        Ok(AnswerRoom { text, token: None })
     }
 
     /// What the step was answered. It takes no memory.
@@ -92,7 +96,7 @@ impl Room {
         ensures shown { result ≡ rendered (Ok reply.now) }
         ensures fits { length result.body ≤ answer_bytes self }
     {
-        let Room { text, token } = self;
+        let AnswerRoom { text, token } = self;
         match &reply.content {
             Content::Token(_) => {
                 let Some(body) = token else { unreachable!() };
@@ -112,7 +116,7 @@ impl Room {
         ensures shown { result ≡ refused refusal }
         ensures fits { length result.body ≤ answer_bytes self }
     {
-        let Room { mut text, token } = self;
+        let AnswerRoom { mut text, token } = self;
         drop(token);
         let pushed = text.push_str(refusal.text());
         prove!(pushed.is_ok());
@@ -128,7 +132,7 @@ impl Room {
         requires { length shown.now.body ≤ self.bytes }
         ensures { result ≡ shown.now }
     {
-        let Room { mut text, token } = self;
+        let AnswerRoom { mut text, token } = self;
         drop(token);
         let pushed = text.push_str(shown.body.as_str());
         prove!(pushed.is_ok());

@@ -15,6 +15,7 @@ ghost use Rattle.ns_tables.specs.World.{pool_of};
 
 use crate::commit::clearing::clear_names;
 use crate::commit::owners::{Owner, commit_all, reserve_all};
+use crate::rooms::ReleasedClass;
 use keyed::{NameTable, OwnerTable};
 use ns_change::PoolChange;
 use ns_equality::{same_class, same_text};
@@ -24,11 +25,8 @@ use ns_types::rows::Rows;
 use ns_types::text::Text;
 use std::alloc::AllocError;
 
-/// A released class with its pool.
-type Room = (Text, Class);
-
 /// Whether a class of the pool is released.
-fn has_pool(rooms: &[Room], pool: &Text) -> bool
+fn has_pool(rooms: &[ReleasedClass], pool: &Text) -> bool
     ensures { result ≡ releases rooms.now pool.now }
 {
     rooms.iter().any(|room| same_text(pool, &room.0))
@@ -37,7 +35,7 @@ fn has_pool(rooms: &[Room], pool: &Text) -> bool
 // ---- room
 
 /// How many classes of the pool are released.
-fn count_classes(rooms: &[Room], pool: &Text) -> usize
+fn count_classes(rooms: &[ReleasedClass], pool: &Text) -> usize
     ensures { result ≡ length (filter (λ room. same_name pool.now room.0) rooms.now) }
 {
     rooms.iter().filter(|room| same_text(pool, &room.0)).count()
@@ -47,7 +45,7 @@ fn count_classes(rooms: &[Room], pool: &Text) -> usize
 fn reserve_classes_in(
     table: &mut OwnerTable<PoolRows>,
     name: &Text,
-    rooms: &[Room],
+    rooms: &[ReleasedClass],
 ) -> Result<(), AllocError>
     ensures rows { ChangesRow GainsClassRoom name.now table.old table.new }
     ensures room { OnOk result (IfSome (row_at table.new name.now)
@@ -62,7 +60,10 @@ fn reserve_classes_in(
 }
 
 /// Makes a place for each released class.
-fn reserve_classes(table: &mut OwnerTable<PoolRows>, rooms: &[Room]) -> Result<(), AllocError>
+fn reserve_classes(
+    table: &mut OwnerTable<PoolRows>,
+    rooms: &[ReleasedClass],
+) -> Result<(), AllocError>
     ensures pools { owners pool_of table.new ≡ owners pool_of table.old }
     ensures nodes { KeepsNodes table.old table.new }
     ensures room { OnOk result (HaveClassRoom rooms.now table.new) }
@@ -108,7 +109,7 @@ impl Owner<PoolChange> for PoolRows {
 pub(crate) fn reserve_pools(
     table: &mut OwnerTable<PoolRows>,
     changes: &NameTable<PoolChange>,
-    rooms: &[Room],
+    rooms: &[ReleasedClass],
 ) -> Result<(), AllocError>
     requires { CanRise (λ pool. pool.release) (releases rooms.now) table.old }
     ensures pools { owners pool_of table.new ≡ owners pool_of table.old }
@@ -132,7 +133,7 @@ fn raise_pool(table: &mut OwnerTable<PoolRows>, name: &Text)
 }
 
 /// Each pool of which classes are released has one more release.
-fn raise_pools(table: &mut OwnerTable<PoolRows>, rooms: &[Room])
+fn raise_pools(table: &mut OwnerTable<PoolRows>, rooms: &[ReleasedClass])
     requires { CanRise (λ pool. pool.release) (releases rooms.now) table.old }
     ensures { (name : Name) → row_at table.new name
         ≡ option_map (raised_pool (releases rooms.now name)) (row_at table.old name) }
@@ -168,7 +169,7 @@ fn put_class_in(table: &mut OwnerTable<PoolRows>, name: &Text, class: Class)
 }
 
 /// Each released class has the number of its pool's last release.
-fn put_classes(table: &mut OwnerTable<PoolRows>, rooms: Rows<Room>)
+fn put_classes(table: &mut OwnerTable<PoolRows>, rooms: Rows<ReleasedClass>)
     requires { HaveClassRoom rooms table.old }
     ensures pools { owners pool_of table.new ≡ numbered_pools rooms (owners pool_of table.old) }
     ensures nodes { KeepsNodes table.old table.new }
@@ -182,7 +183,7 @@ fn put_classes(table: &mut OwnerTable<PoolRows>, rooms: Rows<Room>)
 pub(crate) fn commit_pools(
     table: &mut OwnerTable<PoolRows>,
     changes: NameTable<PoolChange>,
-    rooms: Rows<Room>,
+    rooms: Rows<ReleasedClass>,
 )
     requires { HavePoolRoom changes rooms table.old }
     ensures { owners pool_of table.new ≡ settled_pools changes rooms (owners pool_of table.old) }

@@ -5,45 +5,45 @@ use Rattle.ns_pipe.specs.Asking.{IsHelp, IsMistake, IsNoConnection, IsNoReplay}
 use Rattle.ns_pipe.specs.Printing.{EndsPrinted}
 use Rattle.ns_pipe.specs.ReplayPrinting.{EndsAlone}
 use Rattle.ns_pipe.specs.declared.replay.replay.Replay.{Replay}
-use Rattle.ns_pipe.specs.declared.asked.Asked.{Asked}
+use Rattle.ns_pipe.specs.declared.asked.WordsRead.{WordsRead}
 use Rattle.ns_pipe.specs.declared.nowhere.Nowhere.{Nowhere}
 use Rattle.ns_pipe.specs.declared.printed.Printed.{Printed}
 use Rattle.ns_listener.specs.declared.service.Service.{Service}
-use Rattle.ns_command_line.specs.declared.outcome.Outcome.{Outcome}
-use Rattle.ns_command_line.specs.declared.wanted.Wanted.{Wanted}
+use Rattle.ns_command_line.specs.declared.outcome.RunEnd.{RunEnd}
+use Rattle.ns_command_line.specs.declared.wanted.Invocation.{Invocation}
 use Rattle.ns_command_line.proofs.run.run_words.Goals as goal
 
 -- what the words come to: a connection, a replay, or help, a mistake or no memory
-cases : (asked : Asked) →
-    ((secret : List ℕ) × (driven : Driven) × (printed : Printed) × (asked ≡ Asked.Pipe secret driven printed)) ⊎
-    ((replay : Replay) × (asked ≡ Asked.Alone replay)) ⊎
+cases : (asked : WordsRead) →
+    ((secret : List ℕ) × (driven : Driven) × (printed : Printed) × (asked ≡ WordsRead.Pipe secret driven printed)) ⊎
+    ((replay : Replay) × (asked ≡ WordsRead.Alone replay)) ⊎
     (IsNoConnection asked × IsNoReplay asked ×
-    (((text : List ℕ) × IsHelp asked text) ⊎ ((text : List ℕ) × IsMistake asked text) ⊎ (asked ≡ Asked.NoMemory)))
-cases (Asked.Pipe secret driven printed) = inl (secret, driven, printed, refl)
-cases (Asked.Alone replay) = inr (inl (replay, refl))
-cases (Asked.Help text) = inr (inr ((λ secret driven printed e. cc), (λ replay e. cc), inl (string_bytes text, refl)))
-cases (Asked.Mistake text) = inr (inr ((λ secret driven printed e. cc), (λ replay e. cc), inr (inl (string_bytes text, refl))))
-cases Asked.NoMemory = inr (inr ((λ secret driven printed e. cc), (λ replay e. cc), inr (inr refl)))
+    (((text : List ℕ) × IsHelp asked text) ⊎ ((text : List ℕ) × IsMistake asked text) ⊎ (asked ≡ WordsRead.NoMemory)))
+cases (WordsRead.Pipe secret driven printed) = inl (secret, driven, printed, refl)
+cases (WordsRead.Alone replay) = inr (inl (replay, refl))
+cases (WordsRead.Help text) = inr (inr ((λ secret driven printed e. cc), (λ replay e. cc), inl (string_bytes text, refl)))
+cases (WordsRead.Mistake text) = inr (inr ((λ secret driven printed e. cc), (λ replay e. cc), inr (inl (string_bytes text, refl))))
+cases WordsRead.NoMemory = inr (inr ((λ secret driven printed e. cc), (λ replay e. cc), inr (inr refl)))
 
-no_connection : (asked : Asked) → asked ≡ Asked.NoMemory → IsNoConnection asked
+no_connection : (asked : WordsRead) → asked ≡ WordsRead.NoMemory → IsNoConnection asked
 no_connection asked none secret driven printed e = cc
 
-no_replay : (asked : Asked) → asked ≡ Asked.NoMemory → IsNoReplay asked
+no_replay : (asked : WordsRead) → asked ≡ WordsRead.NoMemory → IsNoReplay asked
 no_replay asked none replay e = cc
 
-mistaken : (asked : Asked) (text : List ℕ) → IsMistake asked text → IsNoConnection asked × IsNoReplay asked
-mistaken (Asked.Pipe secret driven printed) text is = absurd is
-mistaken (Asked.Alone replay) text is = absurd is
-mistaken (Asked.Help help) text is = absurd is
-mistaken (Asked.Mistake reason) text is = ((λ secret driven printed e. cc), (λ replay e. cc))
-mistaken Asked.NoMemory text is = absurd is
+mistaken : (asked : WordsRead) (text : List ℕ) → IsMistake asked text → IsNoConnection asked × IsNoReplay asked
+mistaken (WordsRead.Pipe secret driven printed) text is = absurd is
+mistaken (WordsRead.Alone replay) text is = absurd is
+mistaken (WordsRead.Help help) text is = absurd is
+mistaken (WordsRead.Mistake reason) text is = ((λ secret driven printed e. cc), (λ replay e. cc))
+mistaken WordsRead.NoMemory text is = absurd is
 
-helped : (asked : Asked) (text : List ℕ) → IsHelp asked text → IsNoConnection asked × IsNoReplay asked
-helped (Asked.Pipe secret driven printed) text is = absurd is
-helped (Asked.Alone replay) text is = absurd is
-helped (Asked.Help help) text is = ((λ secret driven printed e. cc), (λ replay e. cc))
-helped (Asked.Mistake reason) text is = absurd is
-helped Asked.NoMemory text is = absurd is
+helped : (asked : WordsRead) (text : List ℕ) → IsHelp asked text → IsNoConnection asked × IsNoReplay asked
+helped (WordsRead.Pipe secret driven printed) text is = absurd is
+helped (WordsRead.Alone replay) text is = absurd is
+helped (WordsRead.Help help) text is = ((λ secret driven printed e. cc), (λ replay e. cc))
+helped (WordsRead.Mistake reason) text is = absurd is
+helped WordsRead.NoMemory text is = absurd is
 
 -- a status of no memory is no other
 not_zero : (status : ℕ) → status ≡ 5 → status ≡ 0 → ⊥
@@ -97,13 +97,13 @@ unreplayed remaining contents replay status reader reader' writer writer' is w =
 }
 
 -- the words ask for one thing
-same_run : (a b : Asked) → Wanted.Run a ≡ Wanted.Run b → a ≡ b
+same_run : (a b : WordsRead) → Invocation.Run a ≡ Invocation.Run b → a ≡ b
 same_run a b e = cc
 
-same_server : (s t : Service) → Wanted.Serve s ≡ Wanted.Serve t → s ≡ t
+same_server : (s t : Service) → Invocation.Serve s ≡ Invocation.Serve t → s ≡ t
 same_server s t e = cc
 
-not_run : (service : Service) (asked : Asked) → Wanted.Serve service ≡ Wanted.Run asked → ⊥
+not_run : (service : Service) (asked : WordsRead) → Invocation.Serve service ≡ Invocation.Run asked → ⊥
 not_run service asked e = cc
 
 pub returns-in-Run-clause-ended_or_served : goal.returns-in-Run-clause-ended_or_served
@@ -114,13 +114,13 @@ returns-in-Run-clause-ended_or_served g c =
         pipe.0,
         pipe.1,
         pipe.2,
-        c.in-Run.ensures.gives pipe.0 pipe.1 pipe.2 (ap Wanted.Run pipe.3),
+        c.in-Run.ensures.gives pipe.0 pipe.1 pipe.2 (ap Invocation.Run pipe.3),
         ran.pipe pipe.0 pipe.1 pipe.2 pipe.3,
       )
       | inr other ↦ inr (elim other [
         | inl alone ↦ inl (
           alone.0,
-          c.in-Run.ensures.gives_alone alone.0 (ap Wanted.Run alone.1),
+          c.in-Run.ensures.gives_alone alone.0 (ap Invocation.Run alone.1),
           ran.alone alone.0 alone.1,
         )
         | inr answered ↦ let unread = ran.unread answered.0 answered.1 in inr (elim answered.2 [
@@ -228,7 +228,7 @@ returns-in-Serve-clause-replayed g c = λ replay good.
 pub returns-in-Serve-clause-to_serve : goal.returns-in-Serve-clause-to_serve
 returns-in-Serve-clause-to_serve g c = λ service good.
     elim (c.in-Serve.ensures.good_serve service good) [
-      | inl is ↦ inl (ap (λ s. Outcome.Serve s c.args.reader c.args.writer) (same_server _ _ is))
+      | inl is ↦ inl (ap (λ s. RunEnd.Serve s c.args.reader c.args.writer) (same_server _ _ is))
       | inr is ↦ absurd (not_run _ _ is)
     ]
 

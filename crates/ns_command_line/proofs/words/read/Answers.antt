@@ -2,8 +2,8 @@ use Rattle.std.proofs.Common.{◌≡◌, ◌∙◌, ap, inl, inr, refl, subst, s
 use Rattle.clap.specs.Walk.{texts}
 use Rattle.clap.specs.Words.{subcommand_of}
 use Rattle.clap.specs.declared.error.kind.ErrorKind.{ErrorKind}
-use Rattle.ns_pipe.specs.declared.asked.Asked.{Asked}
-use Rattle.ns_command_line.specs.declared.wanted.Wanted.{Wanted}
+use Rattle.ns_pipe.specs.declared.asked.WordsRead.{WordsRead}
+use Rattle.ns_command_line.specs.declared.wanted.Invocation.{Invocation}
 use Rattle.ns_command_line.specs.Words.{IsWanted, IsWish, program_words}
 use Rattle.ns_command_line.proofs.Errors.{help_is_a_fault, only_help}
 use Rattle.ns_command_line.proofs.Wanting.{nothing_wanted}
@@ -32,15 +32,15 @@ returns-in-Ok-clause-gives_serve c = λ service e. record {
 
 pub returns-in-Ok-clause-good : goal.returns-in-Ok-clause-good
 returns-in-Ok-clause-good c = λ secret driven printed asks.
-    inl (c.in-Ok.ensures.good (Wanted.Run (Asked.Pipe secret driven printed)) asks.taken asks.gives).0
+    inl (c.in-Ok.ensures.good (Invocation.Run (WordsRead.Pipe secret driven printed)) asks.taken asks.gives).0
 
 pub returns-in-Ok-clause-good_alone : goal.returns-in-Ok-clause-good_alone
 returns-in-Ok-clause-good_alone c = λ replay asks.
-    inl (c.in-Ok.ensures.good (Wanted.Run (Asked.Alone replay)) asks.taken asks.gives).0
+    inl (c.in-Ok.ensures.good (Invocation.Run (WordsRead.Alone replay)) asks.taken asks.gives).0
 
 pub returns-in-Ok-clause-good_serve : goal.returns-in-Ok-clause-good_serve
 returns-in-Ok-clause-good_serve c = λ service asks.
-    inl (c.in-Ok.ensures.good (Wanted.Serve service) asks.taken asks.gives).0
+    inl (c.in-Ok.ensures.good (Invocation.Serve service) asks.taken asks.gives).0
 
 pub returns-in-Ok-clause-bad : goal.returns-in-Ok-clause-bad
 returns-in-Ok-clause-bad c = λ bad. elim bad [
@@ -60,18 +60,18 @@ returns-in-Err-clause-gives_alone c = λ replay e. absurd (c.help_or_mistake.ens
 
 pub returns-in-Err-clause-good : goal.returns-in-Err-clause-good
 returns-in-Err-clause-good c = λ secret driven printed asks.
-    let kind = (c.in-Err.ensures.good (Wanted.Run (Asked.Pipe secret driven printed)) asks.taken asks.gives).1 in
-    inr (ap Wanted.Run (c.help_or_mistake.ensures.memory kind))
+    let kind = (c.in-Err.ensures.good (Invocation.Run (WordsRead.Pipe secret driven printed)) asks.taken asks.gives).1 in
+    inr (ap Invocation.Run (c.help_or_mistake.ensures.memory kind))
 
 pub returns-in-Err-clause-good_alone : goal.returns-in-Err-clause-good_alone
 returns-in-Err-clause-good_alone c = λ replay asks.
-    let kind = (c.in-Err.ensures.good (Wanted.Run (Asked.Alone replay)) asks.taken asks.gives).1 in
-    inr (ap Wanted.Run (c.help_or_mistake.ensures.memory kind))
+    let kind = (c.in-Err.ensures.good (Invocation.Run (WordsRead.Alone replay)) asks.taken asks.gives).1 in
+    inr (ap Invocation.Run (c.help_or_mistake.ensures.memory kind))
 
 pub returns-in-Err-clause-good_serve : goal.returns-in-Err-clause-good_serve
 returns-in-Err-clause-good_serve c = λ service asks.
-    let kind = (c.in-Err.ensures.good (Wanted.Serve service) asks.taken asks.gives).1 in
-    inr (ap Wanted.Run (c.help_or_mistake.ensures.memory kind))
+    let kind = (c.in-Err.ensures.good (Invocation.Serve service) asks.taken asks.gives).1 in
+    inr (ap Invocation.Run (c.help_or_mistake.ensures.memory kind))
 
 pub returns-in-Err-clause-bad : goal.returns-in-Err-clause-bad
 returns-in-Err-clause-bad c = λ bad. (

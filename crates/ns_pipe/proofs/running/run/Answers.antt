@@ -6,24 +6,24 @@ use Rattle.ns_pipe.specs.Ending.{uncounted}
 use Rattle.ns_pipe.specs.Printing.{EndsPrinted}
 use Rattle.ns_pipe.specs.ReplayPrinting.{EndsAlone}
 use Rattle.ns_pipe.specs.declared.replay.replay.Replay.{Replay}
-use Rattle.ns_pipe.specs.declared.asked.Asked.{Asked}
+use Rattle.ns_pipe.specs.declared.asked.WordsRead.{WordsRead}
 use Rattle.ns_pipe.specs.declared.nowhere.Nowhere.{Nowhere}
 use Rattle.ns_pipe.specs.declared.printed.Printed.{Printed}
 use Rattle.ns_pipe.proofs.running.run.Goals as goal
 
-same_secret : (s t : Name) (d e : Driven) (p q : Printed) → Asked.Pipe s d p ≡ Asked.Pipe t e q → s ≡ t
+same_secret : (s t : Name) (d e : Driven) (p q : Printed) → WordsRead.Pipe s d p ≡ WordsRead.Pipe t e q → s ≡ t
 same_secret s t d e p q is = cc
 
-same_driven : (s t : Name) (d e : Driven) (p q : Printed) → Asked.Pipe s d p ≡ Asked.Pipe t e q → d ≡ e
+same_driven : (s t : Name) (d e : Driven) (p q : Printed) → WordsRead.Pipe s d p ≡ WordsRead.Pipe t e q → d ≡ e
 same_driven s t d e p q is = cc
 
-same_printed : (s t : Name) (d e : Driven) (p q : Printed) → Asked.Pipe s d p ≡ Asked.Pipe t e q → p ≡ q
+same_printed : (s t : Name) (d e : Driven) (p q : Printed) → WordsRead.Pipe s d p ≡ WordsRead.Pipe t e q → p ≡ q
 same_printed s t d e p q is = cc
 
 -- by what was asked, with an equal writer
 ended : {D R W : Type 0} (draws : D → List ℕ → D → Type 0) (remaining : R → Option (List ℕ)) (contents : W → Option (List ℕ)) (s t : Name)
     (x : D) (d e : Driven) (p q : Printed) (status : ℕ) (reader reader' : Counted R) (other : Counted Nowhere) (w v : W) (writer' : Counted W) →
-    Asked.Pipe s d p ≡ Asked.Pipe t e q → w ≡ v →
+    WordsRead.Pipe s d p ≡ WordsRead.Pipe t e q → w ≡ v →
     EndsPrinted draws remaining contents p s x d status reader reader' other (uncounted w) writer' →
     EndsPrinted draws remaining contents q t x e status reader reader' other (uncounted v) writer'
 ended draws remaining contents s t x d e p q status reader reader' other w v writer' is same h =
@@ -32,12 +32,12 @@ ended draws remaining contents s t x d e p q status reader reader' other w v wri
     (subst (λ a. EndsPrinted draws remaining contents a s x d status reader reader' other (uncounted v) writer') (same_printed s t d e p q is)
     (subst (λ a. EndsPrinted draws remaining contents p s x d status reader reader' other (uncounted a) writer') same h)))
 
-same_replay : (a b : Replay) → Asked.Alone a ≡ Asked.Alone b → a ≡ b
+same_replay : (a b : Replay) → WordsRead.Alone a ≡ WordsRead.Alone b → a ≡ b
 same_replay a b is = cc
 
 -- by what was asked, with an equal reader and an equal writer
 replayed : {R W : Type 0} (remaining : R → Option (List ℕ)) (contents : W → Option (List ℕ)) (a b : Replay) (status : ℕ)
-    (reader reader' : Counted R) (w v : W) (writer' : Counted W) → Asked.Alone a ≡ Asked.Alone b → w ≡ v →
+    (reader reader' : Counted R) (w v : W) (writer' : Counted W) → WordsRead.Alone a ≡ WordsRead.Alone b → w ≡ v →
     EndsAlone remaining contents a status reader reader' (uncounted w) writer' →
     EndsAlone remaining contents b status reader reader' (uncounted v) writer'
 replayed remaining contents a b status reader reader' w v writer' is same h =

@@ -6,9 +6,9 @@ use Rattle.ns_release.proofs.showing.changes_row.Goals as goal
 
 pub returns-in-Some : goal.returns-in-Some
 returns-in-Some g c = ap not c.is_alike.ensures ∙
-    sym (ap (λ o. option_map_or (λ y. not (g.R.Shown.kind.same y c.args.row.now)) o true) (get-rows numbers c.args.before.now c.args.number ∙
+    sym (ap (λ o. option_map_or (λ y. not (g.R.ShownByNumber.kind.same y c.args.row.now)) o true) (get-rows numbers c.args.before.now c.args.number ∙
     sym c.get.ensures ∙ ap option_copied c.in-Some.is))
 
 pub returns-in-None : goal.returns-in-None
-returns-in-None g c = sym (ap (λ o. option_map_or (λ y. not (g.R.Shown.kind.same y c.args.row.now)) o true)
+returns-in-None g c = sym (ap (λ o. option_map_or (λ y. not (g.R.ShownByNumber.kind.same y c.args.row.now)) o true)
     (get-rows numbers c.args.before.now c.args.number ∙ sym c.get.ensures ∙ ap option_copied c.in-None.is))

@@ -1,5 +1,5 @@
 use Rattle.std.proofs.Common.{ap, subst, ◌∙◌, filter, List}
-use Rattle.ns_blocked.specs.declared.entry.Entry.{Entry}
+use Rattle.ns_blocked.specs.declared.entry.BlockedEvaluation.{BlockedEvaluation}
 use Rattle.ns_blocked.specs.Waking.{woken_by}
 use Rattle.ns_release.specs.Released.{stays, woken_from}
 use Rattle.ns_settlement.specs.Reached.{AreOfNames, AreOfRooms}
@@ -12,7 +12,7 @@ returns c =
     let w = world_of c.args.tables.now in
     c.still_there.ensures
     ∙ ap (filter (stays c.args.change.now.blocked)) (c.in_ok-keys.ensures
-    ∙ ap (λ (es : List Entry). woken_by c.in_ok-releases.releases es) c.requires.index.entries)
+    ∙ ap (λ (es : List BlockedEvaluation). woken_by c.in_ok-releases.releases es) c.requires.index.entries)
     ∙ reached w c.args.rooms.now c.args.released.now c.in_ok-releases.releases
     (subst (λ rooms. AreOfRooms rooms c.in_ok-releases.releases.pools) c.as_slice.ensures c.in_ok-releases.ensures.rooms)
     (subst (λ names. AreOfNames w names c.in_ok-releases.releases.quotas) c.as_slice-2.ensures c.in_ok-releases.ensures.quotas) c.args.change.now

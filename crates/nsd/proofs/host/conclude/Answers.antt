@@ -1,16 +1,16 @@
 use Rattle.std.proofs.Common.{◌≡◌, ℕ, List, Option, sym, subst}
 use Rattle.ns_http.specs.declared.counting.Counted.{Counted}
-use Rattle.ns_pipe.specs.declared.running.Ended.{Ended}
+use Rattle.ns_pipe.specs.declared.running.EndedRun.{EndedRun}
 use Rattle.ns_listener.specs.declared.service.Service.{Service}
 use Rattle.nsd.specs.Hosting.{EndsHosted}
 use Rattle.ns_command_line.specs.Outcome.{MatchOutcome}
-use Rattle.ns_command_line.specs.declared.outcome.Outcome.{Outcome}
+use Rattle.ns_command_line.specs.declared.outcome.RunEnd.{RunEnd}
 use Rattle.nsd.proofs.host.conclude.Goals as goal
 use Rattle.ns_pipe.proofs.Uncounted.{uncounted_by}
 
 -- a server is to be run
-to_serve : {R W : Type 0} (outcome : Outcome R W) (service : Service) (reader : R) (writer : W) (HasEnded : Ended R W → Type 0)
-    (IsToServe : Service → R → W → Type 0) → outcome ≡ Outcome.Serve service reader writer → IsToServe service reader writer →
+to_serve : {R W : Type 0} (outcome : RunEnd R W) (service : Service) (reader : R) (writer : W) (HasEnded : EndedRun R W → Type 0)
+    (IsToServe : Service → R → W → Type 0) → outcome ≡ RunEnd.Serve service reader writer → IsToServe service reader writer →
     MatchOutcome outcome HasEnded IsToServe
 to_serve outcome service reader writer HasEnded IsToServe is h = subst (λ o. MatchOutcome o HasEnded IsToServe) (sym is) h
 

@@ -3,7 +3,7 @@ use Rattle.std.proofs.Common.{subst, sym, ◌∙◌}
 use Rattle.ns_types.specs.State.Names.{Key}
 use Rattle.ns_types.proofs.Named.{numbers, one_number}
 use Rattle.ns_types.proofs.Tests.{same_Some}
-use Rattle.ns_blocked.specs.declared.entry.Entry.{Entry}
+use Rattle.ns_blocked.specs.declared.entry.BlockedEvaluation.{BlockedEvaluation}
 use Rattle.ns_blocked.specs.Blocked.{TakesEntry, entry_with}
 use Rattle.ns_blocked.specs.ByKey.{WritesRow}
 use Rattle.ns_blocked.proofs.ByKey.{room_emptied, row_emptied}
@@ -25,7 +25,7 @@ returns-in_default-remove-clause-room c = record {
 }
 
 pub returns-clause-taken : goal.returns-clause-taken
-returns-clause-taken c e at = subst (λ (x : Entry). TakesEntry c.args.place x c.args.self.now
+returns-clause-taken c e at = subst (λ (x : BlockedEvaluation). TakesEntry c.args.place x c.args.self.now
     (record { waits = c.take.new.self; groups = c.remove.new.self; places = c.vacate_row.new.rows }))
     (same_Some (entry_with c.in-Some.waits c.in-Some-remove.row) e (sym (row_there c.args.self.now c.args.place c.in-Some.waits (Some c.in-Some-remove.row)
     (sym c.take.ensures.row ∙ c.in-Some.is) (sym c.in-Some-remove.is ∙ c.remove.ensures.row)) ∙ at)) (record {

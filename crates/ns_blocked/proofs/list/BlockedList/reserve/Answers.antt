@@ -1,7 +1,7 @@
 use Rattle.std.specs.Prelude.{◌≡◌, ℕ, ◌+◌, ◌<◌, ◌^◌, List}
 use Rattle.std.proofs.Common.{arith, subst, sym, take, ◌∙◌}
 use Rattle.keyed.proofs.Mapped.{take_all}
-use Rattle.ns_blocked.specs.declared.entry.Entry.{Entry}
+use Rattle.ns_blocked.specs.declared.entry.BlockedEvaluation.{BlockedEvaluation}
 use Rattle.ns_blocked.specs.Blocked.{HasRoomFrom}
 use Rattle.ns_blocked.proofs.Rooms.{reserved_next}
 use Rattle.ns_blocked.proofs.list.BlockedList.reserve.Goals as goal
@@ -20,5 +20,5 @@ loop-entry-preserved c =
     )
 
 pub returns-clause-ok : goal.returns-clause-ok
-returns-clause-ok c = subst (λ (es : List Entry). HasRoomFrom c.loop-entry.self.next es c.loop-entry.self.index)
+returns-clause-ok c = subst (λ (es : List BlockedEvaluation). HasRoomFrom c.loop-entry.self.next es c.loop-entry.self.index)
     (take_all c.args.entries.now c.loop-entry.entry-index c.loop-entry-test.false) c.loop-entry.invariant.2

@@ -3,7 +3,7 @@ use Rattle.std.proofs.Common.{ap, subst, sym, ◌∙◌}
 use Rattle.std.specs.FinMap.{values}
 use Rattle.std.specs.Option.{option_copied}
 use Rattle.ns_types.specs.State.Names.{Key, same_key}
-use Rattle.ns_blocked.specs.declared.entry.Entry.{Entry}
+use Rattle.ns_blocked.specs.declared.entry.BlockedEvaluation.{BlockedEvaluation}
 use Rattle.ns_blocked.specs.ByKey.{row_in}
 use Rattle.ns_blocked.specs.Blocked.{BlockedList, CanAdd, by_place, entries_of}
 use Rattle.ns_blocked.proofs.Listed.{entries_left, entries_stay, entry_there, key_parts, take_indexed}
@@ -32,8 +32,8 @@ returns-clause-entries c =
     ∙ sym c.get_row.ensures ∙ ap option_copied c.in-Some.is) in
     entries_left c.self.inside.index c.take.new.self c.self.inside.next c.in-Some.place.now e.0 c.self.invariant e.1.0
     (c.take.ensures.taken e.0 e.1.0).entry
-    ∙ ap (λ (key : Key). filter (λ (x : Entry). not (same_key x.key key)) (values (by_place c.self.inside.index))) e.1.1
-    ∙ ap (λ b. filter (λ (x : Entry). not (same_key x.key c.args.key.now)) (entries_of b)) c.self.view_is
+    ∙ ap (λ (key : Key). filter (λ (x : BlockedEvaluation). not (same_key x.key key)) (values (by_place c.self.inside.index))) e.1.1
+    ∙ ap (λ b. filter (λ (x : BlockedEvaluation). not (same_key x.key c.args.key.now)) (entries_of b)) c.self.view_is
 
 pub returns-clause-room : goal.returns-clause-room
 returns-clause-room c es can =

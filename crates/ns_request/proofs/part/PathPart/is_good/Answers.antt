@@ -3,7 +3,7 @@ use Rattle.std.specs.Prelude.{is_some, None}
 use Rattle.ns_request.specs.Parts.{is_good}
 use Rattle.ns_json.proofs.Ids.{id_of-read}
 use Rattle.ns_request.proofs.Ids.{accessor-read}
-use Rattle.ns_request.proofs.part.Part.is_good.Goals as goal
+use Rattle.ns_request.proofs.part.PathPart.is_good.Goals as goal
 
 pub returns-in_default : goal.returns-in_default
 unfolding is_good

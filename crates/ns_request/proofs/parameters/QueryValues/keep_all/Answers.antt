@@ -4,7 +4,7 @@ use Rattle.form_urlencoded.specs.Form.{raw_pairs}
 use Rattle.form_urlencoded.specs.Parse.{pairs_left}
 use Rattle.ns_request.specs.Values.{values_of}
 use Rattle.ns_request.proofs.FirstValues.{joined-none, joined-first}
-use Rattle.ns_request.proofs.parameters.Values.keep_all.Goals as goal
+use Rattle.ns_request.proofs.parameters.QueryValues.keep_all.Goals as goal
 
 pub loop-pair-init : goal.loop-pair-init
 loop-pair-init c =

@@ -2,7 +2,7 @@ use Rattle.std.proofs.Common.{◌≡◌}
 use Rattle.form_urlencoded.specs.Parse.{pairs_left}
 use Rattle.ns_request.specs.Values.{values_of}
 use Rattle.ns_request.proofs.FirstValues.{joined}
-use Rattle.ns_request.proofs.parameters.Values.keep_all.Given as goal
+use Rattle.ns_request.proofs.parameters.QueryValues.keep_all.Given as goal
 
 abbrev pub invariant-loop-pair : goal.invariant-loop-pair
 invariant-loop-pair l =

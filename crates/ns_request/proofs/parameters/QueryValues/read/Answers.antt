@@ -3,7 +3,7 @@ use Rattle.std.proofs.lemmas.Bool.{eqb-true}
 use Rattle.form_urlencoded.proofs.OnLiterals.{form_urlencoded_on_literals}
 use Rattle.ns_request.specs.Parameters.{parameter}
 use Rattle.ns_request.specs.Values.{no_values, values_of}
-use Rattle.ns_request.proofs.parameters.Values.read.Goals as goal
+use Rattle.ns_request.proofs.parameters.QueryValues.read.Goals as goal
 
 -- an empty query has no parameters
 none : (query : List ℕ) → length query ≡ 0 → no_values ≡ values_of query

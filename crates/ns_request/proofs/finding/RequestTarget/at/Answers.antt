@@ -4,7 +4,7 @@ use Rattle.ns_request.specs.Judging.{judged, named_in}
 use Rattle.ns_request.specs.Gives.{Refuses}
 use Rattle.ns_request.specs.Targets.{query_in}
 use Rattle.ns_request.proofs.Targets.{found_at-good}
-use Rattle.ns_request.proofs.finding.Target.at.Goals as goal
+use Rattle.ns_request.proofs.finding.RequestTarget.at.Goals as goal
 
 pub returns-in-Err-clause-found : goal.returns-in-Err-clause-found
 returns-in-Err-clause-found c =
