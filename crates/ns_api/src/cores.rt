@@ -10,9 +10,10 @@ use crate::following::{Driven, Driver};
 use crate::responding::respond;
 use ns_core::Core;
 use ns_endpoints::Draws;
-use ns_log::Owned;
 use ns_types::name::Secret;
+use ns_types::refusal::Refusal;
 use ns_types::reply::Response;
+use ns_types::shared::Shared;
 use ns_types::step::Step;
 use ns_work_log::Held;
 use std::alloc::{AllocError, Global};
@@ -33,7 +34,10 @@ impl Takes for Held {
     ghost lacks = { LacksRoom };
 
     fn respond(&mut self, alloc: Global, step: Step) -> Response {
-        match self.take_rendered(alloc, Owned::alone(step)) {
+        let Ok(entry) = Shared::new(alloc, step) else {
+            return Response::Refused(Refusal::Memory);
+        };
+        match self.take_rendered(alloc, entry) {
             Ok((receipt, response)) => {
                 drop(receipt);
                 response

@@ -9,7 +9,9 @@ use Rattle.ns_types.specs.State.Rows.{State}
 use Rattle.ns_types.specs.Steps.{Answer, Makes, after, said}
 use Rattle.ns_steps.specs.Chains.{IsMade}
 use Rattle.ns_driver.specs.Attempting.{Attempts, AttemptsFinish, AttemptsSubmit}
+use Rattle.ns_driver.specs.declared.worker_step.WorkerStep.{WorkerStep}
 use Rattle.ns_driver.specs.Calls.{FinishesBy, HandsIn}
+use Rattle.ns_driver.specs.WorkerSteps.{AttemptsWorkerStep, MakesWorkerStep, worker_step}
 use Rattle.ns_core.specs.Lacking.{CoreLacks}
 
 -- a core is its state, and notes nothing
@@ -43,3 +45,12 @@ module _ (worker : ℕ) (ns : Name) (planned : Snapshot) (s : State) where
   attempts_finish (Err Refusal.Memory) s' h = inr (Refusal.Memory, refl, inl h.1.0, h.1.1)
   attempts_finish (Err Refusal.Full) s' h = inl (h.0, is_refused (Step.Finish worker ns) s s' Refusal.Full h.1)
   attempts_finish (Err refusal) s' h = inr (refusal, refl, inr h.0, h.1)
+
+pub attempts_worker_step : (worker : ℕ) (ns : Name) (s : State) (step : WorkerStep) (answer : Answer) (s' : State) →
+    MakesWorkerStep step worker ns s answer s' → AttemptsWorkerStep itself notes CoreLacks step worker ns s answer s'
+attempts_worker_step worker ns s (WorkerStep.Dequeue evaluation) answer s' m =
+    attempts (worker_step (WorkerStep.Dequeue evaluation) worker ns) s answer s' m
+attempts_worker_step worker ns s (WorkerStep.Submit planned) answer s' m = attempts_submit worker ns planned s answer s' m
+attempts_worker_step worker ns s WorkerStep.Apply answer s' m = attempts (worker_step WorkerStep.Apply worker ns) s answer s' m
+attempts_worker_step worker ns s (WorkerStep.Finish planned) answer s' m = attempts_finish worker ns planned.now s answer s' m
+attempts_worker_step worker ns s WorkerStep.Nack answer s' m = attempts (worker_step WorkerStep.Nack worker ns) s answer s' m

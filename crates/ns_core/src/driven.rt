@@ -2,10 +2,9 @@
 
 use crate::server::Core;
 use ns_broker::Busy;
-use ns_driver::Works;
+use ns_driver::{WorkerStep, Works};
 use ns_steps::chain::Server;
 use ns_types::key::EvalKey;
-use ns_types::planned::Planned;
 use ns_types::refusal::Refusal;
 use ns_types::reply::Reply;
 use ns_types::shared::Shared;
@@ -32,14 +31,14 @@ impl Works for Core {
         self.phase(worker)
     }
 
-    fn dequeue(
+    fn work(
         &mut self,
         _alloc: Global,
         worker: u64,
         namespace: &Text,
-        evaluation: u64,
+        step: WorkerStep<'_>,
     ) -> Result<Reply, Refusal> {
-        self.dequeue(worker, namespace, evaluation)
+        self.work(worker, namespace, step)
     }
 
     fn snap(
@@ -49,29 +48,5 @@ impl Works for Core {
         namespace: &Text,
     ) -> Result<Shared<Snapshot>, Refusal> {
         self.snap(worker, namespace)
-    }
-
-    fn submit(
-        &mut self,
-        _alloc: Global,
-        worker: u64,
-        namespace: &Text,
-        planned: Planned,
-    ) -> Result<Reply, Refusal> {
-        self.submit(worker, namespace, planned)
-    }
-
-    fn apply(&mut self, _alloc: Global, worker: u64, namespace: &Text) -> Result<Reply, Refusal> {
-        self.apply(worker, namespace)
-    }
-
-    fn finish(
-        &mut self,
-        _alloc: Global,
-        worker: u64,
-        namespace: &Text,
-        planned: &Planned,
-    ) -> Result<Reply, Refusal> {
-        self.finish(worker, namespace, planned)
     }
 }

@@ -11,10 +11,12 @@ ghost use Rattle.ns_types.specs.Working.Looks.{first_plan, row_of, served_ready,
 ghost use Rattle.ns_broker.specs.Looking.{busy_fields, busy_of};
 ghost use Rattle.ns_broker.specs.Snapping.{kept_at};
 ghost use Rattle.ns_driver.specs.Calls.{FinishesBy, HandsIn, snapped};
+ghost use Rattle.ns_driver.specs.WorkerSteps.{MakesWorkerStep};
 ghost use Rattle.ns_steps.specs.Served.{IsServed};
 
 use crate::parts::Parts;
 use ns_broker::Busy;
+use ns_driver::WorkerStep;
 use ns_types::acl::{PoolRights, Rights};
 use ns_types::good::{GoodAdmin, GoodAsk, GoodNodeCommand};
 use ns_types::key::EvalKey;
@@ -195,6 +197,24 @@ impl Core {
     {
         let parts = &mut self.parts;
         parts.nack(worker, namespace)
+    }
+
+    /// Makes the step of the worker in the namespace.
+    pub fn work(
+        &mut self,
+        worker: u64,
+        namespace: &Text,
+        step: WorkerStep<'_>,
+    ) -> Result<Reply, Refusal>
+        ensures { MakesWorkerStep step.entry worker namespace.now self.old result self.new }
+    {
+        match step {
+            WorkerStep::Dequeue(evaluation) => self.dequeue(worker, namespace, evaluation),
+            WorkerStep::Submit(planned) => self.submit(worker, namespace, planned),
+            WorkerStep::Apply => self.apply(worker, namespace),
+            WorkerStep::Finish(planned) => self.finish(worker, namespace, planned),
+            WorkerStep::Nack => self.nack(worker, namespace),
+        }
     }
 
     /// The next evaluation: the first of those of the highest priority.

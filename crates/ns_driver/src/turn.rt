@@ -10,6 +10,7 @@ ghost use Rattle.ns_driver.specs.Working.{Ends, IsAtEnd, IsDue};
 use crate::due::{Due, WORKER, next};
 use crate::kept::Kept;
 use crate::stopping::Stop;
+use crate::worker_step::WorkerStep;
 use crate::works::Works;
 use ns_types::key::EvalKey;
 use ns_types::planned::Planned;
@@ -23,7 +24,8 @@ fn take<W: Works>(alloc: Global, works: &mut W, key: &EvalKey) -> Result<(), Sto
     ensures ends { IfErr result (λ stop. (has : Option Snapshot) →
         Ends W.state W.notes W.lacks works.old has stop works.new) }
 {
-    let reply = works.dequeue(alloc, WORKER, key.namespace(), key.number())?;
+    let step = WorkerStep::Dequeue(key.number());
+    let reply = works.work(alloc, WORKER, key.namespace(), step)?;
     drop(reply);
     Ok(())
 }
@@ -61,7 +63,7 @@ fn finish<W: Works>(
         Ends W.state W.notes W.lacks works.old (seen_of kept.new) stop works.new) }
     ensures same { OnErr result (seen_of kept.new ≡ seen_of kept.old) }
 {
-    let reply = works.finish(alloc, WORKER, namespace, planned)?;
+    let reply = works.work(alloc, WORKER, namespace, WorkerStep::Finish(planned))?;
     drop(reply);
     *kept = Kept::Nothing;
     Ok(())
@@ -88,7 +90,7 @@ fn submit<W: Works>(
         drop(planned);
         return ended;
     }
-    let reply = works.submit(alloc, WORKER, namespace, planned)?;
+    let reply = works.work(alloc, WORKER, namespace, WorkerStep::Submit(planned))?;
     drop(reply);
     Ok(())
 }
@@ -138,7 +140,7 @@ fn apply<W: Works>(alloc: Global, works: &mut W, namespace: &Text) -> Result<(),
     ensures ends { IfErr result (λ stop. (has : Option Snapshot) →
         Ends W.state W.notes W.lacks works.old has stop works.new) }
 {
-    let reply = works.apply(alloc, WORKER, namespace)?;
+    let reply = works.work(alloc, WORKER, namespace, WorkerStep::Apply)?;
     drop(reply);
     Ok(())
 }

@@ -5,13 +5,14 @@ ghost use Rattle.ns_types.specs.declared.step.Step.TheVariants as Step;
 ghost use Rattle.ns_types.specs.Working.Looks.{row_of, served_ready};
 ghost use Rattle.ns_broker.specs.Looking.{busy_fields, busy_of};
 ghost use Rattle.ns_broker.specs.Snapping.{kept_at};
-ghost use Rattle.ns_driver.specs.Attempting.{Attempts, AttemptsFinish, AttemptsSubmit};
+ghost use Rattle.ns_driver.specs.Attempting.{Attempts};
 ghost use Rattle.ns_driver.specs.Calls.{snapped};
+ghost use Rattle.ns_driver.specs.WorkerSteps.{AttemptsWorkerStep};
 
+use crate::worker_step::WorkerStep;
 use ns_broker::Busy;
 use ns_steps::chain::Server;
 use ns_types::key::EvalKey;
-use ns_types::planned::Planned;
 use ns_types::refusal::Refusal;
 use ns_types::reply::Reply;
 use ns_types::shared::Shared;
@@ -36,16 +37,16 @@ pub trait Works: Server {
         ensures { option_map busy_fields result
             ≡ option_map busy_of (row_of (Self.state self.now).world worker) };
 
-    /// Makes the step in which a worker takes the evaluation of that number in the namespace.
-    fn dequeue(
+    /// Makes the step of the worker in the namespace.
+    fn work(
         &mut self,
         alloc: Global,
         worker: u64,
         namespace: &Text,
-        evaluation: u64,
+        step: WorkerStep<'_>,
     ) -> Result<Reply, Refusal>
-        ensures { let step = Step.Dequeue worker namespace.now evaluation in
-            Attempts Self.state Self.notes lacks self.old step result self.new };
+        ensures { AttemptsWorkerStep Self.state Self.notes lacks step.entry worker namespace.now
+            self.old result self.new };
 
     /// Makes the step in which a worker takes a snapshot of its evaluation.
     fn snap(
@@ -58,31 +59,4 @@ pub trait Works: Server {
             Attempts Self.state Self.notes lacks self.old step (snapped result) self.new }
         ensures kept { let w = (Self.state self.new).world in
             IfOk result (λ seen. kept_at w worker namespace.now ≡ Some seen) };
-
-    /// Makes the step in which a worker hands in the plan of its snapshot.
-    fn submit(
-        &mut self,
-        alloc: Global,
-        worker: u64,
-        namespace: &Text,
-        planned: Planned,
-    ) -> Result<Reply, Refusal>
-        ensures { AttemptsSubmit Self.state Self.notes lacks worker namespace.now planned
-            self.old result self.new };
-
-    /// Makes the step in which the plan that a worker handed in is applied.
-    fn apply(&mut self, alloc: Global, worker: u64, namespace: &Text) -> Result<Reply, Refusal>
-        ensures { let step = Step.Apply worker namespace.now in
-            Attempts Self.state Self.notes lacks self.old step result self.new };
-
-    /// Makes the step in which a worker finishes its evaluation, with the plan of the snapshot that it keeps.
-    fn finish(
-        &mut self,
-        alloc: Global,
-        worker: u64,
-        namespace: &Text,
-        planned: &Planned,
-    ) -> Result<Reply, Refusal>
-        ensures { AttemptsFinish Self.state Self.notes lacks worker namespace.now planned.now
-            self.old result self.new };
 }

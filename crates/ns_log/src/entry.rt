@@ -11,13 +11,14 @@ use json::Writer;
 use ns_json::part::{Part, write_parts};
 use ns_replies::shown::written_text;
 use ns_types::reply::Rendered;
+use ns_types::shared::Shared;
 use ns_types::step::Step;
 use std::alloc::{AllocError, Global};
 use std::marker::Model;
 
-/// A step with its answer as bytes. Contracts see the pair.
+/// A step with its answer as bytes. The step has several owners: its receipts, and what is given out. Contracts see the pair.
 pub struct Entry {
-    step: Owned<Step>,
+    step: Shared<Step>,
     rendered: Owned<Rendered>,
 }
 
@@ -40,18 +41,7 @@ impl Model for Entry {
 }
 
 impl Entry {
-    /// With an answer of its own.
-    pub fn new(step: Owned<Step>, rendered: Rendered) -> Entry
-        ensures { result ≡ (step, rendered) }
-    {
-        Entry {
-            step,
-            rendered: Owned::alone(rendered),
-        }
-    }
-
-    /// With an answer that it may own together with others.
-    pub fn of(step: Owned<Step>, rendered: Owned<Rendered>) -> Entry
+    pub fn new(step: Shared<Step>, rendered: Owned<Rendered>) -> Entry
         ensures { result ≡ (step, rendered) }
     {
         Entry { step, rendered }

@@ -1,18 +1,19 @@
 //! Values that are owned alone, or together with others.
 
-ghost use Rattle.std.specs.Prelude.{◌≡◌};
+ghost use Rattle.std.specs.Prelude.{◌≡◌, IfOk};
 
 use ns_types::shared::Shared;
+use std::alloc::{AllocError, Global};
 use std::marker::Model;
 
 /// Who owns a value.
 #[derive(Drop)]
 enum Owner<T> {
-    Alone(T),
+    Alone(Box<T>),
     Together(Shared<T>),
 }
 
-/// A value that one owner has alone, or that several have and none changes. Contracts see the value.
+/// A value that one owner has alone, or that several have and none changes, in memory of its own. Contracts see the value.
 pub struct Owned<T> {
     owner: Owner<T>,
 }
@@ -32,8 +33,16 @@ impl<T> Model for Owned<T> {
 }
 
 impl<T: Drop> Owned<T> {
-    pub fn alone(value: T) -> Owned<T>
-        ensures { result ≡ value }
+    /// In a box that is made for it.
+    pub fn boxed(alloc: Global, value: T) -> Result<Owned<T>, AllocError>
+        ensures { IfOk result (λ owned. owned ≡ value) }
+    {
+        let place = Box::new(alloc, value)?;
+        Ok(Owned::alone(place))
+    }
+
+    pub fn alone(value: Box<T>) -> Owned<T>
+        ensures { result ≡ value.value }
     {
         Owned {
             owner: Owner::Alone(value),

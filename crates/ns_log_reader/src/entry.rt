@@ -13,6 +13,7 @@ use crate::member::{member, number, number_or_null, text};
 use crate::step::step;
 use ns_log::{Entry, Owned};
 use ns_types::reply::Rendered;
+use ns_types::shared::Shared;
 use serde_json::Value;
 use std::alloc::Global;
 
@@ -53,5 +54,7 @@ pub fn entry(alloc: Global, value: &Value) -> Result<Entry, LineFault>
 {
     let rendered = answer(alloc, value)?;
     let step = step(alloc, member(value, "Step")?)?;
-    Ok(Entry::new(Owned::alone(step), rendered))
+    let shared = Shared::new(alloc, step)?;
+    let owned = Owned::boxed(alloc, rendered)?;
+    Ok(Entry::new(shared, owned))
 }

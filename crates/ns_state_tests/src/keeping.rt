@@ -7,7 +7,8 @@ use crate::server::{registered, root};
 use crate::steps::{TEXT, job_is_registered, jobs_are_listed, pool_is_put};
 use crate::workers::{look, take};
 use ns_core::Core;
-use ns_log::{Owned, log_text};
+use ns_driver::WorkerStep;
+use ns_log::log_text;
 use ns_schedule::plan;
 use ns_types::refusal::Refusal;
 use ns_types::reply::Reply;
@@ -45,7 +46,10 @@ fn is_refused(answer: Result<Reply, Refusal>, wanted: Refusal) -> bool {
 fn is_taken(held: &mut Held, alloc: Global, step: Step) -> bool
     requires { IsServed step }
 {
-    match held.take_rendered(alloc, Owned::alone(step)) {
+    let Ok(entry) = Shared::new(alloc, step) else {
+        return false;
+    };
+    match held.take_rendered(alloc, entry) {
         Ok((receipt, response)) => {
             let taken = receipt.get().status == 200;
             drop(receipt);
@@ -60,7 +64,10 @@ fn is_taken(held: &mut Held, alloc: Global, step: Step) -> bool
 fn finds_it_full(held: &mut Held, alloc: Global, step: Step) -> bool
     requires { IsServed step }
 {
-    match held.take_rendered(alloc, Owned::alone(step)) {
+    let Ok(entry) = Shared::new(alloc, step) else {
+        return false;
+    };
+    match held.take_rendered(alloc, entry) {
         Ok(given) => {
             drop(given);
             false
@@ -75,8 +82,13 @@ pub(crate) fn kept(rt: &impl Abort, alloc: Global) -> Held {
     let namespace = text(rt, alloc, "default");
     assert!(rt; is_taken(&mut held, alloc, pool_is_put(rt, alloc)));
     assert!(rt; is_taken(&mut held, alloc, job_is_registered(rt, alloc)));
-    assert!(rt; is_refused(held.nack(alloc, 0, &namespace), Refusal::NotEnabled));
-    assert!(rt; is_made(held.dequeue(alloc, 0, &namespace, 1)));
+    assert!(rt;
+        is_refused(
+            held.work(alloc, 0, &namespace, WorkerStep::Nack),
+            Refusal::NotEnabled
+        )
+    );
+    assert!(rt; is_made(held.work(alloc, 0, &namespace, WorkerStep::Dequeue(1))));
     held
 }
 
@@ -130,7 +142,7 @@ fn a_foreign_plan_leaves_no_entry(rt: HostRuntime) {
     let planned = plan(alloc, seen).expect(&rt, "a plan");
     let mut held = Held::new(alloc, core, 9);
     let namespace = text(&rt, alloc, "default");
-    let answer = held.submit(alloc, 0, &namespace, planned);
+    let answer = held.work(alloc, 0, &namespace, WorkerStep::Submit(planned));
     assert!(rt; is_refused(answer, Refusal::Foreign));
     assert!(rt; held.log().is_empty());
     drop(held);

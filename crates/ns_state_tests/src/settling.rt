@@ -6,6 +6,7 @@ use crate::steps::{job_is_registered, pool_is_put};
 use ns_log::Owned;
 use ns_log::receipts::{Receipt, SettleFault, settle};
 use ns_types::reply::Rendered;
+use ns_types::shared::Shared;
 use ns_types::step::Step;
 use ns_work_log::Held;
 use std::alloc::Global;
@@ -24,27 +25,37 @@ fn rendered(rt: &impl Abort, alloc: Global, index: Option<u64>, body: &str) -> R
     }
 }
 
+/// The answer, which a receipt owns.
+fn boxed(rt: &impl Abort, alloc: Global, answer: Rendered) -> Owned<Rendered> {
+    Owned::boxed(alloc, answer).expect(rt, "memory")
+}
+
+/// The step, which a receipt owns.
+fn shared(rt: &impl Abort, alloc: Global, step: Step) -> Shared<Step> {
+    Shared::new(alloc, step).expect(rt, "memory")
+}
+
 fn of_pool(rt: &impl Abort, alloc: Global) -> Receipt {
     Receipt {
         place: 0,
-        step: Owned::alone(pool_is_put(rt, alloc)),
-        rendered: Owned::alone(rendered(rt, alloc, None, "{}")),
+        step: shared(rt, alloc, pool_is_put(rt, alloc)),
+        rendered: boxed(rt, alloc, rendered(rt, alloc, None, "{}")),
     }
 }
 
 fn of_job(rt: &impl Abort, alloc: Global, body: &str) -> Receipt {
     Receipt {
         place: 1,
-        step: Owned::alone(job_is_registered(rt, alloc)),
-        rendered: Owned::alone(rendered(rt, alloc, Some(1), body)),
+        step: shared(rt, alloc, job_is_registered(rt, alloc)),
+        rendered: boxed(rt, alloc, rendered(rt, alloc, Some(1), body)),
     }
 }
 
 fn of_worker(rt: &impl Abort, alloc: Global) -> Receipt {
     Receipt {
         place: 2,
-        step: Owned::alone(Step::Dequeue(0, text(rt, alloc, "default"), 1)),
-        rendered: Owned::alone(rendered(rt, alloc, None, TOOK)),
+        step: shared(rt, alloc, Step::Dequeue(0, text(rt, alloc, "default"), 1)),
+        rendered: boxed(rt, alloc, rendered(rt, alloc, None, TOOK)),
     }
 }
 

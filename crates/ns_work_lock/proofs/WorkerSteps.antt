@@ -6,11 +6,12 @@ use Rattle.ns_types.specs.State.Names.{Name}
 use Rattle.ns_types.specs.State.Rows.{World}
 use Rattle.ns_types.specs.Steps.{Answer}
 use Rattle.ns_types.specs.Working.Looks.{worker_at}
+use Rattle.ns_driver.specs.declared.worker_step.WorkerStep.{WorkerStep}
+use Rattle.ns_driver.specs.WorkerSteps.{worker_step}
 use Rattle.ns_replies.specs.Laws.{may_change, row_of}
 use Rattle.ns_work_log.specs.Logs.{History}
+use Rattle.ns_work_log.specs.Planned.{LogsWorkerStep}
 use Rattle.ns_work_log.proofs.Adding.{Adds, finish_adds, logs_adds, submit_adds}
-use Rattle.ns_work_lock.specs.declared.worker_step.WorkerStep.{WorkerStep}
-use Rattle.ns_work_lock.specs.WorkerSteps.{LogsWork, worker_step}
 use Rattle.ns_work_lock.proofs.Refusing.{IsRefused, finish_refused, logs_refused, submit_refused}
 
 module _ (worker : ℕ) (ns : Name) where
@@ -30,14 +31,14 @@ module _ (worker : ℕ) (ns : Name) where
   work_row WorkerStep.Nack w = refl
 
   module _ (old : History) (answer : Answer) (new : History) where
-    pub work_adds : (step : WorkerStep) → LogsWork step worker ns old answer new → Adds (worker_step step worker ns) old answer new
+    pub work_adds : (step : WorkerStep) → LogsWorkerStep step worker ns old answer new → Adds (worker_step step worker ns) old answer new
     work_adds (WorkerStep.Dequeue evaluation) l = logs_adds (worker_step (WorkerStep.Dequeue evaluation) worker ns) old answer new l
     work_adds (WorkerStep.Submit planned) l = submit_adds worker ns planned old answer new l
     work_adds WorkerStep.Apply l = logs_adds (worker_step WorkerStep.Apply worker ns) old answer new l
     work_adds (WorkerStep.Finish planned) l = finish_adds worker ns planned.now old answer new l
     work_adds WorkerStep.Nack l = logs_adds (worker_step WorkerStep.Nack worker ns) old answer new l
 
-    pub work_refused : (step : WorkerStep) → LogsWork step worker ns old answer new → IsRefused (worker_step step worker ns) answer
+    pub work_refused : (step : WorkerStep) → LogsWorkerStep step worker ns old answer new → IsRefused (worker_step step worker ns) answer
     work_refused (WorkerStep.Dequeue evaluation) l = logs_refused (worker_step (WorkerStep.Dequeue evaluation) worker ns) old answer new l
     work_refused (WorkerStep.Submit planned) l = submit_refused worker ns planned old answer new l
     work_refused WorkerStep.Apply l = logs_refused (worker_step WorkerStep.Apply worker ns) old answer new l

@@ -5,4 +5,3 @@ pub mod Moments
 pub mod Receiving
 pub mod Settling
 pub mod Spending
-pub mod WorkerSteps

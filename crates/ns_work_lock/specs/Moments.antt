@@ -1,6 +1,7 @@
 -- How it stands with those who share a server: whom a call wakes, and who entered and left.
 use Rattle.std.specs.Prelude.{ℕ, ◌+◌, ◌-◌, ◌%◌, ◌^◌, ◌==◌, Bool, true, false, ◌&&◌, ◌||◌, if◌then◌else◌, is_some, length, min}
 use Rattle.std.specs.Prelude.{Option, Some, None, nat_le, nat_lt}
+use Rattle.ns_driver.specs.declared.worker_step.WorkerStep.{WorkerStep}
 use Rattle.ns_work_log.specs.Logs.{History}
 use Rattle.ns_types.specs.Working.Looks.{served_ready}
 use Rattle.ns_work_lock.specs.declared.changes.Notified.{Notified}
@@ -9,6 +10,14 @@ use Rattle.ns_work_lock.specs.declared.changes.Stage.{Stage}
 use Rattle.ns_work_lock.specs.declared.changes.Wakes.{Wakes}
 
 -- ---- changes that others wait for
+
+-- whom a worker's step wakes
+abbrev pub wakes_of : WorkerStep → Wakes
+wakes_of (WorkerStep.Dequeue evaluation) = Wakes.WhereServed
+wakes_of (WorkerStep.Submit planned) = Wakes.Planned
+wakes_of WorkerStep.Apply = Wakes.Applied
+wakes_of (WorkerStep.Finish planned) = Wakes.WhereServedOrClosed
+wakes_of WorkerStep.Nack = Wakes.WhereServedOrClosed
 
 -- whether a call offers work to a worker that is idle
 abbrev pub offers_work : Wakes → Bool

@@ -1,8 +1,9 @@
 //! What callers that wait look at.
 
 ghost use Rattle.std.specs.Prelude.{◌≡◌};
-ghost use Rattle.ns_work_lock.specs.Moments.{is_any, is_applied, is_left, is_of_all, is_planned, offers_work};
+ghost use Rattle.ns_work_lock.specs.Moments.{is_any, is_applied, is_left, is_of_all, is_planned, offers_work, wakes_of};
 
+use ns_driver::WorkerStep;
 use ns_types::key::EvalKey;
 use ns_types::text::Text;
 use ns_types::worker::Phase;
@@ -48,6 +49,18 @@ pub(crate) enum Wakes {
 }
 
 impl Wakes {
+    /// Which of them a worker's step wakes.
+    pub(crate) fn of(step: &WorkerStep<'_>) -> Wakes
+        ensures { result ≡ wakes_of step.now }
+    {
+        match step {
+            WorkerStep::Dequeue(_) => Wakes::WhereServed,
+            WorkerStep::Submit(_) => Wakes::Planned,
+            WorkerStep::Apply => Wakes::Applied,
+            WorkerStep::Finish(_) | WorkerStep::Nack => Wakes::WhereServedOrClosed,
+        }
+    }
+
     /// Whether it wakes a worker that is idle, where an evaluation is ready.
     pub(crate) fn offers_work(self) -> bool
         ensures { result ≡ offers_work self }
@@ -108,11 +121,11 @@ impl Notified {
 #[derive(Clone, Copy)]
 pub enum WaitsFor {
     /// A worker waits for an evaluation.
-    ForWork,
+    Work,
     /// A worker waits for its plan to be applied.
-    ForApply,
+    Apply,
     /// The applier waits for a plan, or for the log to be rotated.
-    ForPlans,
+    Plans,
 }
 
 /// The counts of a server's workers and of those who wait.

@@ -7,9 +7,9 @@ ghost use Rattle.ns_work_log.specs.Rendered.{rendered_step};
 ghost use Rattle.ns_work_lock.specs.Copying.{entry_answer, is_work};
 
 use ns_log::{Entry, Owned};
-use ns_replies::answers::AnswerRoom;
 use ns_types::refusal::Refusal;
 use ns_types::reply::{Content, Rendered, Reply};
+use ns_work_log::EntryRoom;
 
 /// Whether it answers a worker's step.
 fn is_work(content: &Content) -> bool
@@ -27,7 +27,7 @@ fn is_work(content: &Content) -> bool
 }
 
 /// The answer again, in the room that was taken for it. It is copied, if it is of a worker's step that was made.
-fn repeat(room: AnswerRoom, shown: &Rendered, answer: &Result<Reply, Refusal>) -> Rendered
+fn repeat(room: EntryRoom, shown: &Rendered, answer: &Result<Reply, Refusal>) -> Owned<Rendered>
     requires room { IfOk answer.now (λ reply. HasRoom room reply.content) }
     requires shown { shown.now ≡ rendered answer.now }
     ensures { result ≡ shown.now }
@@ -42,7 +42,7 @@ fn repeat(room: AnswerRoom, shown: &Rendered, answer: &Result<Reply, Refusal>) -
 /// The answer again, in the room that was taken for it, if the call made a step: its entry stands at that place then, and
 /// nothing does else. It takes no memory.
 pub(crate) fn repeat_entry(
-    room: AnswerRoom,
+    room: EntryRoom,
     log: &[Entry],
     place: u64,
     answer: &Result<Reply, Refusal>,
@@ -52,7 +52,7 @@ pub(crate) fn repeat_entry(
     ensures { result ≡ rendered_step answer.now }
 {
     match log.get(place as usize) {
-        Some(entry) => Some(Owned::alone(repeat(room, entry.rendered(), answer))),
+        Some(entry) => Some(repeat(room, entry.rendered(), answer)),
         None => {
             drop(room);
             None

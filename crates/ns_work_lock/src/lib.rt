@@ -13,7 +13,6 @@ mod settling;
 mod shared;
 mod spent;
 mod work;
-mod worker_step;
 
 pub use changes::{ApplierView, BusyWorker, Moment, Planner, Role, WaitsFor, WorkerView};
 pub use ended::{Ended, PARTS};

@@ -12,32 +12,37 @@ ghost use Rattle.ns_work_lock.specs.Copying.{entry_answer};
 ghost use Rattle.ns_work_lock.specs.Receiving.{count, received};
 
 use crate::copying::repeat_entry;
-use crate::seat::{begin, receive};
+use crate::seat::{prepare_place, receive, shared_twice};
+use ns_log::Entry;
 use ns_log::receipts::Receipt;
-use ns_log::{Entry, Owned};
-use ns_replies::answers::AnswerRoom;
 use ns_steps::work::{Work, step_of};
 use ns_types::refusal::Refusal;
 use ns_types::reply::Reply;
+use ns_types::shared::Shared;
 use ns_types::step::Step;
 use ns_types::text::Text;
 use ns_types::worker::Worker;
-use ns_work_log::Held;
+use ns_work_log::{EntryRoom, Held};
 use std::alloc::Global;
 use std::sync::ledger::{Book, Ledger, Share};
 
-/// A step that is about to be made, with room for its answer, the place that its entry will have, and how many entries of
-/// the log are before it.
+/// A worker's step that is about to be made, for its receipt, with room for its answer, the place that its entry will have, and
+/// how many entries of the log are before it.
 #[derive(Drop)]
 pub(crate) struct Ready {
-    pub(crate) step: Owned<Step>,
-    pub(crate) room: AnswerRoom,
+    pub(crate) step: Shared<Step>,
+    pub(crate) room: EntryRoom,
     pub(crate) place: u64,
     pub(crate) number: u64,
 }
 
 /// The step with room for its answer, by the row of the worker whose step it is, as the next one of the server.
-fn with_room(alloc: Global, held: &Held, step: Step, row: Option<&Worker>) -> Result<Ready, Refusal>
+fn with_room(
+    alloc: Global,
+    held: &Held,
+    step: Shared<Step>,
+    row: Option<&Worker>,
+) -> Result<Ready, Refusal>
     ensures made { IfOk result (λ ready. ready ≡ record {
       step = step;
       room = room_of step (option_copied row.entry);
@@ -46,9 +51,9 @@ fn with_room(alloc: Global, held: &Held, step: Step, row: Option<&Worker>) -> Re
     }) }
     ensures memory { IfErr result (λ refusal. refusal ≡ Refusal.Memory) }
 {
-    match AnswerRoom::for_step(alloc, &step, row) {
+    match EntryRoom::for_step(alloc, step.get(), row) {
         Ok(room) => Ok(Ready {
-            step: Owned::alone(step),
+            step,
             room,
             place: held.next_place(),
             number: held.log().len() as u64,
@@ -60,8 +65,8 @@ fn with_room(alloc: Global, held: &Held, step: Step, row: Option<&Worker>) -> Re
     }
 }
 
-/// The step in which a worker does that, if the log takes one more entry, with a place for its receipt, and with room for
-/// its answer by the worker's row.
+/// The step in which a worker does that, with two owners, its entry and its receipt, if the log takes one more entry; with a
+/// place for the receipt, and with room for its answer by the worker's row.
 pub(crate) fn prepare_work(
     alloc: Global,
     held: &Held,
@@ -70,22 +75,24 @@ pub(crate) fn prepare_work(
     worker: u64,
     namespace: &Text,
     row: Option<&Worker>,
-) -> Result<Ready, Refusal>
+) -> Result<(Shared<Step>, Ready), Refusal>
     ensures begins { Begins (length held.now.log) held.now.limit result }
     ensures same { receipts.new.items ≡ receipts.old.items }
     ensures place { OnOk result (vec_len receipts.new < vec_capacity receipts.new) }
+    ensures entry { IfOk result (λ made. made.0 ≡ step_of work worker namespace.now) }
     ensures made { let step = step_of work worker namespace.now in
-        IfOk result (λ ready. ready ≡ record {
+        IfOk result (λ made. made.1 ≡ record {
           step = step;
           room = room_of step (option_copied row.entry);
           place = next_place held.now;
           number = length held.now.log;
         }) }
 {
-    begin(held)?;
-    receipts.reserve(1)?;
-    let step = step_of(work, worker, namespace.clone()?);
-    with_room(alloc, held, step, row)
+    prepare_place(held, receipts)?;
+    let made = step_of(work, worker, namespace.clone()?);
+    let (entry, step) = shared_twice(alloc, made)?;
+    let ready = with_room(alloc, held, step, row)?;
+    Ok((entry, ready))
 }
 
 /// Adds the receipt of a step that was made, with the answer that its entry has, and counts it. It takes no memory.

@@ -16,7 +16,7 @@ use ns_types::reply::{Rendered, Response};
 use ns_types::shared::Shared;
 use ns_types::step::Step;
 use ns_work_log::Held;
-use std::alloc::Global;
+use std::alloc::{AllocError, Global};
 use std::marker::{Model, PhantomData};
 use std::sync::ledger::{Book, Ledger, Share};
 
@@ -102,7 +102,7 @@ impl<L: Ledger> Seat<L, Retains> {
 }
 
 /// Whether the log takes one more entry.
-pub(crate) fn begin(held: &Held) -> Result<(), Refusal>
+fn begin(held: &Held) -> Result<(), Refusal>
     ensures { Begins (length held.now.log) held.now.limit result }
 {
     if held.is_full() {
@@ -112,7 +112,7 @@ pub(crate) fn begin(held: &Held) -> Result<(), Refusal>
 }
 
 /// A place for a receipt, if the log takes one more entry.
-fn prepare_place(held: &Held, receipts: &mut Vec<Receipt>) -> Result<(), Refusal>
+pub(crate) fn prepare_place(held: &Held, receipts: &mut Vec<Receipt>) -> Result<(), Refusal>
     ensures begins { Begins (length held.now.log) held.now.limit result }
     ensures place { OnOk result (vec_len receipts.new < vec_capacity receipts.new) }
     ensures same { receipts.new.items ≡ receipts.old.items }
@@ -122,13 +122,26 @@ fn prepare_place(held: &Held, receipts: &mut Vec<Receipt>) -> Result<(), Refusal
     Ok(())
 }
 
-/// The step with two owners, its entry and its receipt, and with a place for the receipt, if the log takes one more entry.
+/// The step with two owners, its entry and its receipt.
+pub(crate) fn shared_twice(
+    alloc: Global,
+    step: Step,
+) -> Result<(Shared<Step>, Shared<Step>), AllocError>
+    ensures entry { IfOk result (λ made. made.0 ≡ step) }
+    ensures receipt { IfOk result (λ made. made.1 ≡ step) }
+{
+    let entry = Shared::new(alloc, step)?;
+    let receipt = entry.share()?;
+    Ok((entry, receipt))
+}
+
+/// The step with two owners, and with a place for its receipt, if the log takes one more entry.
 pub(crate) fn prepare_shared(
     alloc: Global,
     held: &Held,
     receipts: &mut Vec<Receipt>,
     step: Step,
-) -> Result<(Owned<Step>, Owned<Step>), Refusal>
+) -> Result<(Shared<Step>, Shared<Step>), Refusal>
     ensures entry { IfOk result (λ made. made.0 ≡ step) }
     ensures receipt { IfOk result (λ made. made.1 ≡ step) }
     ensures begins { Begins (length held.now.log) held.now.limit result }
@@ -139,9 +152,8 @@ pub(crate) fn prepare_shared(
         drop(step);
         return Err(refusal);
     }
-    let entry = Shared::new(alloc, step)?;
-    let receipt = entry.share()?;
-    Ok((Owned::together(entry), Owned::together(receipt)))
+    let (entry, receipt) = shared_twice(alloc, step)?;
+    Ok((entry, receipt))
 }
 
 /// Adds a receipt, and counts it, where a step was answered.
@@ -150,7 +162,7 @@ pub(crate) fn receive<L: Ledger>(
     share: &mut Share<L>,
     book: &mut Book<L>,
     place: u64,
-    step: Owned<Step>,
+    step: Shared<Step>,
     rendered: Option<Owned<Rendered>>,
 )
     requires place { vec_len receipts.old < vec_capacity receipts.old }
@@ -180,7 +192,7 @@ pub(crate) fn receive_given<L: Ledger>(
     share: &mut Share<L>,
     book: &mut Book<L>,
     place: u64,
-    step: Owned<Step>,
+    step: Shared<Step>,
     given: Result<(Owned<Rendered>, Response), Refusal>,
 ) -> Result<Response, Refusal>
     requires place { vec_len receipts.old < vec_capacity receipts.old }

@@ -4,10 +4,10 @@ ghost use Rattle.std.specs.Prelude.{◌≡◌, ◌≢◌, [], IfErr, IfOk, IfSom
 ghost use Rattle.ns_types.specs.declared.refusal.Refusal.TheVariants as Refusal;
 ghost use Rattle.ns_types.specs.declared.step.Step.TheVariants as Step;
 ghost use Rattle.ns_driver.specs.Calls.{snapped};
+ghost use Rattle.ns_driver.specs.WorkerSteps.{worker_step};
 ghost use Rattle.ns_steps.specs.Served.{IsServed};
 ghost use Rattle.ns_work_lock.specs.Moments.{changes_after, is_any, notified};
 ghost use Rattle.ns_work_lock.specs.Receiving.{Asks, Receives};
-ghost use Rattle.ns_work_lock.specs.WorkerSteps.{worker_step};
 
 use crate::changes::{
     ApplierView, BusyWorker, Moment, Notified, Planner, Role, WaitsFor, Wakes, WorkerView,
@@ -18,7 +18,7 @@ use crate::looking;
 use crate::retention::Retention;
 use crate::seat::Seat;
 use crate::spent::Spent;
-use crate::worker_step::WorkerStep;
+use ns_driver::WorkerStep;
 use ns_log::segments::Segment;
 use ns_replies::answers::may_change;
 use ns_types::key::EvalKey;
@@ -201,7 +201,7 @@ impl<L: Ledger> Shared<L> {
             Receives made seat.old result seat.new }
     {
         let before = seat.forget();
-        let wakes = step.wakes();
+        let wakes = Wakes::of(&step);
         let mut desk = self.desk.lock(rt);
         let answer = desk.kept.work(alloc, seat, worker, namespace, step);
         let notified = self.stir(&mut desk, wakes);
@@ -416,9 +416,9 @@ impl<L: Ledger> Shared<L> {
         ensures { result.changes ≢ seen.changes }
     {
         let room = match waits {
-            WaitsFor::ForWork => &self.idle,
-            WaitsFor::ForApply => &self.planners,
-            WaitsFor::ForPlans => &self.applier,
+            WaitsFor::Work => &self.idle,
+            WaitsFor::Apply => &self.planners,
+            WaitsFor::Plans => &self.applier,
         };
         let desk = room.wait_while(rt, self.desk.lock(rt), |desk| {
             desk.changes == seen.changes

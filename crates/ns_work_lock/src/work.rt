@@ -4,18 +4,19 @@ ghost use Rattle.std.specs.Prelude.{◌≡◌, ◌+◌, ◌<◌, IfOk, Some, opt
 ghost use Rattle.ns_types.specs.declared.step.Step.TheVariants as Step;
 ghost use Rattle.ns_broker.specs.Snapping.{kept_at};
 ghost use Rattle.ns_driver.specs.Calls.{snapped};
+ghost use Rattle.ns_driver.specs.WorkerSteps.{worker_step};
 ghost use Rattle.ns_replies.specs.Rooms.{HasRoom};
 ghost use Rattle.ns_work_log.specs.Logs.{Logs, next_place};
+ghost use Rattle.ns_work_log.specs.Planned.{LogsWorkerStep};
 ghost use Rattle.ns_work_log.specs.Rendered.{rendered_step};
 ghost use Rattle.ns_work_lock.specs.Copying.{entry_answer};
 ghost use Rattle.ns_work_lock.specs.Receiving.{Receives, count, received};
-ghost use Rattle.ns_work_lock.specs.WorkerSteps.{LogsWork, worker_step};
 
 use crate::ended::Ended;
 use crate::ready::{Ready, prepare_work, receive_answer};
 use crate::retention::Retention;
 use crate::seat::Seat;
-use crate::worker_step::{WorkerStep, make};
+use ns_driver::WorkerStep;
 use ns_log::Entry;
 use ns_log::receipts::Receipt;
 use ns_steps::work::Work;
@@ -24,7 +25,7 @@ use ns_types::reply::Reply;
 use ns_types::shared::Shared;
 use ns_types::snapshot::Snapshot;
 use ns_types::text::Text;
-use ns_work_log::snapped;
+use ns_work_log::{row_for, snapped};
 use std::alloc::Global;
 use std::sync::ledger::{Book, Ledger, Share};
 
@@ -67,7 +68,7 @@ impl<L: Ledger> Ended<L> {
         namespace: &Text,
         step: WorkerStep<'_>,
     ) -> Result<Reply, Refusal>
-        ensures logged { LogsWork step.entry worker namespace.now self.old.held result self.new.held }
+        ensures logged { LogsWorkerStep step.entry worker namespace.now self.old.held result self.new.held }
         ensures received { let made = worker_step step.entry worker namespace.now in
             let place = next_place self.old.held in
             seat.new ≡ received place made (rendered_step result) seat.old }
@@ -80,16 +81,16 @@ impl<L: Ledger> Ended<L> {
             share,
             ..
         } = seat;
-        let row = held.core().worker_at(worker, namespace);
+        let row = row_for(held.core(), worker, namespace, &step);
         let prepared = prepare_work(alloc, held, receipts, step.kind(), worker, namespace, row);
-        let ready = match prepared {
-            Ok(ready) => ready,
+        let (entry, ready) = match prepared {
+            Ok(made) => made,
             Err(refusal) => {
                 drop(step);
                 return Err(refusal);
             }
         };
-        let answer = make(held, alloc, worker, namespace, step);
+        let answer = held.work_as(alloc, entry, worker, namespace, step);
         receive_answer(receipts, share, book, held.log(), ready, &answer);
         answer
     }
@@ -118,8 +119,16 @@ impl<L: Ledger> Ended<L> {
             share,
             ..
         } = seat;
-        let ready = prepare_work(alloc, held, receipts, Work::Snap, worker, namespace, None)?;
-        let seen = held.snap(alloc, worker, namespace);
+        let (entry, ready) = prepare_work(
+            alloc,
+            held,
+            receipts,
+            Work::Snap,
+            worker,
+            namespace,
+            None,
+        )?;
+        let seen = held.snap_as(alloc, entry, worker, namespace);
         receive_snapped(receipts, share, book, held.log(), ready, &seen);
         seen
     }

@@ -10,10 +10,12 @@ use Rattle.ns_types.specs.State.Rows.{State}
 use Rattle.ns_types.specs.Steps.{Answer}
 use Rattle.ns_json.specs.Replies.{rendered}
 use Rattle.ns_steps.specs.Chains.{Chain}
+use Rattle.ns_driver.specs.declared.worker_step.WorkerStep.{WorkerStep}
 use Rattle.ns_driver.specs.Attempting.{Attempts, AttemptsFinish, AttemptsSubmit}
+use Rattle.ns_driver.specs.WorkerSteps.{AttemptsWorkerStep, worker_step}
 use Rattle.ns_work_log.specs.Lacking.{HeldLacks}
 use Rattle.ns_work_log.specs.Logs.{AreNoted, History, IsNoted, Logs}
-use Rattle.ns_work_log.specs.Planned.{LogsFinish, LogsSubmit}
+use Rattle.ns_work_log.specs.Planned.{LogsFinish, LogsSubmit, LogsWorkerStep}
 
 abbrev state_of : History → State
 state_of h = h.state
@@ -40,6 +42,15 @@ module _ (worker : ℕ) (ns : Name) (planned : Snapshot) (old : History) where
   attempts_finish (Err Refusal.Memory) new l = inr (Refusal.Memory, refl, inl l.0, l.1)
   attempts_finish (Err Refusal.Full) new l = inl (l.1, l.2)
   attempts_finish (Err refusal) new l = inr (refusal, refl, inr l.1, l.2)
+
+pub attempts_worker_step : (worker : ℕ) (ns : Name) (old : History) (step : WorkerStep) (answer : Answer) (new : History) →
+    LogsWorkerStep step worker ns old answer new → AttemptsWorkerStep state_of IsNoted HeldLacks step worker ns old answer new
+attempts_worker_step worker ns old (WorkerStep.Dequeue evaluation) answer new l =
+    attempts (worker_step (WorkerStep.Dequeue evaluation) worker ns) old answer new l
+attempts_worker_step worker ns old (WorkerStep.Submit planned) answer new l = attempts_submit worker ns planned old answer new l
+attempts_worker_step worker ns old WorkerStep.Apply answer new l = attempts (worker_step WorkerStep.Apply worker ns) old answer new l
+attempts_worker_step worker ns old (WorkerStep.Finish planned) answer new l = attempts_finish worker ns planned.now old answer new l
+attempts_worker_step worker ns old WorkerStep.Nack answer new l = attempts (worker_step WorkerStep.Nack worker ns) old answer new l
 
 -- ---- what a chain leaves
 

@@ -5,3 +5,4 @@ mod Logged
 mod Planned
 mod Reading
 mod Rooms
+mod WorkerSteps

@@ -30,7 +30,7 @@ finish_is_none w worker ns planned _ (RefusesFinish.out_of_turn row at late) = r
 finish_is_none w worker ns planned _ (RefusesFinish.foreign row turn other) = refl
 finish_is_none w worker ns planned _ (RefusesFinish.unplaced row turn same nothing) = refl
 
-noted_none : (step : Step) (refusal : Refusal) (log : List Entry) → is_of_steps refusal ≡ false → noted step (Err refusal) log ≡ log
+pub noted_none : (step : Step) (refusal : Refusal) (log : List Entry) → is_of_steps refusal ≡ false → noted step (Err refusal) log ≡ log
 noted_none step refusal log none = ap (λ (b : Bool). if b then log ++ (step, rendered (Err refusal)) ∷ [] else log) none
 
 refused_rests : (base : State) (limit : ℕ) (log : List Entry) (s s' : State) (step : Step) (refusal : Refusal) → IsKept base log s →
@@ -48,38 +48,8 @@ module _ (worker : ℕ) (ns : Name) (planned : Snapshot) where
       length log < limit → HandsIn worker ns planned s answer s' → IsKeptWithin base limit (noted submits answer log) s'
   submit_keeps base limit log s (Ok reply) s' k place h = kept_by base limit log s submits (Ok reply) s' k place h.1
   submit_keeps base limit log s (Err Refusal.Memory) s' k place h = kept_by base limit log s submits (Err Refusal.Memory) s' k place h.1
-  submit_keeps base limit log s (Err Refusal.BadHead) s' k place h =
-      refused_rests base limit log s s' submits Refusal.BadHead k place (submit_is_none s.world worker ns planned Refusal.BadHead h.0) h.1
-  submit_keeps base limit log s (Err Refusal.BadJson) s' k place h =
-      refused_rests base limit log s s' submits Refusal.BadJson k place (submit_is_none s.world worker ns planned Refusal.BadJson h.0) h.1
-  submit_keeps base limit log s (Err Refusal.Denied) s' k place h =
-      refused_rests base limit log s s' submits Refusal.Denied k place (submit_is_none s.world worker ns planned Refusal.Denied h.0) h.1
-  submit_keeps base limit log s (Err Refusal.NotFound) s' k place h =
-      refused_rests base limit log s s' submits Refusal.NotFound k place (submit_is_none s.world worker ns planned Refusal.NotFound h.0) h.1
-  submit_keeps base limit log s (Err Refusal.BadMethod) s' k place h =
-      refused_rests base limit log s s' submits Refusal.BadMethod k place (submit_is_none s.world worker ns planned Refusal.BadMethod h.0) h.1
-  submit_keeps base limit log s (Err Refusal.Conflict) s' k place h =
-      refused_rests base limit log s s' submits Refusal.Conflict k place (submit_is_none s.world worker ns planned Refusal.Conflict h.0) h.1
-  submit_keeps base limit log s (Err (Refusal.BadField member)) s' k place h =
-      refused_rests base limit log s s' submits (Refusal.BadField member) k place (submit_is_none s.world worker ns planned (Refusal.BadField member) h.0) h.1
-  submit_keeps base limit log s (Err Refusal.PoolNotPermitted) s' k place h =
-      refused_rests base limit log s s' submits Refusal.PoolNotPermitted k place (submit_is_none s.world worker ns planned Refusal.PoolNotPermitted h.0) h.1
-  submit_keeps base limit log s (Err Refusal.InUse) s' k place h =
-      refused_rests base limit log s s' submits Refusal.InUse k place (submit_is_none s.world worker ns planned Refusal.InUse h.0) h.1
-  submit_keeps base limit log s (Err Refusal.Full) s' k place h =
-      refused_rests base limit log s s' submits Refusal.Full k place (submit_is_none s.world worker ns planned Refusal.Full h.0) h.1
-  submit_keeps base limit log s (Err Refusal.NeedLength) s' k place h =
-      refused_rests base limit log s s' submits Refusal.NeedLength k place (submit_is_none s.world worker ns planned Refusal.NeedLength h.0) h.1
-  submit_keeps base limit log s (Err Refusal.TooLarge) s' k place h =
-      refused_rests base limit log s s' submits Refusal.TooLarge k place (submit_is_none s.world worker ns planned Refusal.TooLarge h.0) h.1
-  submit_keeps base limit log s (Err Refusal.NotServed) s' k place h =
-      refused_rests base limit log s s' submits Refusal.NotServed k place (submit_is_none s.world worker ns planned Refusal.NotServed h.0) h.1
-  submit_keeps base limit log s (Err Refusal.LogFull) s' k place h =
-      refused_rests base limit log s s' submits Refusal.LogFull k place (submit_is_none s.world worker ns planned Refusal.LogFull h.0) h.1
-  submit_keeps base limit log s (Err Refusal.NotEnabled) s' k place h =
-      refused_rests base limit log s s' submits Refusal.NotEnabled k place (submit_is_none s.world worker ns planned Refusal.NotEnabled h.0) h.1
-  submit_keeps base limit log s (Err Refusal.Foreign) s' k place h =
-      refused_rests base limit log s s' submits Refusal.Foreign k place (submit_is_none s.world worker ns planned Refusal.Foreign h.0) h.1
+  submit_keeps base limit log s (Err refusal) s' k place h =
+      refused_rests base limit log s s' submits refusal k place (submit_is_none s.world worker ns planned refusal h.0) h.1
 
   -- ---- a call that finishes
 
@@ -91,33 +61,5 @@ module _ (worker : ℕ) (ns : Name) (planned : Snapshot) where
   finish_keeps base limit log s (Ok reply) s' k place h = kept_by base limit log s finishes (Ok reply) s' k place h.1
   finish_keeps base limit log s (Err Refusal.Memory) s' k place h = kept_by base limit log s finishes (Err Refusal.Memory) s' k place h.1
   finish_keeps base limit log s (Err Refusal.Full) s' k place h = kept_by base limit log s finishes (Err Refusal.Full) s' k place h.1
-  finish_keeps base limit log s (Err Refusal.BadHead) s' k place h =
-      refused_rests base limit log s s' finishes Refusal.BadHead k place (finish_is_none s.world worker ns planned Refusal.BadHead h.0) h.1
-  finish_keeps base limit log s (Err Refusal.BadJson) s' k place h =
-      refused_rests base limit log s s' finishes Refusal.BadJson k place (finish_is_none s.world worker ns planned Refusal.BadJson h.0) h.1
-  finish_keeps base limit log s (Err Refusal.Denied) s' k place h =
-      refused_rests base limit log s s' finishes Refusal.Denied k place (finish_is_none s.world worker ns planned Refusal.Denied h.0) h.1
-  finish_keeps base limit log s (Err Refusal.NotFound) s' k place h =
-      refused_rests base limit log s s' finishes Refusal.NotFound k place (finish_is_none s.world worker ns planned Refusal.NotFound h.0) h.1
-  finish_keeps base limit log s (Err Refusal.BadMethod) s' k place h =
-      refused_rests base limit log s s' finishes Refusal.BadMethod k place (finish_is_none s.world worker ns planned Refusal.BadMethod h.0) h.1
-  finish_keeps base limit log s (Err Refusal.Conflict) s' k place h =
-      refused_rests base limit log s s' finishes Refusal.Conflict k place (finish_is_none s.world worker ns planned Refusal.Conflict h.0) h.1
-  finish_keeps base limit log s (Err (Refusal.BadField member)) s' k place h =
-      refused_rests base limit log s s' finishes (Refusal.BadField member) k place (finish_is_none s.world worker ns planned (Refusal.BadField member) h.0) h.1
-  finish_keeps base limit log s (Err Refusal.PoolNotPermitted) s' k place h =
-      refused_rests base limit log s s' finishes Refusal.PoolNotPermitted k place (finish_is_none s.world worker ns planned Refusal.PoolNotPermitted h.0) h.1
-  finish_keeps base limit log s (Err Refusal.InUse) s' k place h =
-      refused_rests base limit log s s' finishes Refusal.InUse k place (finish_is_none s.world worker ns planned Refusal.InUse h.0) h.1
-  finish_keeps base limit log s (Err Refusal.NeedLength) s' k place h =
-      refused_rests base limit log s s' finishes Refusal.NeedLength k place (finish_is_none s.world worker ns planned Refusal.NeedLength h.0) h.1
-  finish_keeps base limit log s (Err Refusal.TooLarge) s' k place h =
-      refused_rests base limit log s s' finishes Refusal.TooLarge k place (finish_is_none s.world worker ns planned Refusal.TooLarge h.0) h.1
-  finish_keeps base limit log s (Err Refusal.NotServed) s' k place h =
-      refused_rests base limit log s s' finishes Refusal.NotServed k place (finish_is_none s.world worker ns planned Refusal.NotServed h.0) h.1
-  finish_keeps base limit log s (Err Refusal.LogFull) s' k place h =
-      refused_rests base limit log s s' finishes Refusal.LogFull k place (finish_is_none s.world worker ns planned Refusal.LogFull h.0) h.1
-  finish_keeps base limit log s (Err Refusal.NotEnabled) s' k place h =
-      refused_rests base limit log s s' finishes Refusal.NotEnabled k place (finish_is_none s.world worker ns planned Refusal.NotEnabled h.0) h.1
-  finish_keeps base limit log s (Err Refusal.Foreign) s' k place h =
-      refused_rests base limit log s s' finishes Refusal.Foreign k place (finish_is_none s.world worker ns planned Refusal.Foreign h.0) h.1
+  finish_keeps base limit log s (Err refusal) s' k place h =
+      refused_rests base limit log s s' finishes refusal k place (finish_is_none s.world worker ns planned refusal h.0) h.1

@@ -2,10 +2,9 @@
 
 use crate::held::Held;
 use ns_broker::Busy;
-use ns_driver::Works;
+use ns_driver::{WorkerStep, Works};
 use ns_steps::chain::Server;
 use ns_types::key::EvalKey;
-use ns_types::planned::Planned;
 use ns_types::refusal::Refusal;
 use ns_types::reply::Reply;
 use ns_types::shared::Shared;
@@ -34,14 +33,14 @@ impl Works for Held {
         self.core().phase(worker)
     }
 
-    fn dequeue(
+    fn work(
         &mut self,
         alloc: Global,
         worker: u64,
         namespace: &Text,
-        evaluation: u64,
+        step: WorkerStep<'_>,
     ) -> Result<Reply, Refusal> {
-        self.dequeue(alloc, worker, namespace, evaluation)
+        self.work(alloc, worker, namespace, step)
     }
 
     fn snap(
@@ -51,29 +50,5 @@ impl Works for Held {
         namespace: &Text,
     ) -> Result<Shared<Snapshot>, Refusal> {
         self.snap(alloc, worker, namespace)
-    }
-
-    fn submit(
-        &mut self,
-        alloc: Global,
-        worker: u64,
-        namespace: &Text,
-        planned: Planned,
-    ) -> Result<Reply, Refusal> {
-        self.submit(alloc, worker, namespace, planned)
-    }
-
-    fn apply(&mut self, alloc: Global, worker: u64, namespace: &Text) -> Result<Reply, Refusal> {
-        self.apply(alloc, worker, namespace)
-    }
-
-    fn finish(
-        &mut self,
-        alloc: Global,
-        worker: u64,
-        namespace: &Text,
-        planned: &Planned,
-    ) -> Result<Reply, Refusal> {
-        self.finish(alloc, worker, namespace, planned)
     }
 }

@@ -2,6 +2,7 @@
 #![tactic(auto)]
 
 mod driven;
+mod entry_room;
 mod held;
 pub mod laws;
 mod noting;
@@ -11,6 +12,8 @@ mod rendering;
 mod rotation;
 mod work;
 
+pub use entry_room::EntryRoom;
 pub use held::Held;
+pub use preparing::row_for;
 pub use rendering::rendered_in;
 pub use work::snapped;

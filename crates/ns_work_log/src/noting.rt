@@ -6,10 +6,11 @@ ghost use Rattle.ns_laws.specs.Refusals.{is_of_steps};
 ghost use Rattle.ns_replies.specs.Rooms.{HasRoom, room_of};
 ghost use Rattle.ns_work_log.specs.Noting.{Begins, noted};
 
-use ns_log::{Entry, Owned};
-use ns_replies::answers::AnswerRoom;
+use crate::entry_room::EntryRoom;
+use ns_log::Entry;
 use ns_types::refusal::Refusal;
 use ns_types::reply::Reply;
+use ns_types::shared::Shared;
 use ns_types::step::Step;
 use ns_types::worker::Worker;
 use std::alloc::Global;
@@ -31,13 +32,13 @@ pub fn begin(log: &mut Vec<Entry>, limit: u64) -> Result<(), Refusal>
 /// The step, with room for its answer, by the row of the worker whose step it is.
 pub fn with_room(
     alloc: Global,
-    step: Owned<Step>,
+    step: Shared<Step>,
     row: Option<&Worker>,
-) -> Result<(Owned<Step>, AnswerRoom), Refusal>
+) -> Result<(Shared<Step>, EntryRoom), Refusal>
     ensures room { IfOk result (λ made. made ≡ (step, room_of step (option_copied row.entry))) }
     ensures memory { IfErr result (λ refusal. refusal ≡ Refusal.Memory) }
 {
-    match AnswerRoom::for_step(alloc, step.get(), row) {
+    match EntryRoom::for_step(alloc, step.get(), row) {
         Ok(room) => Ok((step, room)),
         Err(_) => {
             drop(step);
@@ -65,8 +66,8 @@ pub fn is_of_steps(refusal: Refusal) -> bool
 /// Adds the step with its answer, if it is the answer of a step.
 pub fn note(
     log: &mut Vec<Entry>,
-    step: Owned<Step>,
-    room: AnswerRoom,
+    step: Shared<Step>,
+    room: EntryRoom,
     answer: &Result<Reply, Refusal>,
 )
     requires place { vec_len log.old < vec_capacity log.old }

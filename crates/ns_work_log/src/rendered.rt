@@ -11,34 +11,36 @@ ghost use Rattle.ns_replies.specs.Rooms.{HasRoom, copy_room, room_of};
 ghost use Rattle.ns_work_log.specs.Noting.{Begins, is_answer, noted};
 ghost use Rattle.ns_work_log.specs.Rendered.{IsGiven, LogsRendered};
 
+use crate::entry_room::EntryRoom;
 use crate::held::Held;
 use crate::noting::begin;
-use crate::preparing::prepare_write;
+use crate::preparing::prepare;
 use crate::rendering::{rendered_anew, rendered_in, response, shared_with};
 use ns_core::Core;
 use ns_log::{Entry, Owned};
 use ns_replies::answers::{AnswerRoom, may_change};
 use ns_types::refusal::Refusal;
 use ns_types::reply::{Rendered, Reply, Response};
+use ns_types::shared::Shared;
 use ns_types::step::Step;
 use std::alloc::{AllocError, Global};
 
 /// Room for the answer of a step that a request asks for: in the log, and for its copies, a receipt's and the response's.
 #[derive(Drop)]
 struct Rooms {
-    entry: AnswerRoom,
-    receipt: AnswerRoom,
+    entry: EntryRoom,
+    receipt: EntryRoom,
     response: AnswerRoom,
     ghost receipt_is: { receipt ≡ copy_room entry },
     ghost response_is: { response ≡ copy_room entry },
 }
 
 /// Rooms like that in the log for the copies of the answer.
-fn with_copies(alloc: Global, entry: AnswerRoom) -> Result<Rooms, AllocError>
+fn with_copies(alloc: Global, entry: EntryRoom) -> Result<Rooms, AllocError>
     ensures { IfOk result (λ rooms. rooms.entry ≡ entry) }
 {
     let receipt = entry.for_copy(alloc)?;
-    let response = entry.for_copy(alloc)?;
+    let response = entry.for_response(alloc)?;
     Ok(Rooms {
         entry,
         receipt,
@@ -51,8 +53,8 @@ fn with_rooms(
     alloc: Global,
     log: &mut Vec<Entry>,
     limit: u64,
-    step: Owned<Step>,
-) -> Result<(Owned<Step>, Rooms), Refusal>
+    step: Shared<Step>,
+) -> Result<(Shared<Step>, Rooms), Refusal>
     requires { length log.old.items ≤ limit }
     ensures begins { Begins (length log.old.items) limit result }
     ensures same { log.new.items ≡ log.old.items }
@@ -60,7 +62,7 @@ fn with_rooms(
     ensures step { IfOk result (λ made. made.0 ≡ step) }
     ensures entry { IfOk result (λ made. made.1.entry ≡ room_of step None) }
 {
-    let (step, entry) = prepare_write(alloc, log, limit, step)?;
+    let (step, entry) = prepare(alloc, log, limit, step, None)?;
     match with_copies(alloc, entry) {
         Ok(rooms) => Ok((step, rooms)),
         Err(_) => {
@@ -73,7 +75,7 @@ fn with_rooms(
 /// Adds the step with its answer, and hands the answer out, if it is the answer of a step. It takes no memory.
 fn note_given(
     log: &mut Vec<Entry>,
-    step: Owned<Step>,
+    step: Shared<Step>,
     rooms: Rooms,
     answer: &Result<Reply, Refusal>,
 ) -> Result<(Owned<Rendered>, Response), Refusal>
@@ -92,10 +94,10 @@ fn note_given(
     } = rooms;
     match rendered_in(entry, answer) {
         Some(shown) => {
-            let receipt = receipt.repeat(&shown);
-            let again = again.repeat(&shown);
+            let receipt = receipt.repeat(shown.get());
+            let again = again.repeat(shown.get());
             log.push_reserved(Entry::new(step, shown));
-            Ok((Owned::alone(receipt), response(answer, again)))
+            Ok((receipt, response(answer, again)))
         }
         None => {
             drop(step);
@@ -123,7 +125,7 @@ fn given_anew(
 fn give(
     log: &mut Vec<Entry>,
     alloc: Global,
-    step: Owned<Step>,
+    step: Shared<Step>,
     answer: &Result<Reply, Refusal>,
 ) -> Result<(Owned<Rendered>, Response), Refusal>
     requires { vec_len log.old < vec_capacity log.old }
@@ -135,7 +137,7 @@ fn give(
 {
     match given_anew(alloc, answer) {
         Ok((shown, given)) => {
-            log.push_reserved(Entry::of(step, shown));
+            log.push_reserved(Entry::new(step, shown));
             Ok(given)
         }
         Err(_) => {
@@ -146,7 +148,7 @@ fn give(
 }
 
 /// Makes the step that a request asks for.
-fn take(core: &mut Core, step: &Owned<Step>) -> Result<Reply, Refusal>
+fn take(core: &mut Core, step: &Shared<Step>) -> Result<Reply, Refusal>
     requires { IsServed step.now }
     ensures { Makes step.now core.old result core.new }
 {
@@ -158,7 +160,7 @@ impl Held {
     fn write_rendered(
         &mut self,
         alloc: Global,
-        step: Owned<Step>,
+        step: Shared<Step>,
     ) -> Result<(Owned<Rendered>, Response), Refusal>
         requires served { IsServed step }
         requires writes { may_change step ≡ true }
@@ -181,7 +183,7 @@ impl Held {
     fn read_rendered(
         &mut self,
         alloc: Global,
-        step: Owned<Step>,
+        step: Shared<Step>,
     ) -> Result<(Owned<Rendered>, Response), Refusal>
         requires served { IsServed step }
         requires reads { may_change step ≡ false }
@@ -209,7 +211,7 @@ impl Held {
     pub fn take_rendered(
         &mut self,
         alloc: Global,
-        step: Owned<Step>,
+        step: Shared<Step>,
     ) -> Result<(Owned<Rendered>, Response), Refusal>
         requires { IsServed step }
         ensures { LogsRendered step self.old result self.new }

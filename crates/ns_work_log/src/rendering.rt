@@ -7,16 +7,17 @@ ghost use Rattle.ns_replies.specs.Rooms.{HasRoom, answer_bytes};
 ghost use Rattle.ns_work_log.specs.Noting.{is_answer};
 ghost use Rattle.ns_work_log.specs.Rendered.{IsGiven, rendered_step};
 
+use crate::entry_room::EntryRoom;
 use crate::noting::is_of_steps;
 use ns_log::Owned;
-use ns_replies::answers::{AnswerRoom, refused, render};
+use ns_replies::answers::{refused, render};
 use ns_types::refusal::Refusal;
 use ns_types::reply::{Rendered, Reply, Response};
 use ns_types::shared::Shared;
 use std::alloc::{AllocError, Global};
 
 /// The answer in the room that was taken for it, if it is the answer of a step. It takes no memory.
-pub fn rendered_in(room: AnswerRoom, answer: &Result<Reply, Refusal>) -> Option<Rendered>
+pub fn rendered_in(room: EntryRoom, answer: &Result<Reply, Refusal>) -> Option<Owned<Rendered>>
     requires { IfOk answer.now (λ reply. HasRoom room reply.content) }
     ensures shown { result ≡ rendered_step answer.now }
     ensures fits { IfSome result (λ shown. length shown.body ≤ answer_bytes room) }
@@ -74,8 +75,8 @@ fn copied(shown: &Rendered) -> Result<Rendered, AllocError>
     })
 }
 
-/// The answer's bytes for its entry, and what is handed out of them: for a receipt, which owns them together with the entry, and a
-/// copy as the response.
+/// The answer's bytes for its entry, and what is handed out: for a receipt, which owns them together with the entry, and as the
+/// response. The entry has a copy, which takes no more memory than it has bytes, and the response what was rendered.
 pub(crate) fn shared_with(
     alloc: Global,
     answer: &Result<Reply, Refusal>,
@@ -85,11 +86,11 @@ pub(crate) fn shared_with(
     ensures entry { IfOk result (λ made. made.0 ≡ rendered answer.now) }
     ensures given { IfOk result (λ made. IsGiven answer.now made.1) }
 {
-    let again = copied(&shown)?;
-    let entry = Shared::new(alloc, shown)?;
+    let exact = copied(&shown)?;
+    let entry = Shared::new(alloc, exact)?;
     let receipt = entry.share()?;
     Ok((
         Owned::together(entry),
-        (Owned::together(receipt), response(answer, again)),
+        (Owned::together(receipt), response(answer, shown)),
     ))
 }

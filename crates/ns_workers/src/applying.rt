@@ -91,7 +91,7 @@ fn await_plan<L: Ledger, R: Wait>(rt: &R, shared: &Shared<L>, seen: Moment) -> b
     if is_over(seen) {
         return false;
     }
-    shared.wait_past(rt, WaitsFor::ForPlans, seen);
+    shared.wait_past(rt, WaitsFor::Plans, seen);
     true
 }
 

@@ -55,7 +55,7 @@ impl<'a, L: Ledger, G: Gate, R: Wait> Post<'a, L, G, R> {
             return Err(Halt::Ends);
         }
         let Some(key) = next else {
-            self.shared.wait_past(self.rt, WaitsFor::ForWork, seen);
+            self.shared.wait_past(self.rt, WaitsFor::Work, seen);
             return Ok(());
         };
         self.dequeue(seat, key)?;
@@ -165,7 +165,7 @@ impl<'a, L: Ledger, G: Gate, R: Wait> Post<'a, L, G, R> {
         if seen.applier_left {
             return Err(Halt::Ends);
         }
-        self.shared.wait_past(self.rt, WaitsFor::ForApply, seen);
+        self.shared.wait_past(self.rt, WaitsFor::Apply, seen);
         Ok(())
     }
 

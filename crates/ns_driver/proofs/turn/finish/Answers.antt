@@ -10,7 +10,7 @@ use Rattle.ns_driver.specs.Working.{Ends}
 pub returns-in_err-reply-clause-ends : goal.returns-in_err-reply-clause-ends
 returns-in_err-reply-clause-ends g c =
     let old = c.args.works.now in
-    let new = c.finish.new.self in
+    let new = c.work.new.self in
     let refusal = c.in_err-reply.field-0.0 in
     let end = c.requires.end in
     let ns = c.args.namespace.now in
@@ -20,4 +20,4 @@ returns-in_err-reply-clause-ends g c =
     (subst (λ has. Ends g.W.Server.state g.W.Server.notes g.W.Works.lacks old has (Stop.Refused refusal) new) (sym c.requires.kept)
     (end_refused g.W.Server.state g.W.Server.notes g.W.Works.lacks old ns end.0 planned end.1 new refusal
     (subst (λ r. AttemptsFinish g.W.Server.state g.W.Server.notes g.W.Works.lacks driven ns planned old r new) c.in_err-reply.was
-    c.finish.ensures) end.2 end.3))
+    c.work.ensures) end.2 end.3))

@@ -12,7 +12,7 @@ use Rattle.ns_driver.specs.Working.{Ends}
 pub returns-in_err-reply-clause-ends : goal.returns-in_err-reply-clause-ends
 returns-in_err-reply-clause-ends g c =
     let old = c.args.works.now in
-    let new = c.dequeue.new.self in
+    let new = c.work.new.self in
     let refusal = c.in_err-reply.field-0.0 in
     let ns = c.namespace.result.now in
     let n = c.number.result in
@@ -20,4 +20,4 @@ returns-in_err-reply-clause-ends g c =
     (λ stop. (has : Option Snapshot) → Ends g.W.Server.state g.W.Server.notes g.W.Works.lacks old has stop new) c.from_residual.ensures
     (λ has. take_refused g.W.Server.state g.W.Server.notes g.W.Works.lacks old new has c.args.key.now ns n refusal c.namespace.ensures c.number.ensures
     c.requires
-    (subst (λ r. Attempts g.W.Server.state g.W.Server.notes g.W.Works.lacks old (Step.Dequeue driven ns n) r new) c.in_err-reply.was c.dequeue.ensures))
+    (subst (λ r. Attempts g.W.Server.state g.W.Server.notes g.W.Works.lacks old (Step.Dequeue driven ns n) r new) c.in_err-reply.was c.work.ensures))

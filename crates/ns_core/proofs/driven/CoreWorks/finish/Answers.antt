@@ -1,5 +1,0 @@
-use Rattle.ns_core.proofs.Attempts.{attempts_finish}
-use Rattle.ns_core.proofs.driven.CoreWorks.finish.Goals as goal
-
-pub returns : goal.returns
-returns c = attempts_finish c.args.worker c.args.namespace.now c.args.planned.now c.args.self.now c.finish.result c.finish.new.self c.finish.ensures

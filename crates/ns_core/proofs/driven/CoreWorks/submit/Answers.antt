@@ -1,5 +1,0 @@
-use Rattle.ns_core.proofs.Attempts.{attempts_submit}
-use Rattle.ns_core.proofs.driven.CoreWorks.submit.Goals as goal
-
-pub returns : goal.returns
-returns c = attempts_submit c.args.worker c.args.namespace.now c.args.planned c.args.self.now c.submit.result c.submit.new.self c.submit.ensures
