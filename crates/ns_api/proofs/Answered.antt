@@ -1,5 +1,5 @@
 -- Answers of steps.
-use Rattle.std.proofs.Common.{◌≡◌, inl, inr, List, ℕ, Option, Some, None, Ok, Err, true, false, refl, ap, sym, subst, ◌∙◌, IfOk}
+use Rattle.std.proofs.Common.{◌≡◌, ◌⊎◌, inl, inr, List, ℕ, Option, Some, None, Ok, Err, true, false, refl, ap, sym, subst, ◌∙◌, IfOk}
 use Rattle.std.specs.Prelude.{IsSomeAnd}
 use Rattle.ns_types.specs.declared.refusal.Refusal.{Refusal}
 use Rattle.ns_types.specs.declared.reply.Content.{Content}
@@ -25,7 +25,7 @@ use Rattle.ns_steps.proofs.Telling.{served_tells}
 use Rattle.ns_request.specs.Gives.{Refuses}
 use Rattle.ns_endpoints.specs.Asking.{asked}
 use Rattle.ns_endpoints.specs.Finding.{Finds, FindsNone}
-use Rattle.ns_api.specs.Answering.{AnswersAsked, AnswersOrWants, AnswersRequest, IsWanting}
+use Rattle.ns_api.specs.Answering.{AnswersAsked, AnswersOrWants, AnswersRefused, AnswersRequest, IsWanting}
 use Rattle.ns_api.specs.Rooms.{ShowsOrWants, room_of}
 
 rendered_refusal : (refusal : Refusal) → rendered (Err refusal) ≡ refused refusal
@@ -56,27 +56,29 @@ module _ {S : Type 0} (state : S → State) (notes : S → Step → Answer → S
   pub wants_memory : (step : Step) (s : S) → AnswersOrWants state notes lacks step s (refused Refusal.Memory) s
   wants_memory step s = inr (Refusal.Memory, inl refl, (refl, refl))
 
-  -- ---- answers of requests, by what draws
+-- ---- answers of requests, by what a call for a step does and what draws
 
-  module _ {D : Type 0} (draws : D → List ℕ → D → Type 0) where
-    pub found_answers : (a : Asked) (made : Step) (old new : S × D) (reply : Rendered) → Finds draws a old.1 new.1 made →
-        AnswersOrWants state notes lacks made old.0 reply new.0 → AnswersRequest state notes lacks draws old a reply new
-    found_answers a made old new reply found answered =
-        inl (subst (λ asks. AnswersAsked state notes lacks draws asks old reply new) (sym found.1) (made, found.2, answered))
+module _ {S D : Type 0} (takes : Step → S → Rendered → S → Type 0) (draws : D → List ℕ → D → Type 0) where
+  found : (a : Asked) (made : Step) (old new : S × D) (reply : Rendered) → Finds draws a old.1 new.1 made →
+      takes made old.0 reply new.0 ⊎ AnswersRefused Refusal.Memory old.0 reply new.0 → AnswersRequest takes draws old a reply new
+  found a made old new reply finds answered =
+      inl (subst (λ asks. AnswersAsked takes draws asks old reply new) (sym finds.1) (made, finds.2, answered))
 
-    refuses : (a : Asked) (refusal : Refusal) (s : S) (old new : D) → Refuses refusal (asked a) → new ≡ old →
-        AnswersRequest state notes lacks draws (s, old) a (refused refusal) (s, new)
-    refuses a Refusal.Memory s old new is same = inr (refl, ap (λ d. (s, d)) same)
-    refuses a refusal s old new is same =
-        inl (subst (λ asks. AnswersAsked state notes lacks draws asks (s, old) (refused refusal) (s, new)) (sym is)
-        (refl, ap (λ d. (s, d)) same))
+  pub found_answers : (a : Asked) (made : Step) (old new : S × D) (reply : Rendered) → Finds draws a old.1 new.1 made →
+      takes made old.0 reply new.0 → AnswersRequest takes draws old a reply new
+  found_answers a made old new reply finds taken = found a made old new reply finds (inl taken)
 
-    pub none_answers : (a : Asked) (refusal : Refusal) (s : S) (old new : D) → FindsNone draws a old new refusal →
-        AnswersRequest state notes lacks draws (s, old) a (refused refusal) (s, new)
-    none_answers a refusal s old new (inl r) = refuses a refusal s old new r.0 r.1
-    none_answers a refusal s old new (inr m) =
-        found_answers a m.1.0 (s, old) (s, new) (refused refusal) m.1.1
-        (subst (λ r. AnswersOrWants state notes lacks m.1.0 s (refused r) s) (sym m.0) (wants_memory m.1.0 s))
+  refuses : (a : Asked) (refusal : Refusal) (s : S) (old new : D) → Refuses refusal (asked a) → new ≡ old →
+      AnswersRequest takes draws (s, old) a (refused refusal) (s, new)
+  refuses a Refusal.Memory s old new is same = inr (refl, ap (λ d. (s, d)) same)
+  refuses a refusal s old new is same =
+      inl (subst (λ asks. AnswersAsked takes draws asks (s, old) (refused refusal) (s, new)) (sym is)
+      (refl, ap (λ d. (s, d)) same))
+
+  pub none_answers : (a : Asked) (refusal : Refusal) (s : S) (old new : D) → FindsNone draws a old new refusal →
+      AnswersRequest takes draws (s, old) a (refused refusal) (s, new)
+  none_answers a refusal s old new (inl r) = refuses a refusal s old new r.0 r.1
+  none_answers a refusal s old new (inr m) = found a m.1.0 (s, old) (s, new) (refused refusal) m.1.1 (inr (ap refused m.0, refl))
 
 -- ---- reads
 

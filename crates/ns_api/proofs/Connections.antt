@@ -1,74 +1,54 @@
 -- From the answers of a handler to those of what it holds.
 use Rattle.std.proofs.Common.{ℕ, List, [], ◌∷◌, ap, ◌≡◌, subst}
-use Rattle.ns_types.specs.declared.refusal.Refusal.{Refusal}
 use Rattle.ns_types.specs.declared.reply.Rendered.{Rendered}
 use Rattle.ns_types.specs.declared.step.Step.{Step}
 use Rattle.ns_types.specs.Wire.Http.{Asked, End, Whole, Refused}
-use Rattle.ns_types.specs.State.Rows.{State}
-use Rattle.ns_types.specs.Steps.{Answer}
 use Rattle.ns_types.specs.Wire.Responses
 use Rattle.ns_types.specs.Wire.Responses.{Exchange}
-use Rattle.ns_steps.specs.Chains.{Chain}
 use Rattle.ns_http.specs.Conversation.{Conversation, CutShort, Streams}
 use Rattle.ns_api.specs.declared.answering.Api.{Api}
 use Rattle.ns_api.specs.Answering.{Answers, AnswersRequest, Holding}
-use Rattle.ns_api.specs.Serving.{Served, ServedInPart, holding}
-use Rattle.ns_api.proofs.Runs.{runs}
+use Rattle.ns_api.specs.Serving.{holding}
 
-module _ {S D F : Type 0} (state : S → State) (notes : S → Step → Answer → S → Type 0) (lacks : S → Refusal → Type 0) (draws : D → List ℕ → D → Type 0)
-    (follows : F → S → List Step → List Answer → S → F → Type 0) where
+module _ {S D F : Type 0} (takes : Step → S → Rendered → S → Type 0) (draws : D → List ℕ → D → Type 0) (follows : F → S → S → F → Type 0) where
   abbrev Answering : Api S D F → Asked → Rendered → Api S D F → Type 0
-  Answering old asks reply new = Answers state notes lacks draws follows (holding old) asks reply (holding new)
+  Answering old asks reply new = Answers takes draws follows (holding old) asks reply (holding new)
 
   pub chain : (old : Api S D F) (exchanges : List Exchange) (new : Api S D F) → Responses.Answers Answering old exchanges new →
-      Responses.Answers (Answers state notes lacks draws follows) (holding old) exchanges (holding new)
+      Responses.Answers (Answers takes draws follows) (holding old) exchanges (holding new)
   chain old [] new c = ap holding c
   chain old ((Whole m, reply) ∷ exchanges) new c = (holding c.0, c.1, chain c.0 exchanges new c.2)
   chain old ((Refused fault, reply) ∷ exchanges) new c = (c.0, chain old exchanges new c.1)
 
-  abbrev pub served : (old new : Api S D F) (streams : Streams) (end : End) → Conversation Answering old new streams end →
-      Served state notes lacks draws follows (holding old) (holding new) streams end
-  served old new streams end c =
-      let answered = chain old c.exchanges new c.answered in
-      record {
-        conversation = record {
-          read = c.read;
-          exchanges = c.exchanges;
-          consumes = c.consumes;
-          requests = c.requests;
-          answered = answered;
-          writes = c.writes;
-        };
-        run = runs state notes lacks draws follows (holding old) c.exchanges (holding new) answered;
-      }
+  abbrev pub held_conversation : (old new : Api S D F) (streams : Streams) (end : End) → Conversation Answering old new streams end →
+      Conversation (Answers takes draws follows) (holding old) (holding new) streams end
+  held_conversation old new streams end c = record {
+    read = c.read;
+    exchanges = c.exchanges;
+    consumes = c.consumes;
+    requests = c.requests;
+    answered = chain old c.exchanges new c.answered;
+    writes = c.writes;
+  }
 
-  pub served_in_part : (old new : Api S D F) (streams : Streams) → CutShort Answering old new streams →
-      ServedInPart state notes lacks draws follows (holding old) (holding new) streams
-  served_in_part old new streams c =
-      let answered = chain old c.exchanges new c.serves.answered in
-      record {
-        conversation = record {
-          read = c.read;
-          exchanges = c.exchanges;
-          closed = c.closed;
-          rest = c.rest;
-          consumes = c.consumes;
-          serves = record { takes = c.serves.takes; answered = answered };
-          writes = c.writes;
-        };
-        run = runs state notes lacks draws follows (holding old) c.exchanges (holding new) answered;
-      }
+  pub held_in_part : (old new : Api S D F) (streams : Streams) → CutShort Answering old new streams →
+      CutShort (Answers takes draws follows) (holding old) (holding new) streams
+  held_in_part old new streams c = record {
+    read = c.read;
+    exchanges = c.exchanges;
+    closed = c.closed;
+    rest = c.rest;
+    consumes = c.consumes;
+    serves = record { takes = c.serves.takes; answered = chain old c.exchanges new c.serves.answered };
+    writes = c.writes;
+  }
 
   -- a request that was answered, and what then followed
-  pub with_following : (old new : Holding S D F) (a : Asked) (reply : Rendered) (between : S) (follower : F) (steps : List Step)
-      (answers : List Answer) → AnswersRequest state notes lacks draws (old.server, old.draws) a reply (between, new.draws) → follower ≡ old.follower →
-      follows follower between steps answers new.server new.follower → Chain state notes between steps answers new.server →
-      Answers state notes lacks draws follows old a reply new
-  with_following old new a reply between follower steps answers answered same followed chain = record {
+  pub with_following : (old new : Holding S D F) (a : Asked) (reply : Rendered) (between : S) (follower : F) →
+      AnswersRequest takes draws (old.server, old.draws) a reply (between, new.draws) → follower ≡ old.follower →
+      follows follower between new.server new.follower → Answers takes draws follows old a reply new
+  with_following old new a reply between follower answered same followed = record {
     between = between;
     answered = answered;
-    steps = steps;
-    answers = answers;
-    followed = subst (λ f. follows f between steps answers new.server new.follower) same followed;
-    chain = chain;
+    followed = subst (λ f. follows f between new.server new.follower) same followed;
   }

@@ -1,4 +1,4 @@
--- What a request is answered, what a server does of itself after it, and the steps that a connection makes.
+-- What a request is answered, what follows it, and the steps that a connection with a server makes.
 use Rattle.std.specs.Prelude.{◌≡◌, ◌⊎◌, ℕ, List, [], ◌∷◌, ◌++◌, Result, Ok, Err}
 use Rattle.ns_types.specs.declared.refusal.Refusal.{Refusal}
 use Rattle.ns_types.specs.declared.refusal.Refusal.TheVariants.{Memory}
@@ -13,18 +13,41 @@ use Rattle.ns_steps.specs.Chains.{Chain, IsMade}
 use Rattle.ns_json.specs.Replies.{rendered}
 use Rattle.ns_endpoints.specs.Asking.{asked}
 use Rattle.ns_endpoints.specs.Drawing.{DrawsFor}
+use Rattle.ns_api.specs.Following.{FollowsInChain}
 
--- what is served: the server, what draws random bits, and what is done after each request
+-- what is served: the server or a seat at it, what draws random bits, and what is done after each request
 pub record Holding (S D F : Type 0) : Type 0 where
   pub server : S
   pub draws : D
   pub follower : F
 
--- ---- one request, over the server and what draws
+-- ---- one request, over what takes its step and what draws
 
 -- a refusal that changes nothing
 abbrev pub AnswersRefused : {S : Type 0} → Refusal → S → Rendered → S → Type 0
 AnswersRefused refusal old reply new = (reply ≡ refused refusal) × (new ≡ old)
+
+-- by what a call for a step does, and what is drawn
+module _ {S D : Type 0} (takes : Step → S → Rendered → S → Type 0) (draws : D → List ℕ → D → Type 0) where
+  -- the refusal that needs no state; or what a call for the step that is asked for does, with what is drawn for it; or
+  -- want of memory for that step
+  abbrev pub AnswersAsked : Result Step Refusal → S × D → Rendered → S × D → Type 0
+  AnswersAsked (Err refusal) old reply new = AnswersRefused refusal old reply new
+  AnswersAsked (Ok step) old reply new = (made : Step) × DrawsFor draws step old.1 made new.1 ×
+      (takes made old.0 reply new.0 ⊎ AnswersRefused Memory old.0 reply new.0)
+
+  -- want of memory may also come before the step is known
+  abbrev pub AnswersRequest : S × D → Asked → Rendered → S × D → Type 0
+  AnswersRequest old a reply new = AnswersAsked (asked a) old reply new ⊎ AnswersRefused Memory old reply new
+
+  -- a request is answered, and then comes what follows, which draws nothing
+  pub record Answers {F : Type 0} (follows : F → S → S → F → Type 0) (old : Holding S D F) (a : Asked)
+      (reply : Rendered) (new : Holding S D F) : Type 0 where
+    pub between : S
+    pub answered : AnswersRequest (old.server, old.draws) a reply (between, new.draws)
+    pub followed : follows old.follower between new.server new.follower
+
+-- ---- a server, which makes steps of the model
 
 -- what a call for a step may want: memory, or what the server lacks besides
 abbrev pub IsWanting : {S : Type 0} → (S → Refusal → Type 0) → S → Refusal → Type 0
@@ -44,18 +67,6 @@ module _ {S : Type 0} (state : S → State) (notes : S → Step → Answer → S
   AnswersOrWants step s reply s' = AnswersStep step s reply s' ⊎ AnswersWant s reply s'
 
   module _ {D : Type 0} (draws : D → List ℕ → D → Type 0) where
-    -- the refusal that needs no state; or the answer of the step that is asked for, with what is drawn for it
-    abbrev pub AnswersAsked : Result Step Refusal → S × D → Rendered → S × D → Type 0
-    AnswersAsked (Err refusal) old reply new = AnswersRefused refusal old reply new
-    AnswersAsked (Ok step) old reply new =
-        (made : Step) × DrawsFor draws step old.1 made new.1 × AnswersOrWants made old.0 reply new.0
-
-    -- want of memory may also come before the step is known
-    abbrev pub AnswersRequest : S × D → Asked → Rendered → S × D → Type 0
-    AnswersRequest old a reply new = AnswersAsked (asked a) old reply new ⊎ AnswersRefused Memory old reply new
-
-    -- ---- what a request made
-
     -- a request that made no step: it was refused without the state, or for want of memory before the draws, or for
     -- want of something after them
     abbrev pub MakesNone : Result Step Refusal → S → D → Rendered → D → Type 0
@@ -78,17 +89,11 @@ module _ {S : Type 0} (state : S → State) (notes : S → Step → Answer → S
     MakesOwn asks s old reply new (made ∷ []) (told ∷ []) = MakesOne asks s old reply new made told
     MakesOwn asks s old reply new _ _ = ⊥
 
-    -- ---- a server that does something of itself after each request
+    -- ---- with the steps that follow each request
 
     module _ {F : Type 0} (follows : F → S → List Step → List Answer → S → F → Type 0) where
-      -- a request is answered, and then the steps that follow are made, which draws nothing
-      pub record Answers (old : Holding S D F) (a : Asked) (reply : Rendered) (new : Holding S D F) : Type 0 where
-        pub between : S
-        pub answered : AnswersRequest (old.server, old.draws) a reply (between, new.draws)
-        pub steps : List Step
-        pub answers : List Answer
-        pub followed : follows old.follower between steps answers new.server new.follower
-        pub chain : Chain state notes between steps answers new.server
+      abbrev pub AnswersByServer : Holding S D F → Asked → Rendered → Holding S D F → Type 0
+      AnswersByServer = Answers AnswersOrWants draws (FollowsInChain state notes follows)
 
       -- A request made the first of these steps: its own, if it made one, and then those that followed. The rest is
       -- left.

@@ -1,15 +1,26 @@
--- What a server does of itself after a request.
+-- What follows a request.
 use Rattle.std.specs.Prelude.{◌≡◌, List, []}
 use Rattle.ns_types.specs.declared.refusal.Refusal.{Refusal}
 use Rattle.ns_types.specs.declared.step.Step.{Step}
 use Rattle.ns_types.specs.State.Rows.{State}
 use Rattle.ns_types.specs.Steps.{Answer}
+use Rattle.ns_steps.specs.Chains.{Chain}
 use Rattle.ns_driver.specs.declared.kept.Kept.{Kept}
 use Rattle.ns_driver.specs.declared.stopping.Stop.{Stop}
 use Rattle.ns_driver.specs.Driving.{Drives}
 use Rattle.ns_driver.specs.Kept.{seen_of}
 use Rattle.ns_api.specs.declared.following.Driven.{Driven}
 use Rattle.ns_api.specs.declared.following.Driver.{Driver}
+
+-- nothing follows, and what takes the steps stays
+abbrev pub Stays : {S F : Type 0} → F → S → S → F → Type 0
+Stays old s s' new = s' ≡ s
+
+-- these steps of a server follow, one after the other
+abbrev pub FollowsInChain : {S F : Type 0} → (S → State) → (S → Step → Answer → S → Type 0) →
+    (F → S → List Step → List Answer → S → F → Type 0) → F → S → S → F → Type 0
+FollowsInChain state notes follows old s s' new = (steps : List Step) × (answers : List Answer) ×
+    follows old s steps answers s' new × Chain state notes s steps answers s'
 
 -- no step, and the server stays
 abbrev pub FollowsNothing : {S : Type 0} → S → List Step → List Answer → S → Type 0

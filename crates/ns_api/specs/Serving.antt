@@ -1,15 +1,13 @@
 -- What a connection was served.
-use Rattle.std.specs.Prelude.{ℕ, List}
-use Rattle.ns_types.specs.declared.refusal.Refusal.{Refusal}
-use Rattle.ns_types.specs.declared.step.Step.{Step}
-use Rattle.ns_types.specs.State.Rows.{State}
-use Rattle.ns_types.specs.Steps.{Answer}
-use Rattle.ns_types.specs.Wire.Http.{End}
+use Rattle.std.specs.Prelude.{List}
+use Rattle.ns_types.specs.declared.reply.Rendered.{Rendered}
+use Rattle.ns_types.specs.Wire.Http.{Asked, End}
+use Rattle.ns_types.specs.Wire.Responses.{Exchange}
 use Rattle.ns_http.specs.Conversation.{Conversation, CutShort, Streams}
 use Rattle.ns_api.specs.declared.answering.Api.{Api}
-use Rattle.ns_api.specs.Answering.{Answers, Holding, RunsAs}
+use Rattle.ns_api.specs.Answering.{Holding}
 
--- the server, and what draws
+-- what takes the steps, and what draws
 abbrev pub held : {S D F : Type 0} → Api S D F → S × D
 held api = (api.taker, api.router.draws)
 
@@ -17,16 +15,14 @@ held api = (api.taker, api.router.draws)
 abbrev pub holding : {S D F : Type 0} → Api S D F → Holding S D F
 holding api = record { server = api.taker; draws = api.router.draws; follower = api.follower }
 
--- by the state for which a server stands, what a step notes besides, what the server may lack, what is drawn, and what
--- follows a request
-module _ {S D F : Type 0} (state : S → State) (notes : S → Step → Answer → S → Type 0) (lacks : S → Refusal → Type 0)
-    (draws : D → List ℕ → D → Type 0) (follows : F → S → List Step → List Answer → S → F → Type 0) where
-  -- the bytes of the connection, and what its requests made, with all that followed them
-  pub record Served (old new : Holding S D F) (streams : Streams) (end : End) : Type 0 where
-    pub conversation : Conversation (Answers state notes lacks draws follows) old new streams end
-    pub run : RunsAs state notes lacks draws follows old conversation.exchanges new
+-- by how one request is answered, and what all of them made
+module _ {S : Type 0} (answers : S → Asked → Rendered → S → Type 0) (makes : S → List Exchange → S → Type 0) where
+  -- the bytes of the connection, and what its requests made
+  pub record Served (old new : S) (streams : Streams) (end : End) : Type 0 where
+    pub conversation : Conversation answers old new streams end
+    pub made : makes old conversation.exchanges new
 
   -- the same where the writer failed
-  pub record ServedInPart (old new : Holding S D F) (streams : Streams) : Type 0 where
-    pub conversation : CutShort (Answers state notes lacks draws follows) old new streams
-    pub run : RunsAs state notes lacks draws follows old conversation.exchanges new
+  pub record ServedInPart (old new : S) (streams : Streams) : Type 0 where
+    pub conversation : CutShort answers old new streams
+    pub made : makes old conversation.exchanges new

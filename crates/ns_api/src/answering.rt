@@ -4,29 +4,28 @@ ghost use Rattle.std.specs.Prelude.{◌≡◌, IfOk};
 ghost use Rattle.ns_types.specs.Wire.Responses.{rendered_of};
 ghost use Rattle.ns_http.specs.Head;
 ghost use Rattle.ns_steps.specs.Served.{IsServed};
-ghost use Rattle.ns_api.specs.Answering.{AnswersOrWants, AnswersRequest};
+ghost use Rattle.ns_api.specs.Answering.{AnswersRequest};
 ghost use Rattle.ns_api.specs.Serving.{held};
 
 use crate::following::Follows;
 use ns_endpoints::{Draws, Router};
 use ns_http::{Answer, Request};
-use ns_steps::chain::Server;
 use ns_types::reply::Response;
 use ns_types::step::Step;
 use std::alloc::{AllocError, Global};
 
-/// What takes steps.
-pub trait Takes: Server {
-    ghost use Rattle.ns_types.specs.declared.refusal.Refusal.{Refusal};
+/// What takes steps: a server, or a seat at one that threads share.
+pub trait Takes {
+    ghost use Rattle.ns_types.specs.declared.reply.Rendered.{Rendered};
+    ghost use Rattle.ns_types.specs.declared.step.Step.{Step as AStep};
 
-    // What it may lack besides memory.
-    ghost lacks: { Self → Refusal → Type 0 };
+    // A call for that step, with that reply, leads from the first value to the second.
+    ghost takes: { AStep → Self → Rendered → Self → Type 0 };
 
-    /// Makes the step, and says what it is answered, as the response. Else it wants something, and nothing changes.
+    /// Takes the step, and responds with its answer, or with what there was too little of.
     fn respond(&mut self, alloc: Global, step: Step) -> Response
         requires { IsServed step }
-        ensures { AnswersOrWants Self.state Self.notes lacks step
-            self.old (rendered_of result) self.new };
+        ensures { takes step self.old (rendered_of result) self.new };
 }
 
 /// Answers requests over what takes their steps, with the random bits that new tokens need, and does after each what follows.
@@ -65,9 +64,25 @@ impl<T: Takes, D: Draws, F> Api<T, D, F> {
         &self.taker
     }
 
+    /// What took the steps.
+    pub fn into_taker(self) -> T
+    where
+        D: Drop,
+        F: Drop,
+        ensures { result ≡ self.taker }
+    {
+        let Api {
+            taker,
+            router: _router,
+            follower: _follower,
+            alloc: _,
+        } = self;
+        taker
+    }
+
     /// Answers a request, and does nothing that follows it.
     fn request(&mut self, request: &Request<'_>) -> Response
-        ensures answered { AnswersRequest T.state T.notes T.lacks D.draws (held self.old)
+        ensures answered { AnswersRequest T.takes D.draws (held self.old)
             (Head.asked request.now) (rendered_of result) (held self.new) }
         ensures not_yet { self.new.follower ≡ self.old.follower }
     {
@@ -83,7 +98,7 @@ impl<T: Takes, D: Draws, F: Follows<T>> Answer for Api<T, D, F> {
     ghost use Rattle.ns_api.specs.Serving.{holding};
 
     ghost answers = { λ old a reply new.
-        Answers T.state T.notes T.lacks D.draws F.follows (holding old) a reply (holding new) };
+        Answers T.takes D.draws F.follows (holding old) a reply (holding new) };
 
     type A = Global;
 

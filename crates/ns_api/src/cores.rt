@@ -19,9 +19,11 @@ use ns_work_log::Held;
 use std::alloc::{AllocError, Global};
 
 impl Takes for Core {
+    ghost use Rattle.ns_api.specs.Answering.{AnswersOrWants};
+    ghost use Rattle.ns_api.specs.Cores.{NotesNothing, itself};
     ghost use Rattle.ns_api.specs.Lacking.{LacksNothing};
 
-    ghost lacks = { LacksNothing };
+    ghost takes = { AnswersOrWants itself NotesNothing LacksNothing };
 
     fn respond(&mut self, alloc: Global, step: Step) -> Response {
         respond(alloc, self, step)
@@ -29,9 +31,12 @@ impl Takes for Core {
 }
 
 impl Takes for Held {
+    ghost use Rattle.ns_work_log.specs.Logs.{IsNoted};
+    ghost use Rattle.ns_api.specs.Answering.{AnswersOrWants};
+    ghost use Rattle.ns_api.specs.Cores.{state_of};
     ghost use Rattle.ns_api.specs.Lacking.{LacksRoom};
 
-    ghost lacks = { LacksRoom };
+    ghost takes = { AnswersOrWants state_of IsNoted LacksRoom };
 
     fn respond(&mut self, alloc: Global, step: Step) -> Response {
         let Ok(entry) = Shared::new(alloc, step) else {

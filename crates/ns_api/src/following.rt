@@ -1,35 +1,29 @@
 //! What a server does of itself after each request.
 
-ghost use Rattle.std.specs.Prelude.{◌≡◌, List};
-ghost use Rattle.ns_types.specs.declared.step.Step.{Step};
-ghost use Rattle.ns_types.specs.Steps.{Answer};
-ghost use Rattle.ns_steps.specs.Chains.{Chain};
+ghost use Rattle.std.specs.Prelude.{◌≡◌};
 ghost use Rattle.ns_api.specs.Following.{driver_of};
 
 use ns_driver::{Kept, Works, drive};
-use ns_steps::chain::Server;
 use std::alloc::Global;
 
 /// What follows each request, over what took its step.
-pub trait Follows<T: Server> {
-    // These steps, with these answers, lead from the first server and follower to the second.
-    ghost follows: { Self → T → List Step → List Answer → T → Self → Type 0 };
+pub trait Follows<T> {
+    // What follows leads from the first follower and taker to the second.
+    ghost follows: { Self → T → T → Self → Type 0 };
 
-    /// Makes the steps that follow a request, one after the other.
+    /// Does what follows a request.
     fn follow(&mut self, alloc: Global, taker: &mut T)
-        ensures { (steps : List Step) × (answers : List Answer)
-            × follows self.old taker.old steps answers taker.new self.new
-            × Chain T.state T.notes taker.old steps answers taker.new };
+        ensures { follows self.old taker.old taker.new self.new };
 }
 
 /// Nothing follows.
 #[derive(Drop)]
 pub struct NoFollower;
 
-impl<T: Server> Follows<T> for NoFollower {
-    ghost use Rattle.ns_api.specs.Following.{FollowsNothing};
+impl<T> Follows<T> for NoFollower {
+    ghost use Rattle.ns_api.specs.Following.{Stays};
 
-    ghost follows = { λ old s steps answers s' new. FollowsNothing s steps answers s' };
+    ghost follows = { Stays };
 
     fn follow(&mut self, _alloc: Global, _taker: &mut T) {}
 }
@@ -63,9 +57,9 @@ impl Driver {
 }
 
 impl<T: Works> Follows<T> for Driver {
-    ghost use Rattle.ns_api.specs.Following.{FollowsBy};
+    ghost use Rattle.ns_api.specs.Following.{FollowsBy, FollowsInChain};
 
-    ghost follows = { FollowsBy T.state T.notes T.lacks };
+    ghost follows = { FollowsInChain T.state T.notes (FollowsBy T.state T.notes T.lacks) };
 
     /// A worker that is left busy goes on after the next request.
     fn follow(&mut self, alloc: Global, taker: &mut T) {

@@ -1,18 +1,23 @@
 //! Laws of the definitions, each the contract of a function that does nothing.
 ghost use Rattle.std.specs.Prelude.{List};
+ghost use Rattle.ns_types.specs.State.Rows.{State};
 ghost use Rattle.ns_types.specs.Wire.Responses;
 ghost use Rattle.ns_types.specs.Wire.Responses.{Exchange};
-ghost use Rattle.ns_api.specs.Answering.{Answers, Holding, RunsAs};
+ghost use Rattle.ns_work_log.specs.Logs.{History};
+ghost use Rattle.ns_api.specs.declared.following.Driver.{Driver};
+ghost use Rattle.ns_api.specs.Answering.{Holding};
+ghost use Rattle.ns_api.specs.Cores.{AnswersByCore, AnswersByHeld, RunsByCore, RunsByHeld};
 
-use crate::answering::Takes;
-use crate::following::Follows;
 use ns_endpoints::Draws;
 
-/// What a connection was answered, one request after the other, is a chain of steps, and so a run of the model: the steps
-/// that its requests ask for, in their order, but for those that were refused without a step, and after each those that
+/// What a connection with a server was answered, one request after the other, is a chain of steps, and so a run of the model: the
+/// steps that its requests ask for, in their order, but for those that were refused without a step, and after each those that
 /// followed it. What is drawn is drawn in this order.
-pub fn answers_are_a_run<T: Takes, D: Draws, F: Follows<T>>()
-    ensures { (old new : Holding T D F) (exchanges : List Exchange) →
-        Responses.Answers (Answers T.state T.notes T.lacks D.draws F.follows) old exchanges new →
-        RunsAs T.state T.notes T.lacks D.draws F.follows old exchanges new }
+pub fn answers_are_a_run<D: Draws>()
+    ensures without_log { (old new : Holding State D Driver) (exchanges : List Exchange) →
+        Responses.Answers (AnswersByCore D.draws) old exchanges new →
+        RunsByCore D.draws old exchanges new }
+    ensures with_log { (old new : Holding History D Driver) (exchanges : List Exchange) →
+        Responses.Answers (AnswersByHeld D.draws) old exchanges new →
+        RunsByHeld D.draws old exchanges new }
 {}

@@ -2,9 +2,10 @@
 
 ghost use Rattle.std.specs.Prelude.{◌≡◌, ◌+◌, ◌≤◌, min, length, IfOk, IsErrOf, IsTrue, false, Err};
 ghost use Rattle.ns_types.specs.Wire.Http.{End};
-ghost use Rattle.ns_http.specs.Conversation.{streams_between, EndsWell, IsReadFault};
+ghost use Rattle.ns_http.specs.Conversation.{streams_between, Conversation, CutShort, EndsWell, IsReadFault};
 ghost use Rattle.ns_http.specs.Counts.{IsOpen, IsWriteFault};
-ghost use Rattle.ns_api.specs.Serving.{holding, Served, ServedInPart};
+ghost use Rattle.ns_api.specs.Answering.{Answers};
+ghost use Rattle.ns_api.specs.Serving.{holding};
 
 use crate::answering::{Api, Takes};
 use crate::following::Follows;
@@ -13,8 +14,8 @@ use ns_http::{ConnFault, Counted, READ_LIMIT, READ_ROOM};
 use std::alloc::Allocator;
 use std::io::{Read, Write};
 
-/// Answers the requests of a connection, one after the other, each with what follows it, and says how many there were. What
-/// they made is a chain of steps, and so a run.
+/// Answers the requests of a connection, one after the other, each with what follows it, and says how many there were. Over a
+/// server what they made is a chain of steps, and so a run.
 pub fn serve<A: Allocator + Copy, R: Read, W: Write, T: Takes, D: Draws, F: Follows<T>>(
     alloc: A,
     reader: &mut Counted<R>,
@@ -22,17 +23,16 @@ pub fn serve<A: Allocator + Copy, R: Read, W: Write, T: Takes, D: Draws, F: Foll
     api: &mut Api<T, D, F>,
 ) -> Result<u64, ConnFault>
     ensures ok { IfOk result (λ count. (end : End)
-        × (c : Served T.state T.notes T.lacks D.draws F.follows (holding api.old) (holding api.new)
+        × (c : Conversation (Answers T.takes D.draws F.follows) (holding api.old) (holding api.new)
         (streams_between R.remaining W.contents reader.old reader.new writer.old writer.new) end)
         × EndsWell end (R.remaining reader.new.inner) reader.new.counts
-        × (count ≡ length c.conversation.exchanges)) }
+        × (count ≡ length c.exchanges)) }
     ensures read { IsErrOf result ConnFault.Read → (end : End)
-        × Served T.state T.notes T.lacks D.draws F.follows (holding api.old) (holding api.new)
+        × Conversation (Answers T.takes D.draws F.follows) (holding api.old) (holding api.new)
         (streams_between R.remaining W.contents reader.old reader.new writer.old writer.new) end
         × IsReadFault end (R.remaining reader.new.inner) reader.old.counts reader.new.counts }
     ensures write { IsErrOf result ConnFault.Write
-        → ServedInPart T.state T.notes T.lacks D.draws F.follows
-        (holding api.old) (holding api.new)
+        → CutShort (Answers T.takes D.draws F.follows) (holding api.old) (holding api.new)
         (streams_between R.remaining W.contents reader.old reader.new writer.old writer.new)
         × IsWriteFault writer.old.counts writer.new.counts }
     ensures memory { IsErrOf result ConnFault.Memory

@@ -3,4 +3,3 @@ mod Ends
 mod Requests
 mod Written
 pub mod Gaining
-pub mod ConnectionLemmas

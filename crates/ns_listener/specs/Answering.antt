@@ -1,32 +1,45 @@
--- What a request is answered, and the receipts that requests gain.
+-- The receipts that requests gain at a seat.
 use Rattle.std.specs.Prelude.{◌≡◌, ◌⊎◌, ℕ, List, [], ◌∷◌, ◌++◌, Result, Ok, Err}
 use Rattle.ns_types.specs.declared.refusal.Refusal.{Refusal}
 use Rattle.ns_types.specs.declared.refusal.Refusal.TheVariants.{LogFull, Memory}
 use Rattle.ns_types.specs.declared.reply.Rendered.{Rendered}
 use Rattle.ns_types.specs.declared.step.Step.{Step}
-use Rattle.ns_types.specs.Wire.Http.{Asked, asked_by, Whole, Refused}
+use Rattle.ns_types.specs.Wire.Http.{Asked, End, asked_by, Whole, Refused}
 use Rattle.ns_types.specs.Wire.Refused.{refused}
 use Rattle.ns_types.specs.Wire.Responses.{Exchange, refusal_of}
+use Rattle.ns_http.specs.Conversation.{Streams}
 use Rattle.ns_log.specs.declared.receipts.receipt.Receipt.{Receipt}
+use Rattle.ns_work_lock.specs.Receiving.{receipt}
 use Rattle.ns_endpoints.specs.Asking.{asked}
 use Rattle.ns_endpoints.specs.Drawing.{DrawsFor}
+use Rattle.ns_api.specs.Answering.{Answers, Holding}
+use Rattle.ns_api.specs.Following.{Stays}
+use Rattle.ns_api.specs.Serving.{Served, ServedInPart}
+
+-- ---- a call for a step
+
+-- a call for a step may want memory, or a place in the log
+abbrev pub IsWant : Rendered → Type 0
+IsWant reply = (reply ≡ refused Memory) ⊎ (reply ≡ refused LogFull)
+
+-- one receipt more, at some place of that step with that reply; or none, for want of something
+abbrev pub GainsOrWants : Step → List Receipt → Rendered → List Receipt → Type 0
+GainsOrWants step old reply new =
+    ((place : ℕ) × (new ≡ old ++ receipt place step reply ∷ [])) ⊎ ((new ≡ old) × IsWant reply)
 
 -- a refusal for which nothing is drawn
-abbrev pub AnswersRefused : {D : Type 0} → Refusal → D → Rendered → D → Type 0
-AnswersRefused refusal old reply new = (reply ≡ refused refusal) × (new ≡ old)
+abbrev pub DrawsNothing : {D : Type 0} → Refusal → D → Rendered → D → Type 0
+DrawsNothing refusal old reply new = (reply ≡ refused refusal) × (new ≡ old)
 
--- what a call for a step may want: memory, or a place in the log
-abbrev pub AnswersWant : Rendered → Type 0
-AnswersWant reply = (reply ≡ refused Memory) ⊎ (reply ≡ refused LogFull)
+-- ---- the requests of a connection, by what is drawn
 
--- by what is drawn
 module _ {D : Type 0} (draws : D → List ℕ → D → Type 0) where
   -- a request that gained no receipt: it was refused without the state, or for want of memory before the draws, or for
   -- want of something after them
   abbrev pub MakesNone : Result Step Refusal → D → Rendered → D → Type 0
-  MakesNone (Err refusal) old reply new = AnswersRefused refusal old reply new ⊎ AnswersRefused Memory old reply new
-  MakesNone (Ok step) old reply new = AnswersRefused Memory old reply new ⊎
-      ((made : Step) × DrawsFor draws step old made new × AnswersWant reply)
+  MakesNone (Err refusal) old reply new = DrawsNothing refusal old reply new ⊎ DrawsNothing Memory old reply new
+  MakesNone (Ok step) old reply new =
+      DrawsNothing Memory old reply new ⊎ ((made : Step) × DrawsFor draws step old made new × IsWant reply)
 
   -- a request that gained this receipt: of the step that is asked for, with what is drawn for it, and of the reply
   pub record MakesOne (asks : Result Step Refusal) (old : D) (reply : Rendered) (new : D) (receipt : Receipt) : Type 0 where
@@ -40,17 +53,6 @@ module _ {D : Type 0} (draws : D → List ℕ → D → Type 0) where
   Gains asks old reply new [] = MakesNone asks old reply new
   Gains asks old reply new (receipt ∷ []) = MakesOne asks old reply new receipt
   Gains asks old reply new _ = ⊥
-
-  -- ---- one request, over the receipts and what draws
-
-  abbrev pub AnswersAsked : Result Step Refusal → List Receipt × D → Rendered → List Receipt × D → Type 0
-  AnswersAsked asks old reply new =
-      (gained : List Receipt) × (new.0 ≡ old.0 ++ gained) × Gains asks old.1 reply new.1 gained
-
-  abbrev pub AnswersRequest : List Receipt × D → Asked → Rendered → List Receipt × D → Type 0
-  AnswersRequest old a reply new = AnswersAsked (asked a) old reply new
-
-  -- ---- the requests of a connection
 
   -- The requests, in their order, gained these receipts, in their order, and no others, and drew for them in this order.
   -- A request that was refused by its head gained none.
@@ -66,3 +68,26 @@ module _ {D : Type 0} (draws : D → List ℕ → D → Type 0) where
     pub gained : List Receipt
     pub added : new.0 ≡ old.0 ++ gained
     pub gains : GainsAll old.1 exchanges gained new.1
+
+-- ---- a connection, by the receipts of what takes its steps, and what is drawn
+
+module _ {S D F : Type 0} (receipts : S → List Receipt) (draws : D → List ℕ → D → Type 0) where
+  abbrev pub AnswersBySeat : Holding S D F → Asked → Rendered → Holding S D F → Type 0
+  AnswersBySeat = Answers (λ step old reply new. GainsOrWants step (receipts old) reply (receipts new)) draws Stays
+
+  -- its receipts, and what draws
+  abbrev pub seat_of : Holding S D F → List Receipt × D
+  seat_of h = (receipts h.server, h.draws)
+
+  abbrev pub MadeBySeat : Holding S D F → List Exchange → Holding S D F → Type 0
+  MadeBySeat old exchanges new = Made draws (seat_of old) exchanges (seat_of new)
+
+-- the bytes of the connection, and the receipts that its requests gained
+abbrev pub ServedBySeat : {S D F : Type 0} → Holding S D F → Holding S D F → (S → List Receipt) → (D → List ℕ → D → Type 0) →
+    Streams → End → Type 0
+ServedBySeat old new receipts draws = Served (AnswersBySeat receipts draws) (MadeBySeat receipts draws) old new
+
+-- the same where the writer failed
+abbrev pub ServedBySeatInPart : {S D F : Type 0} → Holding S D F → Holding S D F → (S → List Receipt) → (D → List ℕ → D → Type 0) →
+    Streams → Type 0
+ServedBySeatInPart old new receipts draws = ServedInPart (AnswersBySeat receipts draws) (MadeBySeat receipts draws) old new

@@ -6,4 +6,3 @@ pub mod Keeping
 pub mod Opening
 pub mod Printing
 pub mod Answering
-pub mod Serving

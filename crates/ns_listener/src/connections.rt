@@ -3,7 +3,7 @@
 ghost use Rattle.ns_workers.specs.Growing.{Grows};
 ghost use Rattle.ns_listener.specs.Duties.{IsRequested};
 
-use crate::clients::{Client, SharedSeat, serve};
+use crate::clients::{Client, serve};
 use crate::context::Context;
 use crate::leaving::leave;
 use ns_endpoints::Draws;
@@ -17,9 +17,6 @@ use std::sync::Wait;
 use std::sync::ledger::Ledger;
 use std::time::Duration;
 
-/// A client of a shared server, with the seat of its thread.
-pub type SeatClient<'a, L, R, D, M> = Client<SharedSeat<'a, L, R, M>, D>;
-
 /// Makes replies leave at once, and bounds how many seconds a read or a write may wait.
 fn set_up(stream: &TcpStream, idle: Option<u64>) -> io::Result<()> {
     let longest = idle.map(Duration::from_secs);
@@ -32,9 +29,9 @@ fn set_up(stream: &TcpStream, idle: Option<u64>) -> io::Result<()> {
 fn answer<L: Ledger, R: Wait, D: Draws, M: Retention>(
     alloc: Global,
     stream: &TcpStream,
-    client: &mut SeatClient<'_, L, R, D, M>,
+    client: &mut Client<'_, L, R, D, M>,
 ) -> bool
-    ensures { Grows (IsRequested D.draws) client.old.seated.seat client.new.seated.seat }
+    ensures { Grows (IsRequested D.draws) client.old.taker.seat client.new.taker.seat }
 {
     let mut reader = Counted::new(stream);
     let mut writer = Counted::new(stream);
@@ -48,9 +45,9 @@ fn converse<L: Ledger, R: Wait + Clock, D: Draws, M: Retention>(
     alloc: Global,
     stream: &TcpStream,
     idle: Option<u64>,
-    client: &mut SeatClient<'_, L, R, D, M>,
+    client: &mut Client<'_, L, R, D, M>,
 )
-    ensures { Grows (IsRequested D.draws) client.old.seated.seat client.new.seated.seat }
+    ensures { Grows (IsRequested D.draws) client.old.taker.seat client.new.taker.seat }
 {
     if set_up(stream, idle).is_err() {
         return;
@@ -65,9 +62,9 @@ pub fn serve_connections<L: Ledger, R: Wait + Clock, D: Draws, M: Retention>(
     rt: &R,
     alloc: Global,
     context: &Context<L>,
-    client: &mut SeatClient<'_, L, R, D, M>,
+    client: &mut Client<'_, L, R, D, M>,
 ) -> io::Result<()>
-    ensures { Grows (IsRequested D.draws) client.old.seated.seat client.new.seated.seat }
+    ensures { Grows (IsRequested D.draws) client.old.taker.seat client.new.taker.seat }
 {
     for _ in rt.forever() {
         if !context.accept_limit.take() {

@@ -4,8 +4,8 @@ ghost use Rattle.std.specs.Prelude.{IfOk};
 ghost use Rattle.ns_workers.specs.Growing.{Grows};
 ghost use Rattle.ns_listener.specs.Duties.{IsDue, IsRequested};
 
-use crate::clients::{Client, SharedSeat};
-use crate::connections::{SeatClient, serve_connections};
+use crate::clients::client;
+use crate::connections::serve_connections;
 use crate::context::Context;
 use crate::fault::HostFault;
 use ns_endpoints::Draws;
@@ -35,10 +35,9 @@ fn attend<L: Ledger, R: Wait + Clock, D: Draws + Drop, M: Retention>(
 ) -> Result<Seat<L, M>, HostFault>
     ensures { IfOk result (Grows (IsRequested D.draws) seat) }
 {
-    let shared = context.shared;
-    let mut client = Client::new(alloc, SharedSeat { rt, shared, seat }, drawer)?;
+    let mut client = client(rt, alloc, context.shared, drawer, seat)?;
     match serve_connections(rt, alloc, context, &mut client) {
-        Ok(()) => Ok(client.into_seated().seat),
+        Ok(()) => Ok(client.into_taker().seat),
         Err(_) => Err(HostFault::Accept),
     }
 }

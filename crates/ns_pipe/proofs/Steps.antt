@@ -96,9 +96,9 @@ noted_read (step ∷ steps) (answer ∷ answers) h = (h.0, noted_read steps answ
 
 pub log_read : {D : Type 0} (draws : D → List ℕ → D → Type 0) (old last : Holding History D Driver) (streams : Streams) (end : End)
     (connection : ServedByHeld draws old last streams end) →
-    AreNoted old.server connection.run.steps connection.run.answers last.server → AreAsRead old.server.log → AreAsRead last.server.log
+    AreNoted old.server connection.made.steps connection.made.answers last.server → AreAsRead old.server.log → AreAsRead last.server.log
 log_read draws old last streams end connection noted h =
-    let run = connection.run in
+    let run = connection.made in
     let steps = made_read state_of IsNoted HeldLacks LacksRoom draws old connection.conversation.exchanges run.steps run.answers last run.made in
     subst AreAsRead (sym noted.entries)
     (each_append (λ (e : Entry). IsAsRead e.0) old.server.log (zip run.steps (map rendered run.answers)) h

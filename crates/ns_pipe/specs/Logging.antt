@@ -35,7 +35,7 @@ module _ {D R W V : Type 0} (draws : D → List ℕ → D → Type 0) (remaining
   pub record IsLogged (old last : Holding History D Driver) (reader reader' : Counted R) (replies replies' : Counted V)
       (end : End) : Type 0 where
     pub served : ServedByHeld draws old last (streams_between remaining replied reader reader' replies replies') end
-    pub noted : AreNoted old.server served.run.steps served.run.answers last.server
+    pub noted : AreNoted old.server served.made.steps served.made.answers last.server
 
   -- from that server: the reader and what takes the replies, each before and after
   module _ (old : Holding History D Driver) (reader reader' : Counted R) (replies replies' : Counted V) where

@@ -1,7 +1,7 @@
 // Connections of one client with a shared server, by the secret of the first token.
 use ns_endpoints::Draws;
 use ns_http::Counted;
-use ns_listener::clients::{Client, SharedSeat, serve};
+use ns_listener::clients::{Client, client, serve};
 use ns_work_lock::{Retains, Seat, Shared};
 use std::alloc::Global;
 use std::process::Abort;
@@ -23,7 +23,7 @@ impl Draws for GuestBits {
 }
 
 /// A client with a seat of its own.
-pub(crate) type Guest<'a, L, R> = Client<SharedSeat<'a, L, R, Retains>, GuestBits>;
+pub(crate) type Guest<'a, L, R> = Client<'a, L, R, GuestBits, Retains>;
 
 /// A new seat.
 pub(crate) fn seat<L: Ledger, R: Wait + Abort>(
@@ -40,12 +40,12 @@ pub(crate) fn guest<'a, L: Ledger, R: Wait + Abort>(
     shared: &'a Shared<L>,
 ) -> Guest<'a, L, R> {
     let seat = seat(rt, alloc, shared);
-    Client::new(alloc, SharedSeat { rt, shared, seat }, GuestBits).expect(rt, "memory")
+    client(rt, alloc, shared, GuestBits, seat).expect(rt, "memory")
 }
 
 /// The client's seat.
 pub(crate) fn seat_of<L: Ledger, R: Wait>(guest: Guest<'_, L, R>) -> Seat<L, Retains> {
-    guest.into_seated().seat
+    guest.into_taker().seat
 }
 
 /// All that the server sends over a connection for these requests.

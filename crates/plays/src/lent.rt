@@ -4,7 +4,6 @@ use crate::same_bytes::SameBytes;
 use ns_api::{Api, NoFollower, Takes, respond};
 use ns_core::Core;
 use ns_http::{Answer, Request};
-use ns_steps::chain::Server;
 use ns_types::reply::Response;
 use ns_types::step::Step;
 use std::alloc::{AllocError, Global};
@@ -14,16 +13,13 @@ pub struct Lent<'a> {
     pub core: &'a mut Core,
 }
 
-impl Server for Lent<'_> {
-    ghost state = { λ lent. lent.core.now };
-
-    ghost notes = { λ _ _ _ _. Unit {0} };
-}
-
 impl Takes for Lent<'_> {
+    ghost use Rattle.ns_api.specs.Answering.{AnswersOrWants};
+    ghost use Rattle.ns_api.specs.Cores.{NotesNothing, itself};
     ghost use Rattle.ns_api.specs.Lacking.{LacksNothing};
 
-    ghost lacks = { LacksNothing };
+    ghost takes = { λ step old reply new.
+        AnswersOrWants itself NotesNothing LacksNothing step old.core.now reply new.core.now };
 
     fn respond(&mut self, alloc: Global, step: Step) -> Response {
         respond(alloc, self.core, step)

@@ -1,38 +1,59 @@
-//! One connection, answered over what gains the receipts.
+//! One connection, answered over a seat, which gains the receipts.
 
 ghost use Rattle.std.specs.Prelude.{◌≡◌, ◌+◌, ◌≤◌, min, length, IfOk, IsErrOf, IsTrue, false, Err};
 ghost use Rattle.ns_types.specs.Wire.Http.{End};
 ghost use Rattle.ns_http.specs.Conversation.{streams_between, EndsWell, IsReadFault};
 ghost use Rattle.ns_http.specs.Counts.{IsOpen, IsWriteFault};
-ghost use Rattle.ns_listener.specs.Serving.{held, Served, ServedInPart};
+ghost use Rattle.ns_api.specs.Serving.{holding};
+ghost use Rattle.ns_listener.specs.Answering.{ServedBySeat, ServedBySeatInPart};
 
-use crate::clients::client::Client;
-use crate::clients::seated::Seated;
+use crate::clients::shared_seat::SharedSeat;
+use ns_api::{Api, NoFollower};
 use ns_endpoints::Draws;
 use ns_http::{ConnFault, Counted, READ_LIMIT, READ_ROOM};
-use std::alloc::Allocator;
+use ns_work_lock::{Retention, Seat, Shared};
+use std::alloc::{AllocError, Allocator, Global};
 use std::io::{Read, Write};
+use std::sync::Wait;
+use std::sync::ledger::Ledger;
+
+/// Answers requests by steps of a server that threads share.
+pub type Client<'a, L, R, D, M> = Api<SharedSeat<'a, L, R, M>, D, NoFollower>;
+
+/// A client with this seat.
+pub fn client<'a, L: Ledger, R: Wait, D: Draws + Drop, M: Retention>(
+    rt: &'a R,
+    alloc: Global,
+    shared: &'a Shared<L>,
+    draws: D,
+    seat: Seat<L, M>,
+) -> Result<Client<'a, L, R, D, M>, AllocError>
+    ensures seat { IfOk result (λ client. client.taker.seat ≡ seat) }
+    ensures drawer { IfOk result (λ client. client.router.draws ≡ draws) }
+{
+    Api::new(alloc, SharedSeat { rt, shared, seat }, draws, NoFollower)
+}
 
 /// Answers the requests of a connection, one after the other, and says how many there were. The receipts that are gained are
 /// those of the steps which the requests made, in their order.
-pub fn serve<A: Allocator + Copy, R: Read, W: Write, S: Seated, D: Draws>(
+pub fn serve<A: Allocator + Copy, I: Read, W: Write, L: Ledger, R: Wait, D: Draws, M: Retention>(
     alloc: A,
-    reader: &mut Counted<R>,
+    reader: &mut Counted<I>,
     writer: &mut Counted<W>,
-    client: &mut Client<S, D>,
+    client: &mut Client<'_, L, R, D, M>,
 ) -> Result<u64, ConnFault>
     ensures ok { IfOk result (λ count. (end : End)
-        × (c : Served D.draws (held S.receipts client.old) (held S.receipts client.new)
-        (streams_between R.remaining W.contents reader.old reader.new writer.old writer.new) end)
-        × EndsWell end (R.remaining reader.new.inner) reader.new.counts
+        × (c : ServedBySeat (holding client.old) (holding client.new) (λ s. s.seat) D.draws
+        (streams_between I.remaining W.contents reader.old reader.new writer.old writer.new) end)
+        × EndsWell end (I.remaining reader.new.inner) reader.new.counts
         × (count ≡ length c.conversation.exchanges)) }
     ensures read { IsErrOf result ConnFault.Read → (end : End)
-        × Served D.draws (held S.receipts client.old) (held S.receipts client.new)
-        (streams_between R.remaining W.contents reader.old reader.new writer.old writer.new) end
-        × IsReadFault end (R.remaining reader.new.inner) reader.old.counts reader.new.counts }
+        × ServedBySeat (holding client.old) (holding client.new) (λ s. s.seat) D.draws
+        (streams_between I.remaining W.contents reader.old reader.new writer.old writer.new) end
+        × IsReadFault end (I.remaining reader.new.inner) reader.old.counts reader.new.counts }
     ensures write { IsErrOf result ConnFault.Write
-        → ServedInPart D.draws (held S.receipts client.old) (held S.receipts client.new)
-        (streams_between R.remaining W.contents reader.old reader.new writer.old writer.new)
+        → ServedBySeatInPart (holding client.old) (holding client.new) (λ s. s.seat) D.draws
+        (streams_between I.remaining W.contents reader.old reader.new writer.old writer.new)
         × IsWriteFault writer.old.counts writer.new.counts }
     ensures memory { IsErrOf result ConnFault.Memory
         → (reader.new ≡ reader.old) × (writer.new ≡ writer.old) × (client.new ≡ client.old) }
@@ -49,5 +70,5 @@ pub fn serve<A: Allocator + Copy, R: Read, W: Write, S: Seated, D: Draws>(
     // Each read has room for so many bytes.
     ensures room { min reader.old.counts.least_room READ_ROOM ≤ reader.new.counts.least_room }
 {
-    ns_http::serve(alloc, reader, writer, client)
+    ns_api::serve(alloc, reader, writer, client)
 }

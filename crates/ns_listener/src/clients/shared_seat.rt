@@ -1,7 +1,6 @@
 //! A seat at a server that threads share.
 
-use crate::clients::seated::Seated;
-use ns_types::refusal::Refusal;
+use ns_api::Takes;
 use ns_types::reply::Response;
 use ns_types::step::Step;
 use ns_work_lock::{Retention, Seat, Shared};
@@ -17,10 +16,16 @@ pub struct SharedSeat<'a, L: Ledger, R, M: Retention> {
     pub seat: Seat<L, M>,
 }
 
-impl<L: Ledger, R: Wait, M: Retention> Seated for SharedSeat<'_, L, R, M> {
-    ghost receipts = { λ s. s.seat };
+impl<L: Ledger, R: Wait, M: Retention> Takes for SharedSeat<'_, L, R, M> {
+    ghost use Rattle.ns_listener.specs.Answering.{GainsOrWants};
 
-    fn take(&mut self, alloc: Global, step: Step) -> Result<Response, Refusal> {
-        self.shared.take(self.rt, alloc, &mut self.seat, step)
+    // Others may make steps at that server in between, so this says nothing of its state.
+    ghost takes = { λ step old reply new. GainsOrWants step old.seat reply new.seat };
+
+    fn respond(&mut self, alloc: Global, step: Step) -> Response {
+        match self.shared.take(self.rt, alloc, &mut self.seat, step) {
+            Ok(response) => response,
+            Err(refusal) => Response::Refused(refusal),
+        }
     }
 }

@@ -10,8 +10,8 @@ use Rattle.ns_workers.proofs.Growing.{grows_same}
 pub returns : goal.returns
 returns g c =
     let requested = IsRequested g.D.Draws.draws in
-    let before = c.args.client.now.seated.seat in
-    let after = c.serve.new.client.seated.seat in
+    let before = c.args.client.now.taker.seat in
+    let after = c.serve.new.client.taker.seat in
     let old : List Receipt × g.row.D.Denot = (before, c.args.client.now.router.draws) in
     let new : List Receipt × g.row.D.Denot = (after, c.serve.new.client.router.draws) in
     in_each_case {G = Grows requested before after} c.serve.result
@@ -19,4 +19,4 @@ returns g c =
     (λ is. let p = c.serve.ensures.read is in made_grows g.D.Draws.draws old p.1.conversation.exchanges new p.1.made)
     (λ is. let p = c.serve.ensures.write is in made_grows g.D.Draws.draws old p.0.conversation.exchanges new p.0.made)
     (λ is. let p = c.serve.ensures.memory is in
-    subst (λ client. Grows requested before client.seated.seat) (sym p.2) (grows_same requested before))
+    subst (λ client. Grows requested before client.taker.seat) (sym p.2) (grows_same requested before))

@@ -3,4 +3,4 @@ use Rattle.ns_listener.specs.Duties.{IsRequested}
 use Rattle.ns_workers.specs.Growing.{Grows}
 
 abbrev pub invariant-loop : goal.invariant-loop
-invariant-loop g l = Grows (IsRequested g.D.Draws.draws) l.fn.client.seated.seat l.client.seated.seat
+invariant-loop g l = Grows (IsRequested g.D.Draws.draws) l.fn.client.taker.seat l.client.taker.seat

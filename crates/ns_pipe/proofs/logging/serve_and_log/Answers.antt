@@ -5,15 +5,19 @@ use Rattle.ns_types.specs.Wire.Http.{End}
 use Rattle.ns_types.specs.declared.step.Step.{Step}
 use Rattle.ns_json.specs.Logs.{log_text}
 use Rattle.ns_steps.specs.Chains.{Chain}
+use Rattle.ns_work_log.specs.Lacking.{HeldLacks}
 use Rattle.ns_work_log.specs.Logs.{AreNoted, History, IsNoted}
-use Rattle.ns_http.specs.Conversation.{streams_between}
+use Rattle.ns_http.specs.Conversation.{Conversation, streams_between}
 use Rattle.ns_http.specs.Output.{WritesAll}
 use Rattle.ns_http.specs.declared.counting.Counted.{Counted}
 use Rattle.ns_http.specs.declared.engine.ConnFault.{ConnFault}
 use Rattle.ns_api.specs.Answering.{Holding}
-use Rattle.ns_api.specs.Cores.{ServedByHeld, state_of}
+use Rattle.ns_api.specs.Cores.{AnswersByHeld, state_of}
+use Rattle.ns_api.specs.Following.{FollowsBy}
+use Rattle.ns_api.specs.Lacking.{LacksRoom}
 use Rattle.ns_api.specs.Serving.{holding}
 use Rattle.ns_api.specs.declared.following.Driver.{Driver}
+use Rattle.ns_api.proofs.Runs.{served}
 use Rattle.ns_faults.specs.Lines.{FailsToWrite}
 use Rattle.ns_pipe.specs.Readable.{AreAsRead, IsReadBack}
 use Rattle.ns_pipe.specs.Logging.{IsLogged}
@@ -24,10 +28,12 @@ use Rattle.ns_pipe.proofs.logging.serve_and_log.Goals as goal
 logged : {D R W V : Type 0} (draws : D → List ℕ → D → Type 0) (remaining : R → Option (List ℕ)) (contents : W → Option (List ℕ))
     (replied : V → Option (List ℕ)) (old last : Holding History D Driver) (reader reader' : Counted R) (replies replies' : Counted V) (end : End) →
     ((old new : History) (steps : List Step) (answers : List Answer) → Chain state_of IsNoted old steps answers new → AreNoted old steps answers new) →
-    ServedByHeld draws old last (streams_between remaining replied reader reader' replies replies') end →
+    Conversation (AnswersByHeld draws) old last (streams_between remaining replied reader reader' replies replies') end →
     IsLogged draws remaining contents replied old last reader reader' replies replies' end
-logged draws remaining contents replied old last reader reader' replies replies' end law served =
-    record { served = served; noted = law old.server last.server served.run.steps served.run.answers served.run.chain }
+logged draws remaining contents replied old last reader reader' replies replies' end law conversation =
+    let by_held = served state_of IsNoted LacksRoom draws (FollowsBy state_of IsNoted HeldLacks) old last
+    (streams_between remaining replied reader reader' replies replies') end conversation in
+    record { served = by_held; noted = law old.server last.server by_held.made.steps by_held.made.answers by_held.made.chain }
 
 on_ok : {T E : Type 0} (r : Result T E) (P Q R : Type 0) → (P → Q → R) → OnOk r P → OnOk r Q → OnOk r R
 on_ok (Ok x) P Q R f p q = f p q
