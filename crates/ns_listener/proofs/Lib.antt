@@ -3,3 +3,4 @@ mod Ends
 mod Requests
 mod Written
 pub mod Gaining
+mod Closings

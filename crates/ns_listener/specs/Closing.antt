@@ -1,5 +1,5 @@
 -- A server whose threads have ended.
-use Rattle.std.specs.Prelude.{ℕ, List, Option, IfOk}
+use Rattle.std.specs.Prelude.{◌≡◌, ℕ, true, List, Option, IfOk}
 use Rattle.ns_types.specs.State.Names.{Name}
 use Rattle.ns_log.specs.Segments.{Given, texts_of}
 use Rattle.ns_http.specs.Counts.{HasGrown}
@@ -7,6 +7,21 @@ use Rattle.ns_http.specs.declared.counting.Counted.{Counted}
 use Rattle.ns_listener.specs.Keeping.{WritesText}
 use Rattle.ns_listener.specs.Printing.{IsRunOf}
 use Rattle.ns_listener.specs.declared.closing.Closing.{Closing}
+use Rattle.ns_listener.specs.declared.keeper.Keeper.{Keeper}
+
+-- The keeper of that secret wrote these segments, up to its fault if there is one. If it kept each of them, it has them.
+pub record HasWritten {W : Type 0} (contents : W → Option (List ℕ)) (secret : Name) (writer : Counted W) (keeper : Keeper W)
+    : Type 0 where
+  pub segments : List Given
+  pub same_secret : keeper.secret ≡ secret
+  pub writes : WritesText contents keeper.fault writer keeper.writer (texts_of secret segments)
+  pub grows : HasGrown writer.counts keeper.writer.counts
+  pub kept : keeper.is_whole ≡ true → keeper.segments.items ≡ segments
+
+-- that keeper's secret, fault and writer
+abbrev pub IsLeftBy : {W : Type 0} → Keeper W → Closing W → Type 0
+IsLeftBy keeper closing =
+    (closing.secret ≡ keeper.secret) × (closing.fault ≡ keeper.fault) × (closing.writer ≡ keeper.writer)
 
 -- segments were written, up to the fault if there is one; and if all settled, the log is a run that begins with them
 pub record IsClosing {W : Type 0} (contents : W → Option (List ℕ)) (secret : Name) (writer : Counted W) (closing : Closing W)

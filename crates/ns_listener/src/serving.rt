@@ -1,17 +1,18 @@
 //! A server on a TCP port.
 
-ghost use Rattle.std.specs.Prelude.{◌≡◌, ◌≢◌, ◌+◌, ◌&&◌, Err, IsNone, None, Some, is_none, is_some, not};
-ghost use Rattle.std.specs.Prelude.{vec_len};
+ghost use Rattle.std.specs.Prelude.{◌≡◌, ◌≢◌, ◌+◌, ◌&&◌, Err, IfOk, IsErr, IsNone, IsTrue, None, OnOk, Some};
+ghost use Rattle.std.specs.Prelude.{is_none, is_some, not, vec_len};
 ghost use Rattle.ns_http.specs.declared.engine.ConnFault.{ConnFault};
 ghost use Rattle.ns_http.specs.declared.engine.ConnFault.TheVariants as ConnFaults;
 ghost use Rattle.ns_faults.specs.Lines.{line_of, mismatch_line, status_of};
-ghost use Rattle.ns_listener.specs.Closing.{IsClosing};
+ghost use Rattle.ns_listener.specs.Closing.{HasWritten, IsClosing, IsLeftBy};
 ghost use Rattle.ns_listener.specs.Opening.{begun_by};
 ghost use Rattle.ns_listener.specs.Ending.{EndsInPart, EndsSettled, EndsUnsettled, IsEnd, IsLastLine};
+ghost use Rattle.ns_listener.specs.Printing.{IsRunOf};
 ghost use Rattle.ns_listener.specs.declared.fault.ServeFault.TheVariants as ServeFault;
 
 use crate::closing::{Closing, conclude, settle};
-use crate::fault::ServeFault;
+use crate::fault::{HostFault, ServeFault};
 use crate::keeper::Keeper;
 use crate::opening::{Opened, open};
 use crate::service::Service;
@@ -20,7 +21,7 @@ use ns_endpoints::Draws;
 use ns_faults::status::{MISMATCH, SERVED, WRITE_FAULT};
 use ns_faults::{print_fault, print_text};
 use ns_http::{ConnFault, Counted};
-use ns_work_lock::{Forgets, Retains, Shared};
+use ns_work_lock::{Ended, Forgets, Retains, Retention, Seat, Shared};
 use std::alloc::Global;
 use std::io::Write;
 use std::net::{Net, TcpListener, TcpStream};
@@ -36,13 +37,21 @@ fn is_settled(service: &Service) -> bool
     service.accept.is_some() || service.rotate.is_none()
 }
 
-/// Serves connections and writes the segments that are given out meanwhile, until the threads have ended; then the log is settled
-/// with what all of them were answered.
-fn serve_settled<
+/// What a server leaves once its threads have ended.
+struct Left<L: Ledger, W, M: Retention> {
+    /// A seat for each thread, unless a thread could not do its duty.
+    seats: Result<Vec<Seat<L, M>>, HostFault>,
+    ended: Ended<L>,
+    keeper: Keeper<W>,
+}
+
+/// Serves connections and writes the segments that are given out meanwhile, until the threads have ended.
+fn run_threads<
     L: Ledger + Send + Sync,
     R: Threads + Wait + Clock + Sync,
     D: Draws + Drop + Send,
     W: Write + Drop,
+    M: Retention + Send,
 >(
     rt: &R,
     alloc: Global,
@@ -51,15 +60,13 @@ fn serve_settled<
     draws: Vec<D>,
     blank: Blank,
     writer: Counted<W>,
-) -> Closing<W>
+) -> Left<L, W, M>
     requires begun { opened.held ≡ begun_by opened.secret service.now.log_limit }
     requires name { blank.name ≡ L.name }
     requires parts { (blank.parts ≡ L.parts) × (L.parts ≡ 18446744073709551615) }
-    ensures closing { IsClosing W.contents opened.secret writer result }
-    ensures secret { result.secret ≡ opened.secret }
-    ensures unrotated { IsNone service.now.rotate → (result.fault ≡ None) × (result.writer ≡ writer) }
-    ensures no_write { result.settled ≢ Err (ServeFault.Conn ConnFaults.Write) }
-    ensures no_read { result.fault ≢ Some ConnFaults.Read }
+    ensures written { HasWritten W.contents opened.secret writer result.keeper }
+    ensures unrotated { IsNone service.now.rotate
+        → (result.keeper.fault ≡ None) × (result.keeper.writer ≡ writer) }
 {
     let Opened {
         listener,
@@ -68,10 +75,31 @@ fn serve_settled<
         ..
     } = opened;
     let shared = Shared::<L>::new(held, blank, service.rotate, service.rotate_bytes);
-    let keeper = Keeper::new(alloc, secret, writer, true);
-    let (seats, keeper) = host::<L, R, D, _, Retains>(
+    let keeper = Keeper::new(alloc, secret, writer, M::retains());
+    let (seats, keeper) = host::<L, R, D, _, M>(
         rt, alloc, &shared, &listener, service, draws, keeper,
     );
+    Left {
+        seats,
+        ended: shared.end(),
+        keeper,
+    }
+}
+
+/// Settles the log with what all threads were answered, unless a thread could not do its duty.
+fn settled<L: Ledger, W: Drop>(alloc: Global, left: Left<L, W, Retains>) -> Closing<W>
+    requires { L.parts ≡ 18446744073709551615 }
+    ensures kept { IsLeftBy left.keeper result }
+    ensures run { IfOk result.settled
+        (IsRunOf left.keeper.secret left.keeper.segments.items) }
+    ensures whole { OnOk result.settled (IsTrue left.keeper.is_whole) }
+    ensures no_write { result.settled ≢ Err (ServeFault.Conn ConnFaults.Write) }
+{
+    let Left {
+        seats,
+        ended,
+        keeper,
+    } = left;
     let Keeper {
         secret,
         writer,
@@ -81,12 +109,8 @@ fn serve_settled<
         ..
     } = keeper;
     let settled = match seats {
-        Ok(seats) => settle(alloc, shared.end(), seats, &secret, segments, is_whole),
-        Err(fault) => {
-            drop(segments);
-            drop(shared);
-            Err(fault.into())
-        }
+        Ok(seats) => settle(alloc, ended, seats, &secret, segments, is_whole),
+        Err(fault) => Err(fault.into()),
     };
     Closing {
         settled,
@@ -96,41 +120,17 @@ fn serve_settled<
     }
 }
 
-/// The same, with nothing settled: neither segments nor receipts stay in memory.
-fn serve_forgetting<
-    L: Ledger + Send + Sync,
-    R: Threads + Wait + Clock + Sync,
-    D: Draws + Drop + Send,
-    W: Write + Drop,
->(
-    rt: &R,
-    alloc: Global,
-    service: &Service,
-    opened: Opened,
-    draws: Vec<D>,
-    blank: Blank,
-    writer: Counted<W>,
-) -> Closing<W>
-    requires begun { opened.held ≡ begun_by opened.secret service.now.log_limit }
-    requires name { blank.name ≡ L.name }
-    requires parts { (blank.parts ≡ L.parts) × (L.parts ≡ 18446744073709551615) }
-    ensures closing { IsClosing W.contents opened.secret writer result }
-    ensures secret { result.secret ≡ opened.secret }
-    ensures unrotated { IsNone service.now.rotate → (result.fault ≡ None) × (result.writer ≡ writer) }
+/// Settles nothing: the server was to run for ever, and neither its segments nor its receipts are in memory.
+fn unsettled<L: Ledger, W: Drop>(left: Left<L, W, Forgets>) -> Closing<W>
+    ensures kept { IsLeftBy left.keeper result }
+    ensures none { IsErr result.settled }
     ensures no_write { result.settled ≢ Err (ServeFault.Conn ConnFaults.Write) }
-    ensures no_read { result.fault ≢ Some ConnFaults.Read }
 {
-    let Opened {
-        listener,
-        secret,
-        held,
-        ..
-    } = opened;
-    let shared = Shared::<L>::new(held, blank, service.rotate, service.rotate_bytes);
-    let keeper = Keeper::new(alloc, secret, writer, false);
-    let (seats, keeper) = host::<L, R, D, _, Forgets>(
-        rt, alloc, &shared, &listener, service, draws, keeper,
-    );
+    let Left {
+        seats,
+        ended: _ended,
+        keeper,
+    } = left;
     let Keeper {
         secret,
         writer,
@@ -175,9 +175,15 @@ fn serve_opened<
     ensures no_read { result.fault ≢ Some ConnFaults.Read }
 {
     if is_settled(service) {
-        serve_settled::<L, _, _, _>(rt, alloc, service, opened, draws, blank, writer)
+        let kept = run_threads::<L, R, D, W, Retains>(
+            rt, alloc, service, opened, draws, blank, writer,
+        );
+        settled(alloc, kept)
     } else {
-        serve_forgetting::<L, _, _, _>(rt, alloc, service, opened, draws, blank, writer)
+        let left = run_threads::<L, R, D, W, Forgets>(
+            rt, alloc, service, opened, draws, blank, writer,
+        );
+        unsettled(left)
     }
 }
 
