@@ -53,8 +53,11 @@ def main():
                 stream.sendall(PUT)
                 if not received(file).startswith(b"HTTP/1.1 200"):
                     sys.exit("the job is not registered")
-                stream.sendall(GET)
-                first = received(file)
+                first = b""
+                # A reply shows the namespace's index, which rises once more when the job's evaluation ends.
+                while b"X-Nomad-Index: 2\r\n" not in first:
+                    stream.sendall(GET)
+                    first = received(file)
                 before = resident(server.pid)
                 for sent in range(0, reads, AT_ONCE):
                     count = min(AT_ONCE, reads - sent)
