@@ -45,10 +45,10 @@ module _ {S D F : Type 0} (takes : Step → S → Rendered → S → Type 0) (dr
 
   -- a request that was answered, and what then followed
   pub with_following : (old new : Holding S D F) (a : Asked) (reply : Rendered) (between : S) (follower : F) →
-      AnswersRequest takes draws (old.server, old.draws) a reply (between, new.draws) → follower ≡ old.follower →
-      follows follower between new.server new.follower → Answers takes draws follows old a reply new
+      AnswersRequest takes draws (old.taker, old.draws) a reply (between, new.draws) → follower ≡ old.follower →
+      follows follower between new.taker new.follower → Answers takes draws follows old a reply new
   with_following old new a reply between follower answered same followed = record {
     between = between;
     answered = answered;
-    followed = subst (λ f. follows f between new.server new.follower) same followed;
+    followed = subst (λ f. follows f between new.taker new.follower) same followed;
   }

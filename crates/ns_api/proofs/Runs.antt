@@ -68,14 +68,14 @@ module _ {S D F : Type 0} (state : S → State) (notes : S → Step → Answer �
     (draws : D → List ℕ → D → Type 0) (follows : F → S → List Step → List Answer → S → F → Type 0) where
   -- the steps of a chain with the run that they are
   runs_as : (old : Holding S D F) (exchanges : List Exchange) (new : Holding S D F) (steps : List Step) (answers : List Answer) →
-      Chain state notes old.server steps answers new.server →
+      Chain state notes old.taker steps answers new.taker →
       Made state notes lacks draws follows old exchanges steps answers new →
       RunsAs state notes lacks draws follows old exchanges new
   runs_as old exchanges new steps answers chain made = record {
     steps = steps;
     answers = answers;
     chain = chain;
-    run = is_run state notes old.server new.server steps answers chain;
+    run = is_run state notes old.taker new.taker steps answers chain;
     made = made;
   }
 
@@ -83,11 +83,11 @@ module _ {S D F : Type 0} (state : S → State) (notes : S → Step → Answer �
       AnswersByServer state notes lacks draws follows old (asked_by m) reply mid → RunsAs state notes lacks draws follows mid exchanges new →
       RunsAs state notes lacks draws follows old ((Whole m, reply) ∷ exchanges) new
   whole_first m reply old mid new exchanges a r =
-      let o = own state notes lacks draws (asked_by m) reply (old.server, old.draws) (a.between, mid.draws) a.answered in
+      let o = own state notes lacks draws (asked_by m) reply (old.taker, old.draws) (a.between, mid.draws) a.answered in
       let steps = a.followed.0 in
       let answers = a.followed.1 in
-      let first = join state notes old.server a.between mid.server o.steps steps o.answers answers o.chain a.followed.3 in
-      let all = join state notes old.server mid.server new.server (o.steps ++ steps) r.steps (o.answers ++ answers) r.answers first r.chain in
+      let first = join state notes old.taker a.between mid.taker o.steps steps o.answers answers o.chain a.followed.3 in
+      let all = join state notes old.taker mid.taker new.taker (o.steps ++ steps) r.steps (o.answers ++ answers) r.answers first r.chain in
       runs_as old ((Whole m, reply) ∷ exchanges) new (o.steps ++ steps ++ r.steps) (o.answers ++ answers ++ r.answers) all (
         mid,
         r.steps,
@@ -110,7 +110,7 @@ module _ {S D F : Type 0} (state : S → State) (notes : S → Step → Answer �
 
   pub runs : (old : Holding S D F) (exchanges : List Exchange) (new : Holding S D F) →
       Responses.Answers (AnswersByServer state notes lacks draws follows) old exchanges new → RunsAs state notes lacks draws follows old exchanges new
-  runs old [] new c = runs_as old [] new [] [] (ap (λ x. x.server) c) (refl, refl, c)
+  runs old [] new c = runs_as old [] new [] [] (ap (λ x. x.taker) c) (refl, refl, c)
   runs old ((Whole m, reply) ∷ exchanges) new c = whole_first m reply old c.0 new exchanges c.1 (runs c.0 exchanges new c.2)
   runs old ((Refused fault, reply) ∷ exchanges) new c =
       let r = runs old exchanges new c.1 in

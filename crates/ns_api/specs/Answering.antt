@@ -15,9 +15,9 @@ use Rattle.ns_endpoints.specs.Asking.{asked}
 use Rattle.ns_endpoints.specs.Drawing.{DrawsFor}
 use Rattle.ns_api.specs.Following.{FollowsInChain}
 
--- what is served: the server or a seat at it, what draws random bits, and what is done after each request
+-- what takes the steps, what draws random bits, and what is done after each request
 pub record Holding (S D F : Type 0) : Type 0 where
-  pub server : S
+  pub taker : S
   pub draws : D
   pub follower : F
 
@@ -44,8 +44,8 @@ module _ {S D : Type 0} (takes : Step → S → Rendered → S → Type 0) (draw
   pub record Answers {F : Type 0} (follows : F → S → S → F → Type 0) (old : Holding S D F) (a : Asked)
       (reply : Rendered) (new : Holding S D F) : Type 0 where
     pub between : S
-    pub answered : AnswersRequest (old.server, old.draws) a reply (between, new.draws)
-    pub followed : follows old.follower between new.server new.follower
+    pub answered : AnswersRequest (old.taker, old.draws) a reply (between, new.draws)
+    pub followed : follows old.follower between new.taker new.follower
 
 -- ---- a server, which makes steps of the model
 
@@ -102,12 +102,12 @@ module _ {S : Type 0} (state : S → State) (notes : S → Step → Answer → S
         pub between : S
         pub own : List Step
         pub told : List Answer
-        pub own_chain : Chain state notes old.server own told between
-        pub makes_own : MakesOwn asks old.server old.draws reply new.draws own told
+        pub own_chain : Chain state notes old.taker own told between
+        pub makes_own : MakesOwn asks old.taker old.draws reply new.draws own told
         pub following : List Step
         pub answered : List Answer
-        pub followed : follows old.follower between following answered new.server new.follower
-        pub chain : Chain state notes between following answered new.server
+        pub followed : follows old.follower between following answered new.taker new.follower
+        pub chain : Chain state notes between following answered new.taker
         pub are_steps : steps ≡ own ++ following ++ steps'
         pub are_answers : answers ≡ told ++ answered ++ answers'
 
@@ -126,6 +126,6 @@ module _ {S : Type 0} (state : S → State) (notes : S → Step → Answer → S
       pub record RunsAs (old : Holding S D F) (exchanges : List Exchange) (new : Holding S D F) : Type 0 where
         pub steps : List Step
         pub answers : List Answer
-        pub chain : Chain state notes old.server steps answers new.server
-        pub run : Run (state old.server) steps answers (state new.server)
+        pub chain : Chain state notes old.taker steps answers new.taker
+        pub run : Run (state old.taker) steps answers (state new.taker)
         pub made : Made old exchanges steps answers new

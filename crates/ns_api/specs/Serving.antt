@@ -13,7 +13,7 @@ held api = (api.taker, api.router.draws)
 
 -- and with them what does what follows
 abbrev pub holding : {S D F : Type 0} → Api S D F → Holding S D F
-holding api = record { server = api.taker; draws = api.router.draws; follower = api.follower }
+holding api = record { taker = api.taker; draws = api.router.draws; follower = api.follower }
 
 -- by how one request is answered, and what all of them made
 module _ {S : Type 0} (answers : S → Asked → Rendered → S → Type 0) (makes : S → List Exchange → S → Type 0) where

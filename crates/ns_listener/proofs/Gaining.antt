@@ -86,11 +86,11 @@ module _ {S D F : Type 0} (receipts : S → List Receipt) (draws : D → List �
       AnswersBySeat receipts draws old (asked_by m) reply next → MadeBySeat receipts draws next exchanges new →
       MadeBySeat receipts draws old ((Whole m, reply) ∷ exchanges) new
   whole_first m reply old next new exchanges a r =
-      let own = of_request receipts draws (asked_by m) (old.server, old.draws) (a.between, next.draws) reply a.answered in
+      let own = of_request receipts draws (asked_by m) (old.taker, old.draws) (a.between, next.draws) reply a.answered in
       record {
         gained = own.gained ++ r.gained;
         added = r.added ∙ ap (λ s. receipts s ++ r.gained) a.followed ∙ ap (λ x. x ++ r.gained) own.added
-            ∙ append_assoc (receipts old.server) own.gained r.gained;
+            ∙ append_assoc (receipts old.taker) own.gained r.gained;
         gains = (next.draws, own.gained, r.gained, own.gains, refl, r.gains);
       }
 
@@ -98,7 +98,7 @@ module _ {S D F : Type 0} (receipts : S → List Receipt) (draws : D → List �
       Responses.Answers (AnswersBySeat receipts draws) old exchanges new → MadeBySeat receipts draws old exchanges new
   gains old [] new c = record {
     gained = [];
-    added = ap (λ (h : Holding S D F). receipts h.server) c ∙ sym (append-nil (receipts old.server));
+    added = ap (λ (h : Holding S D F). receipts h.taker) c ∙ sym (append-nil (receipts old.taker));
     gains = (refl, ap (λ (h : Holding S D F). h.draws) c);
   }
   gains old ((Whole m, reply) ∷ exchanges) new c = whole_first m reply old c.0 new exchanges c.1 (gains c.0 exchanges new c.2)

@@ -77,7 +77,7 @@ module _ {S D F : Type 0} (receipts : S → List Receipt) (draws : D → List �
 
   -- its receipts, and what draws
   abbrev pub seat_of : Holding S D F → List Receipt × D
-  seat_of h = (receipts h.server, h.draws)
+  seat_of h = (receipts h.taker, h.draws)
 
   abbrev pub MadeBySeat : Holding S D F → List Exchange → Holding S D F → Type 0
   MadeBySeat old exchanges new = Made draws (seat_of old) exchanges (seat_of new)

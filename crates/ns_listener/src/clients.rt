@@ -3,5 +3,5 @@
 mod serving;
 mod shared_seat;
 
-pub use serving::{Client, client, serve};
+pub use serving::{Client, serve};
 pub use shared_seat::SharedSeat;

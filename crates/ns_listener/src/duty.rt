@@ -4,10 +4,11 @@ ghost use Rattle.std.specs.Prelude.{IfOk};
 ghost use Rattle.ns_workers.specs.Growing.{Grows};
 ghost use Rattle.ns_listener.specs.Duties.{IsDue, IsRequested};
 
-use crate::clients::client;
+use crate::clients::SharedSeat;
 use crate::connections::serve_connections;
 use crate::context::Context;
 use crate::fault::HostFault;
+use ns_api::{Api, NoFollower};
 use ns_endpoints::Draws;
 use ns_work_lock::{Retention, Seat};
 use ns_workers::{Open, worker};
@@ -35,7 +36,8 @@ fn attend<L: Ledger, R: Wait + Clock, D: Draws + Drop, M: Retention>(
 ) -> Result<Seat<L, M>, HostFault>
     ensures { IfOk result (Grows (IsRequested D.draws) seat) }
 {
-    let mut client = client(rt, alloc, context.shared, drawer, seat)?;
+    let shared = context.shared;
+    let mut client = Api::new(alloc, SharedSeat { rt, shared, seat }, drawer, NoFollower)?;
     match serve_connections(rt, alloc, context, &mut client) {
         Ok(()) => Ok(client.into_taker().seat),
         Err(_) => Err(HostFault::Accept),

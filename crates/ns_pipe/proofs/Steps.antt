@@ -74,8 +74,8 @@ module _ {S D : Type 0} (state : S → State) (notes : S → Step → Answer →
       MakesFirst state notes wants draws (FollowsBy state notes lacks) asks old reply new steps answers steps' answers' →
       Post asks IsAsRead → Each IsAsRead steps' → Each IsAsRead steps
   first_read asks old reply new steps answers steps' answers' first h rest =
-      let followed = follows_read state notes lacks old.follower first.between first.following first.answered new.server new.follower first.followed in
-      let own = own_read asks old.server old.draws reply new.draws first.own first.told first.makes_own h in
+      let followed = follows_read state notes lacks old.follower first.between first.following first.answered new.taker new.follower first.followed in
+      let own = own_read asks old.taker old.draws reply new.draws first.own first.told first.makes_own h in
       subst (Each IsAsRead) (sym first.are_steps)
       (each_append IsAsRead (first.own ++ first.following) steps' (each_append IsAsRead first.own first.following own followed) rest)
 
@@ -96,10 +96,10 @@ noted_read (step ∷ steps) (answer ∷ answers) h = (h.0, noted_read steps answ
 
 pub log_read : {D : Type 0} (draws : D → List ℕ → D → Type 0) (old last : Holding History D Driver) (streams : Streams) (end : End)
     (connection : ServedByHeld draws old last streams end) →
-    AreNoted old.server connection.made.steps connection.made.answers last.server → AreAsRead old.server.log → AreAsRead last.server.log
+    AreNoted old.taker connection.made.steps connection.made.answers last.taker → AreAsRead old.taker.log → AreAsRead last.taker.log
 log_read draws old last streams end connection noted h =
     let run = connection.made in
     let steps = made_read state_of IsNoted HeldLacks LacksRoom draws old connection.conversation.exchanges run.steps run.answers last run.made in
     subst AreAsRead (sym noted.entries)
-    (each_append (λ (e : Entry). IsAsRead e.0) old.server.log (zip run.steps (map rendered run.answers)) h
+    (each_append (λ (e : Entry). IsAsRead e.0) old.taker.log (zip run.steps (map rendered run.answers)) h
     (noted_read run.steps (map rendered run.answers) steps))

@@ -24,7 +24,7 @@ uncounted inner = record { inner = inner; counts = no_counts }
 
 -- a new server, which drives whom `driven` names
 abbrev pub opened : {D : Type 0} → Name → D → Driven → Holding State D Driver
-opened secret draws driven = record { server = opening secret; draws = draws; follower = driver_of driven }
+opened secret draws driven = record { taker = opening secret; draws = draws; follower = driver_of driven }
 
 module _ {D R W : Type 0} (draws : D → List ℕ → D → Type 0) (remaining : R → Option (List ℕ))
     (contents : W → Option (List ℕ)) where

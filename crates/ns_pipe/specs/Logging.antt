@@ -22,7 +22,7 @@ use Rattle.ns_faults.specs.declared.status.TheConstants.{SERVED, READ_FAULT, WRI
 -- a new server with a log, which drives whom `driven` names
 abbrev pub opened_log : {D : Type 0} → Name → D → Driven → Holding History D Driver
 opened_log secret draws driven =
-    record { server = history_of secret LOG_LIMIT; draws = draws; follower = driver_of driven }
+    record { taker = history_of secret LOG_LIMIT; draws = draws; follower = driver_of driven }
 
 -- what takes the replies failed, and no log was written
 abbrev pub LogsNothing : {V W : Type 0} → Counted V → Counted V → Counted W → Counted W → Type 0
@@ -35,34 +35,34 @@ module _ {D R W V : Type 0} (draws : D → List ℕ → D → Type 0) (remaining
   pub record IsLogged (old last : Holding History D Driver) (reader reader' : Counted R) (replies replies' : Counted V)
       (end : End) : Type 0 where
     pub served : ServedByHeld draws old last (streams_between remaining replied reader reader' replies replies') end
-    pub noted : AreNoted old.server served.made.steps served.made.answers last.server
+    pub noted : AreNoted old.taker served.made.steps served.made.answers last.taker
 
   -- from that server: the reader and what takes the replies, each before and after
   module _ (old : Holding History D Driver) (reader reader' : Counted R) (replies replies' : Counted V) where
     -- The text of the log is read back as that log, and so has no bad line, where each policy that the log put at first has the
     -- rules that its text says. A new server's log is empty.
     abbrev pub HasGoodLines : Name → Holding History D Driver → Type 0
-    HasGoodLines secret last = AreAsRead old.server.log → IsReadBack secret last.server.log
+    HasGoodLines secret last = AreAsRead old.taker.log → IsReadBack secret last.taker.log
 
     -- served to the end, and the log was written
     abbrev pub LogsServed : Name → Counted W → Counted W → Type 0
     LogsServed secret writer writer' = (end : End) × (last : Holding History D Driver)
         × IsLogged old last reader reader' replies replies' end
         × EndsWell end (remaining reader'.inner) reader'.counts
-        × WritesAll contents writer writer' (log_text secret last.server.log) × HasGoodLines secret last
+        × WritesAll contents writer writer' (log_text secret last.taker.log) × HasGoodLines secret last
 
     -- served up to a fault of the reader, and the log was written
     abbrev pub LogsToReadFault : Name → Counted W → Counted W → Type 0
     LogsToReadFault secret writer writer' = (end : End) × (last : Holding History D Driver)
         × IsLogged old last reader reader' replies replies' end
         × IsReadFault end (remaining reader'.inner) reader.counts reader'.counts
-        × WritesAll contents writer writer' (log_text secret last.server.log) × HasGoodLines secret last
+        × WritesAll contents writer writer' (log_text secret last.taker.log) × HasGoodLines secret last
 
     -- a first part of the log was written, and then the writer failed
     abbrev pub LogsInPart : Name → Counted W → Counted W → Type 0
     LogsInPart secret writer writer' = (end : End) × (last : Holding History D Driver)
         × IsLogged old last reader reader' replies replies' end
-        × FailsToWrite contents writer writer' (log_text secret last.server.log)
+        × FailsToWrite contents writer writer' (log_text secret last.taker.log)
 
     -- a connection whose log is written ended with this status
     pub record EndsLogged (secret : Name) (status : ℕ) (writer writer' : Counted W) : Type 0 where

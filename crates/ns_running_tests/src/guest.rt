@@ -1,7 +1,8 @@
 // Connections of one client with a shared server, by the secret of the first token.
+use ns_api::{Api, NoFollower};
 use ns_endpoints::Draws;
 use ns_http::Counted;
-use ns_listener::clients::{Client, client, serve};
+use ns_listener::clients::{Client, SharedSeat, serve};
 use ns_work_lock::{Retains, Seat, Shared};
 use std::alloc::Global;
 use std::process::Abort;
@@ -40,7 +41,8 @@ pub(crate) fn guest<'a, L: Ledger, R: Wait + Abort>(
     shared: &'a Shared<L>,
 ) -> Guest<'a, L, R> {
     let seat = seat(rt, alloc, shared);
-    client(rt, alloc, shared, GuestBits, seat).expect(rt, "memory")
+    let taker = SharedSeat { rt, shared, seat };
+    Api::new(alloc, taker, GuestBits, NoFollower).expect(rt, "memory")
 }
 
 /// The client's seat.

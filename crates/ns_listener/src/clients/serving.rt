@@ -11,28 +11,14 @@ use crate::clients::shared_seat::SharedSeat;
 use ns_api::{Api, NoFollower};
 use ns_endpoints::Draws;
 use ns_http::{ConnFault, Counted, READ_LIMIT, READ_ROOM};
-use ns_work_lock::{Retention, Seat, Shared};
-use std::alloc::{AllocError, Allocator, Global};
+use ns_work_lock::Retention;
+use std::alloc::Allocator;
 use std::io::{Read, Write};
 use std::sync::Wait;
 use std::sync::ledger::Ledger;
 
 /// Answers requests by steps of a server that threads share.
 pub type Client<'a, L, R, D, M> = Api<SharedSeat<'a, L, R, M>, D, NoFollower>;
-
-/// A client with this seat.
-pub fn client<'a, L: Ledger, R: Wait, D: Draws + Drop, M: Retention>(
-    rt: &'a R,
-    alloc: Global,
-    shared: &'a Shared<L>,
-    draws: D,
-    seat: Seat<L, M>,
-) -> Result<Client<'a, L, R, D, M>, AllocError>
-    ensures seat { IfOk result (λ client. client.taker.seat ≡ seat) }
-    ensures drawer { IfOk result (λ client. client.router.draws ≡ draws) }
-{
-    Api::new(alloc, SharedSeat { rt, shared, seat }, draws, NoFollower)
-}
 
 /// Answers the requests of a connection, one after the other, and says how many there were. The receipts that are gained are
 /// those of the steps which the requests made, in their order.

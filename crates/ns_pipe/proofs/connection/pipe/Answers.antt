@@ -17,14 +17,14 @@ use Rattle.ns_pipe.proofs.connection.pipe.Goals as goal
 
 module _ {D : Type 0} (draws : D → List ℕ → D → Type 0) where
   -- from what was opened
-  from : {streams : Streams} {end : End} (old new last : Holding State D Driver) → old.server ≡ new.server → old.draws ≡ new.draws →
+  from : {streams : Streams} {end : End} (old new last : Holding State D Driver) → old.taker ≡ new.taker → old.draws ≡ new.draws →
       old.follower ≡ new.follower →
       Conversation (AnswersByCore draws) old last streams end → ServedByCore draws new last streams end
   from {streams} {end} old new last p q v c =
       subst (λ x. ServedByCore draws x last streams end) (same_parts p q v)
       (served itself NotesNothing LacksNothing draws (FollowsBy itself NotesNothing CoreLacks) old last streams end c)
 
-  from_in_part : {streams : Streams} (old new last : Holding State D Driver) → old.server ≡ new.server → old.draws ≡ new.draws →
+  from_in_part : {streams : Streams} (old new last : Holding State D Driver) → old.taker ≡ new.taker → old.draws ≡ new.draws →
       old.follower ≡ new.follower →
       CutShort (AnswersByCore draws) old last streams → ServedByCoreInPart draws new last streams
   from_in_part {streams} old new last p q v c =

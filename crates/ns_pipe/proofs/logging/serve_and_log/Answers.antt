@@ -33,7 +33,7 @@ logged : {D R W V : Type 0} (draws : D → List ℕ → D → Type 0) (remaining
 logged draws remaining contents replied old last reader reader' replies replies' end law conversation =
     let by_held = served state_of IsNoted LacksRoom draws (FollowsBy state_of IsNoted HeldLacks) old last
     (streams_between remaining replied reader reader' replies replies') end conversation in
-    record { served = by_held; noted = law old.server last.server by_held.made.steps by_held.made.answers by_held.made.chain }
+    record { served = by_held; noted = law old.taker last.taker by_held.made.steps by_held.made.answers by_held.made.chain }
 
 on_ok : {T E : Type 0} (r : Result T E) (P Q R : Type 0) → (P → Q → R) → OnOk r P → OnOk r Q → OnOk r R
 on_ok (Ok x) P Q R f p q = f p q
@@ -51,8 +51,8 @@ written contents writer writer' secret h t same w = subst (λ (x : History). Wri
 -- and is read back, as what the server had at first was
 read_back : {D R W V : Type 0} (draws : D → List ℕ → D → Type 0) (remaining : R → Option (List ℕ)) (contents : W → Option (List ℕ))
     (replied : V → Option (List ℕ)) (old last : Holding History D Driver) (reader reader' : Counted R) (replies replies' : Counted V) (end : End)
-    (secret : List ℕ) (h : History) → IsLogged draws remaining contents replied old last reader reader' replies replies' end → h ≡ last.server →
-    (AreAsRead h.log → IsReadBack secret h.log) → AreAsRead old.server.log → IsReadBack secret last.server.log
+    (secret : List ℕ) (h : History) → IsLogged draws remaining contents replied old last reader reader' replies replies' end → h ≡ last.taker →
+    (AreAsRead h.log → IsReadBack secret h.log) → AreAsRead old.taker.log → IsReadBack secret last.taker.log
 read_back draws remaining contents replied old last reader reader' replies replies' end secret h l same back read =
     let all = log_read draws old last (streams_between remaining replied reader reader' replies replies') end l.served l.noted read in
     subst (λ (x : History). AreAsRead x.log → IsReadBack secret x.log) same back all
