@@ -55,7 +55,7 @@ fn is_job_in(slot: &NameSlot<Job>, asked: &AskedPools) -> bool
     ensures { result ≡ at_slot (job_in (passes asked.now)) slot.now }
 {
     match &slot.1 {
-        Some(job) => asked.passes(&job.document.pool),
+        Some(job) => asked.passes(&job.document.get().pool),
         None => false,
     }
 }

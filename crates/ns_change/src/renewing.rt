@@ -53,7 +53,7 @@ pub fn evaluation_for(
     let job = &ended.job;
     match tenant.jobs.get(job) {
         Some(row) => {
-            let document = &row.document;
+            let document = row.document.get();
             new_evaluation(
                 alloc,
                 job,

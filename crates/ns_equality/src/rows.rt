@@ -121,7 +121,7 @@ pub fn same_evaluation(a: &Evaluation, b: &Evaluation) -> bool
 pub fn same_job(a: &Job, b: &Job) -> bool
     ensures { result ≡ same_job a.now b.now }
 {
-    same_document(&a.document, &b.document)
+    same_document(a.document.get(), b.document.get())
         && same_flag(a.stop, b.stop)
         && same_number(a.version, b.version)
         && same_number(a.create_index, b.create_index)

@@ -77,7 +77,7 @@ fn removed(
 {
     let content = Content::Registered(numbers.evaluation, numbers.index, numbers.index);
     let mut change = Change::new(tables.alloc);
-    let document = &job.document;
+    let document = job.document.get();
     let made = remove_and_make(
         tables,
         &mut change,

@@ -79,7 +79,7 @@ pub(crate) fn put_and_make(
     ensures { Does result tables.now change.old change.new (with_made namespace.now
         (with_job id.now job) (evaluation_of id.now job.document trigger)) }
 {
-    let evaluation = evaluation_of(tables.alloc, id, &job.document, trigger)?;
+    let evaluation = evaluation_of(tables.alloc, id, job.document.get(), trigger)?;
     put_job(tables, change, namespace, id, job)?;
     make(tables, change, namespace, evaluation)
 }

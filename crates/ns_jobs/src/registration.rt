@@ -21,8 +21,9 @@ use ns_types::evaluation::Trigger;
 use ns_types::job::{Document, Job, Registration};
 use ns_types::refusal::{Member, Refusal};
 use ns_types::reply::Content;
+use ns_types::shared::Shared;
 use ns_types::text::Text;
-use std::alloc::AllocError;
+use std::alloc::{AllocError, Global};
 
 /// How many jobs a namespace has at most.
 const MOST_JOBS: usize = 1000;
@@ -110,7 +111,11 @@ fn document_of(tenant: &TenantRows, registration: &Registration) -> Result<Docum
 }
 
 /// The job as a registration leaves it.
-fn registered_job(index: u64, document: Document, old: Option<&Job>) -> Result<Job, AllocError>
+fn registered_job(
+    index: u64,
+    document: Shared<Document>,
+    old: Option<&Job>,
+) -> Result<Job, AllocError>
     requires { IfSome old (λ job. job.now.version + 1 < 2 ^ 64) }
     ensures { IfOk result (λ job. job ≡ registered_job index document (option_copied old.entry)) }
 {
@@ -123,7 +128,7 @@ fn registered_job(index: u64, document: Document, old: Option<&Job>) -> Result<J
             modify_index: index,
         });
     };
-    if same_document(&document, &job.document) && !job.stop {
+    if same_document(document.get(), job.document.get()) && !job.stop {
         return job.clone();
     }
     Ok(Job {
@@ -136,12 +141,17 @@ fn registered_job(index: u64, document: Document, old: Option<&Job>) -> Result<J
 }
 
 /// The job as the namespace has it after the registration.
-fn job_of(tenant: &TenantRows, registration: &Registration, index: u64) -> Result<Job, AllocError>
+fn job_of(
+    alloc: Global,
+    tenant: &TenantRows,
+    registration: &Registration,
+    index: u64,
+) -> Result<Job, AllocError>
     requires index { index ≡ (tenant_of tenant.now).index + 1 }
     requires versions { HasFewVersions (tenant_of tenant.now) }
     ensures { IfOk result (λ job. job ≡ job_of registration.now (tenant_of tenant.now)) }
 {
-    let document = document_of(tenant, registration)?;
+    let document = Shared::new(alloc, document_of(tenant, registration)?)?;
     registered_job(index, document, job(tenant, &registration.id))
 }
 
@@ -161,7 +171,7 @@ fn registered(
         Prepares (done (job_of registration.now t)) tables.now result }
 {
     let id = &registration.id;
-    let job = job_of(tenant, registration, numbers.index)?;
+    let job = job_of(tables.alloc, tenant, registration, numbers.index)?;
     let content = Content::Registered(numbers.evaluation, numbers.index, job.modify_index);
     let mut change = Change::new(tables.alloc);
     let made = put_and_make(

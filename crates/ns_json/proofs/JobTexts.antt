@@ -14,6 +14,7 @@ use Rattle.serde_json.specs.Data.{Data}
 use Rattle.serde_json.specs.View.{items_of}
 use Rattle.serde_json.specs.Written.{compact_text, items_text}
 use Rattle.ns_types.specs.declared.job.Constraint.{Constraint}
+use Rattle.ns_types.specs.declared.job.Document.{Document}
 use Rattle.ns_types.specs.declared.job.Group.{Group}
 use Rattle.ns_types.specs.declared.job.Task.{Task}
 use Rattle.ns_types.specs.declared.reply.JobShown.{JobShown}
@@ -153,28 +154,28 @@ members_then j rest =
     ap (λ (r : List ℕ). numbered (codes "],\"CreateIndex\":") j.row.create_index ++ member_rest j r) (stop_then j.row.stop rest)
 
 -- the members, with the texts that were written
-pub members_are : (j : JobShown) (id namespace pool status stop : List ℕ) → id ≡ j.id → namespace ≡ j.namespace → pool ≡ j.row.document.pool →
+pub members_are : (j : JobShown) (d : Document) (id namespace pool status stop : List ℕ) → d ≡ j.row.document → id ≡ j.id → namespace ≡ j.namespace → pool ≡ d.pool →
     status ≡ texted (codes ",\"Status\":") (job_status_text j.status) → stop ≡ stop_text j.row.stop →
     ((((((numbered (codes "],\"CreateIndex\":") j.row.create_index ++ texted (codes ",\"ID\":") id) ++ numbered (codes ",\"JobModifyIndex\":") j.row.modify_index) ++
-    texted (codes ",\"Namespace\":") namespace) ++ texted (codes ",\"NodePool\":") pool) ++ numbered (codes ",\"Priority\":") j.row.document.priority) ++
+    texted (codes ",\"Namespace\":") namespace) ++ texted (codes ",\"NodePool\":") pool) ++ numbered (codes ",\"Priority\":") d.priority) ++
     status) ++ stop ≡ member_text j
 unfolding member_text
-members_are j id namespace pool status stop e1 e2 e3 e4 e5 = rw (e1, e2, e3, e4, e5) refl
+members_are j d id namespace pool status stop same e1 e2 e3 e4 e5 = rw (e1, e2, e3, e4, e5, same) refl
 
-pub job_is : (j : JobShown) (constraints : List Constraint) (groups : List Group) (kind : List ℕ) → constraints ≡ j.row.document.constraints →
-    groups ≡ j.row.document.groups → kind ≡ texted (codes "],\"Type\":") (kind_text j.row.document.kind) →
+pub job_is : (j : JobShown) (d : Document) (constraints : List Constraint) (groups : List Group) (kind : List ℕ) → d ≡ j.row.document →
+    constraints ≡ d.constraints → groups ≡ d.groups → kind ≡ texted (codes "],\"Type\":") (kind_text d.kind) →
     (((((codes "{\"Constraints\":[" ++ joined (λ c. compact_text (constraint_json c)) constraints) ++ member_text j) ++
     joined (λ g. compact_text (group_json g)) groups) ++ kind) ++ numbered (codes ",\"Version\":") j.row.version) ++ codes "}" ≡
     compact_text (job_json j)
 unfolding job_json escape_byte
-job_is j constraints groups kind e1 e2 e3 =
+job_is j d constraints groups kind same e1 e2 e3 =
     let head : List ℕ = codes "{\"Constraints\":[" in
     let constrained : List ℕ = joined (λ c. compact_text (constraint_json c)) j.row.document.constraints in
     let typed : List ℕ = codes ",\"Type\":" ++ (quoted (kind_text j.row.document.kind) ++ (numbered (codes ",\"Version\":") j.row.version ++ codes "}")) in
     let grouped : List ℕ = items_text false (items_of (map group_json j.row.document.groups)) ++ typed in
     let members : List ℕ = numbered (codes ",\"CreateIndex\":") j.row.create_index ++
     member_rest j (codes ",\"Stop\":" ++ (token_text (boolean j.row.stop) ++ (codes ",\"TaskGroups\":[" ++ grouped))) in
-    rw (e1, e2, e3)
+    rw (e1, e2, e3, same)
     (regroup head constrained (member_text j) (joined (λ g. compact_text (group_json g)) j.row.document.groups)
     (texted (codes "],\"Type\":") (kind_text j.row.document.kind)) (numbered (codes ",\"Version\":") j.row.version) (codes "}") ∙
     ap (λ (r : List ℕ). head ++ (constrained ++ (member_text j ++ r))) (list_then group_json j.row.document.groups typed) ∙

@@ -241,13 +241,14 @@ fn push_members(out: &mut String, alloc: Global, job: &JobShown) -> Result<(), A
     ensures { OnOk result (Continues (string_bytes out.old) (string_bytes out.new)
         (member_text job.now)) }
 {
+    let document = job.row.document.get();
     let status = status_member(job.status);
     push_numbered(out, "],\"CreateIndex\":", job.row.create_index)?;
     push_texted(out, alloc, ",\"ID\":", job.id.as_str())?;
     push_numbered(out, ",\"JobModifyIndex\":", job.row.modify_index)?;
     push_texted(out, alloc, ",\"Namespace\":", job.namespace.as_str())?;
-    push_texted(out, alloc, ",\"NodePool\":", job.row.document.pool.as_str())?;
-    push_numbered(out, ",\"Priority\":", job.row.document.priority)?;
+    push_texted(out, alloc, ",\"NodePool\":", document.pool.as_str())?;
+    push_numbered(out, ",\"Priority\":", document.priority)?;
     push(out, status)?;
     let stop = stop_text(job.row.stop);
     push(out, stop)
@@ -258,11 +259,12 @@ fn push_job(out: &mut String, alloc: Global, job: &JobShown) -> Result<(), Alloc
     ensures { OnOk result (Continues (string_bytes out.old) (string_bytes out.new)
         (compact_text (job_json job.now))) }
 {
+    let document = job.row.document.get();
     push(out, "{\"Constraints\":[")?;
-    push_constraints(out, alloc, job.row.document.constraints.as_slice())?;
+    push_constraints(out, alloc, document.constraints.as_slice())?;
     push_members(out, alloc, job)?;
-    push_groups(out, alloc, job.row.document.groups.as_slice())?;
-    let kind = type_member(job.row.document.kind);
+    push_groups(out, alloc, document.groups.as_slice())?;
+    let kind = type_member(document.kind);
     push(out, kind)?;
     push_numbered(out, ",\"Version\":", job.row.version)?;
     push(out, "}")

@@ -21,7 +21,7 @@ use std::alloc::{AllocError, Global};
 fn group_name(alloc: Global, job: &Job, group: u64) -> Result<Text, AllocError>
     ensures { IfOk result (λ name. name ≡ group_name job.now group) }
 {
-    match job.document.groups.as_slice().get(group as usize) {
+    match job.document.get().groups.as_slice().get(group as usize) {
         Some(group) => group.name.clone(),
         None => Ok(Text::from_string(String::new(alloc))),
     }
@@ -49,7 +49,7 @@ fn new_allocation(
         node: name.clone()?,
         place: node.places + 1,
         size: placement.size,
-        priority: job.document.priority,
+        priority: job.document.get().priority,
         job_modify_index: job.modify_index,
         desired: DesiredStatus::Run,
         client: ClientStatus::Pending,

@@ -71,11 +71,12 @@ fn candidate<'a>(
     ensures { IfOk result (λ c. c
         ≡ candidate_of job.now namespace.now stops.now node.now) }
 {
+    let document = job.document.get();
     let live = node.live.as_slice();
-    let order = evictable(alloc, live, job.document.priority)?;
+    let order = evictable(alloc, live, document.priority)?;
     let evictable = staying(alloc, namespace, stops, &order)?;
     let left = left_of(node.row.offer.capacity, namespace, stops, live);
-    let constraints = job.document.constraints.as_slice();
+    let constraints = document.constraints.as_slice();
     let feasible = feasible(constraints, &node.name, &node.row);
     Ok(Candidate::new(&node.name, feasible, left, evictable))
 }

@@ -87,7 +87,7 @@ fn checked_demands(used: Resources, job: &Job, own: &[OwnAllocation]) -> Option<
         SomeIff result (IsCounted (plus used all)) (plus used all) }
 {
     let mut sum = used;
-    for group in job.document.groups.as_slice() {
+    for group in job.document.get().groups.as_slice() {
         sum = checked_missing(sum, job, own, group)?;
     }
     Some(sum)

@@ -65,7 +65,7 @@ fn kept_count(job: &Job, own: &[OwnAllocation], group: &Group) -> usize
 fn done(job: &Job, own: &[OwnAllocation], group: &Group) -> usize
     ensures { result ≡ done job.now own.now group.now }
 {
-    match job.document.kind {
+    match job.document.get().kind {
         JobKind::Service => 0,
         JobKind::Batch => own
             .iter()
@@ -137,7 +137,7 @@ fn replaced<'a>(
         ≡ outdated job.now own.now ++ flat_map (surplus job.now own.now) job.now.document.groups) }
 {
     let mut stops = outdated(alloc, job, own)?;
-    for group in job.document.groups.as_slice() {
+    for group in job.document.get().groups.as_slice() {
         push_surplus(alloc, &mut stops, job, own, group)?;
     }
     Ok(stops)
@@ -201,7 +201,7 @@ pub(crate) fn demands(
     if job.stop {
         return Ok(demands);
     }
-    let groups = job.document.groups.as_slice();
+    let groups = job.document.get().groups.as_slice();
     for i in 0..groups.len() {
         let group = &groups[i];
         let demand = Demand {

@@ -18,13 +18,17 @@ use std::process::Abort;
 
 /// A service of priority 50, with one group of one.
 fn service(rt: &impl Abort, alloc: Global) -> Job {
-    let document = Document {
-        kind: JobKind::Service,
-        priority: 50,
-        pool: text(rt, alloc, "default"),
-        constraints: Rows::new(alloc),
-        groups: groups(rt, alloc),
-    };
+    let document = Shared::new(
+        alloc,
+        Document {
+            kind: JobKind::Service,
+            priority: 50,
+            pool: text(rt, alloc, "default"),
+            constraints: Rows::new(alloc),
+            groups: groups(rt, alloc),
+        },
+    )
+    .expect(rt, "memory");
     Job {
         document,
         stop: false,

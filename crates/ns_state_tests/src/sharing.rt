@@ -1,5 +1,5 @@
 // Workers that look one after the other share the nodes that did not change. A node that changed is made anew, and what holds
-// it as it was keeps it so.
+// it as it was keeps it so. What a job says stands once, for its row and for those who are shown it.
 
 ghost use Rattle.std.specs.Prelude.{IsTrue};
 ghost use Rattle.ns_types.specs.declared.name.NameKind.TheVariants as NameKind;
@@ -38,6 +38,14 @@ fn sees(
     look(core, worker, namespace).expect(rt, "a snapshot")
 }
 
+/// Whether the job is seen, and so many own what it says.
+fn has_document_of(seen: &Shared<Snapshot>, owners: usize) -> bool {
+    match &seen.get().job {
+        Some(job) => job.document.owners() == owners,
+        None => false,
+    }
+}
+
 /// Whether only one node is seen, which so many own.
 fn is_only(seen: &Shared<Snapshot>, owners: usize, eligible: bool) -> bool {
     only_node(seen) == Some((owners, eligible))
@@ -54,7 +62,7 @@ fn shuts(rt: &impl Abort, core: &mut Core, root: &Text, default: &Text, node: &T
 /// Whether three workers that look one after the other share the node until it is made ineligible.
 fn looks_share(rt: &impl Abort, core: &mut Core, root: &Text, default: &Text, node: &Text) -> bool {
     let first = sees(rt, core, 0, default, 1);
-    let mut right = is_only(&first, 2, true);
+    let mut right = is_only(&first, 2, true) & has_document_of(&first, 2);
     let second = sees(rt, core, 1, default, 2);
     right &= is_only(&first, 3, true) & is_only(&second, 3, true);
     right &= shuts(rt, core, root, default, node);

@@ -3,6 +3,7 @@
 ghost use Rattle.std.specs.Prelude.{◌≡◌};
 
 use crate::rows::Rows;
+use crate::shared::Shared;
 use crate::text::Text;
 use std::alloc::AllocError;
 
@@ -159,9 +160,9 @@ impl Clone for Document {
     }
 }
 
-/// A row of a namespace, by the job's id.
+/// A row of a namespace, by the job's id. Those who are shown the row share its document.
 pub struct Job {
-    pub document: Document,
+    pub document: Shared<Document>,
     pub stop: bool,
     pub version: u64,
     pub create_index: u64,
@@ -185,7 +186,7 @@ impl Clone for Job {
 
     fn clone(&self) -> Result<Job, AllocError> {
         Ok(Job {
-            document: self.document.clone()?,
+            document: self.document.share()?,
             stop: self.stop,
             version: self.version,
             create_index: self.create_index,

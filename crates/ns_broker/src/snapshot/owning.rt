@@ -31,7 +31,7 @@ fn is_done_for(job: Option<&Job>, row: &Allocation) -> bool
     let Some(job) = job else {
         return false;
     };
-    matches!(job.document.kind, JobKind::Batch)
+    matches!(job.document.get().kind, JobKind::Batch)
         && same_number(row.job_modify_index, job.modify_index)
         && is_done(row)
 }

@@ -24,7 +24,7 @@ fn pool_for<'a>(evaluation: &'a Evaluation, job: Option<&'a Job>) -> &'a Text
     ensures { result.now ≡ pool_for evaluation.now (option_copied job.entry) }
 {
     match job {
-        Some(job) => &job.document.pool,
+        Some(job) => &job.document.get().pool,
         None => &evaluation.pool,
     }
 }

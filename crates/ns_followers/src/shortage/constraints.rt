@@ -36,7 +36,7 @@ pub(crate) fn constraints_of(job: &Option<Job>) -> &[Constraint]
     ensures { result.now ≡ constraints_of job.now }
 {
     match job {
-        Some(job) => job.document.constraints.as_slice(),
+        Some(job) => job.document.get().constraints.as_slice(),
         None => &[],
     }
 }

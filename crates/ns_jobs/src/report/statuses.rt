@@ -65,7 +65,7 @@ fn is_of_batch(tenant: &TenantRows, row: &Allocation) -> bool
     ensures { result ≡ is_of_batch (tenant_of tenant.now) row.now }
 {
     match job(tenant, &row.job) {
-        Some(job) => matches!(job.document.kind, JobKind::Batch),
+        Some(job) => matches!(job.document.get().kind, JobKind::Batch),
         None => false,
     }
 }

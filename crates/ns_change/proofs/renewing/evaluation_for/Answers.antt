@@ -1,6 +1,7 @@
 use Rattle.std.proofs.Common.{ap, sym, ◌∙◌}
 use Rattle.std.specs.Option.{option_copied, option_map_or}
 use Rattle.keyed.proofs.Tables.{get-rows}
+use Rattle.ns_types.specs.declared.job.Document.{Document}
 use Rattle.ns_types.specs.declared.job.Job.{Job}
 use Rattle.ns_types.specs.declared.job.JobKind.TheVariants as JobKind
 use Rattle.ns_types.specs.Settling.Making.{evaluation_of, new_evaluation}
@@ -12,6 +13,7 @@ pub returns-in-Some : goal.returns-in-Some
 returns-in-Some c =
     let ended = c.args.ended.now in
     if_ok c.new_evaluation.result _ _ (λ e is. is
+    ∙ ap (λ (d : Document). evaluation_of ended.job d c.args.trigger) c.get-document.ensures
     ∙ sym (ap (λ o. option_map_or (λ (job : Job). evaluation_of ended.job job.document c.args.trigger) o
     (new_evaluation ended.job JobKind.Service ended.priority ended.pool c.args.trigger))
     (get-rows names c.args.tenant.now.jobs ended.job ∙ sym c.get.ensures ∙ ap option_copied c.in-Some.is)))

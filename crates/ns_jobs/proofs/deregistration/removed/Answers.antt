@@ -21,9 +21,10 @@ returns c =
     let ns = c.args.namespace.now in
     let n = c.requires.numbers in
     let f = without_job c.args.id.now in
-    let e = evaluation_of c.args.id.now c.args.job.now.document Trigger.JobDeregister in
+    let e = evaluation_of c.args.id.now c.get-document.result.now Trigger.JobDeregister in
     prepares_as _ _ c.args.tables.now c.prepare.result
-    (λ i. Done (Content.Registered (sym n.evaluation i) (sym n.index i) (sym n.index i)) (make_in ns e w (f t)))
+    (λ i. Done (Content.Registered (sym n.evaluation i) (sym n.index i) (sym n.index i))
+    (make_in ns (evaluation_of c.args.id.now (sym c.get-document.ensures i) Trigger.JobDeregister) w (f t)))
     (c.prepare.ensures c.args.tables.now (make_in ns e w (f t)) (done_as _ c.args.tables.now c.remove_and_make-made.new.change _ _
     (made_over w ns t (there c.args.tables.now ns c.args.tenant.now c.requires.tenant) f e _ (c.new-change.ensures c.args.tables.now))
     c.remove_and_make-made.ensures))

@@ -1,5 +1,6 @@
-use Rattle.std.proofs.Common.{refl, sym, subst}
-use Rattle.ns_types.specs.Settling.Making.{make, with_job}
+use Rattle.std.proofs.Common.{ap, refl, sym, subst, ◌∙◌}
+use Rattle.ns_types.specs.declared.job.Document.{Document}
+use Rattle.ns_types.specs.Settling.Making.{evaluation_of, make, with_job}
 use Rattle.ns_change.specs.Changed.{HasEvaluationLeft, view}
 use Rattle.ns_change.proofs.Prepares.{done_as}
 use Rattle.ns_jobs.proofs.Prepared.{still_left}
@@ -11,4 +12,5 @@ make-requires c = subst (λ w. HasEvaluationLeft w c.args.namespace.now) (sym c.
 
 pub returns : goal.returns
 returns c = done_as c.make.result c.args.tables.now c.make.new.change _ _
-    (λ i. make c.args.namespace.now (λ _. c.in_ok-evaluation.ensures i) (c.in_ok-put_job.ensures i)) c.make.ensures
+    (λ i. make c.args.namespace.now (λ _. (c.in_ok-evaluation.ensures
+    ∙ ap (λ (d : Document). evaluation_of c.args.id.now d c.args.trigger) c.get.ensures) i) (c.in_ok-put_job.ensures i)) c.make.ensures
