@@ -23,6 +23,13 @@ fn push(out: &mut String, text: &str) -> Result<(), AllocError>
     out.push_str(text)
 }
 
+fn push_quote(out: &mut String) -> Result<(), AllocError>
+    ensures { OnOk result (Continues (string_bytes out.old) (string_bytes out.new)
+        (codes "\"")) }
+{
+    out.push('"')
+}
+
 /// Whether no byte of a JSON string with this text is escaped.
 fn is_plain(text: &str) -> bool
     ensures { result ≡ list_all is_plain text.now }
@@ -52,9 +59,9 @@ fn push_quoted(out: &mut String, alloc: Global, text: &str) -> Result<(), AllocE
     if !is_plain(text) {
         return push_escaped(out, alloc, text);
     }
-    push(out, "\"")?;
+    push_quote(out)?;
     push(out, text)?;
-    push(out, "\"")
+    push_quote(out)
 }
 
 fn push_number(out: &mut String, n: u64) -> Result<(), AllocError>
