@@ -71,6 +71,14 @@ fn put_key<K: Eq + Hash + IndexKey + Drop>(keys: &mut IndexSet<K>, place: usize,
     true
 }
 
+/// Where the key stands among these. It is no part of a look-up where nothing is known, so that such a one is short.
+#[inline(never)]
+fn place_of<K: Eq + Hash>(keys: &IndexSet<K>, key: &K) -> Option<usize>
+    ensures { result ≡ position (K.eq key.now) keys.now.keys }
+{
+    keys.get_index_of(key)
+}
+
 impl<K: Eq + Hash + IndexKey + Drop> KeyIndex<K> {
     /// Nothing is known.
     pub(crate) fn new() -> KeyIndex<K>
@@ -102,7 +110,7 @@ impl<K: Eq + Hash + IndexKey + Drop> KeyIndex<K> {
         ensures { result ≡ option_map (position (K.eq key.now)) self.now }
     {
         match &self.keys {
-            Some(keys) => Some(keys.get_index_of(key)),
+            Some(keys) => Some(place_of(keys, key)),
             None => None,
         }
     }
