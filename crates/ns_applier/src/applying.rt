@@ -18,7 +18,7 @@ use crate::view::check;
 use ns_broker::worker_at;
 use ns_change::Prepared;
 use ns_live_index::Live;
-use ns_place::marking::Marked;
+use ns_place::marking::Places;
 use ns_plan_result::{Committed, Turn, apply_refused, apply_standing};
 use ns_tables::{Tables, TenantRows};
 use ns_types::plan::Plan;
@@ -49,7 +49,7 @@ fn come_to(
     if outcome.is_refused() {
         return apply_refused(tables, snapshot, turn, outcome.dropped());
     }
-    let nodes = Marked::new(outcome.committed());
+    let nodes = Places::new(outcome.committed());
     if passes(tables, live, snapshot, plan, &nodes) {
         return Err(Refusal::Full);
     }

@@ -16,7 +16,7 @@ use crate::headroom::{Headroom, lost_part_passes, own_part_passes};
 use crate::losing::Evicting;
 use crate::view::Present;
 use ns_live_index::Live;
-use ns_place::marking::Marked;
+use ns_place::marking::{Marked, Places};
 use ns_renewal::{CountedEvictions, numbers_pass};
 use ns_tables::Tables;
 use ns_types::plan::Plan;
@@ -28,7 +28,7 @@ fn evaluations_pass(
     present: &Present<'_>,
     snapshot: &Snapshot,
     plan: &Plan,
-    nodes: &Marked<'_>,
+    nodes: &Places<'_>,
 ) -> bool
     requires same { present.now ≡ world_of tables.now }
     requires within { is_past_bound (world_of tables.now) ≡ false }
@@ -55,7 +55,7 @@ pub(crate) fn passes(
     live: &Live,
     snapshot: &Snapshot,
     plan: &Plan,
-    nodes: &Marked<'_>,
+    nodes: &Places<'_>,
 ) -> bool
     requires right { IsRight (world_of tables.now) live.now }
     requires within { is_past_bound (world_of tables.now) ≡ false }

@@ -1,7 +1,7 @@
 //! Which evictions of a plan are those of victims. It takes no memory to ask.
 
 use crate::view::Present;
-use ns_place::marking::Marked;
+use ns_place::marking::{Marked, Places};
 use ns_plan::counts;
 use ns_renewal::CountsEviction;
 use ns_types::plan::{Eviction, Placement};
@@ -14,7 +14,7 @@ pub(crate) struct Evicting<'a> {
     pub(crate) snapshot: &'a Snapshot,
     pub(crate) stops: &'a Marked<'a>,
     /// The places in the snapshot of the nodes that do their part.
-    pub(crate) nodes: &'a Marked<'a>,
+    pub(crate) nodes: &'a Places<'a>,
 }
 
 impl<'a> CountsEviction for Evicting<'a> {

@@ -16,14 +16,6 @@ use ns_types::plan::Eviction;
 use ns_types::resources::{Resources, less, none, same_resources};
 use ns_types::text::{Text, same_text};
 
-/// Whether the number is among them.
-#[tactic(auto, using(ns_types::proofs::Named::number_ties))]
-pub(crate) fn has_number(numbers: &[u64], number: u64) -> bool
-    ensures { result ≡ has_number numbers.now number }
-{
-    numbers.iter().any(|n| number == *n)
-}
-
 #[tactic(auto, using(crate::proofs::Afterwards::stopped_has))]
 fn is_stopped(namespace: &Text, stops: &Marked<'_>, owner: &Text, number: u64) -> bool
     ensures { result ≡ has_key (stop_keys namespace.now stops.now) (owner.now, number) }

@@ -43,14 +43,14 @@ impl Outcome {
     }
 
     /// Places of the nodes that do their part, in the order of first placement.
-    pub fn committed(&self) -> &[u64]
+    pub fn committed(&self) -> &[u16]
         ensures { result.now ≡ self.now.committed }
     {
         self.decided.committed.as_slice()
     }
 
     /// Places of the nodes that do nothing of their part, in the order of first placement.
-    pub fn dropped(&self) -> &[u64]
+    pub fn dropped(&self) -> &[u16]
         ensures { result.now ≡ self.now.dropped }
     {
         self.decided.dropped.as_slice()
@@ -58,7 +58,7 @@ impl Outcome {
 }
 
 /// Lists the places of the placements' nodes, each once, in the order of first placement.
-fn list_nodes(snapshot: &Snapshot, plan: &Plan, nodes: &mut ArrayVec<u64, 1000>)
+fn list_nodes(snapshot: &Snapshot, plan: &Plan, nodes: &mut ArrayVec<u16, 1000>)
     requires fits { IsOnFewNodes snapshot.now plan.now }
     requires none { nodes.old.items ≡ [] }
     ensures { nodes.new.items ≡ nodes_in plan.now.placing.placements }
@@ -68,7 +68,7 @@ fn list_nodes(snapshot: &Snapshot, plan: &Plan, nodes: &mut ArrayVec<u64, 1000>)
         let node = placement.node;
         if !seen.has(node) {
             seen.flag(node);
-            nodes.push(node);
+            nodes.push(node as u16);
         }
     }
 }

@@ -1,6 +1,6 @@
 //! Which nodes do their part of a plan: each its whole part or none of it. Nothing is written, and no memory is taken.
 
-ghost use Rattle.std.specs.Prelude.{◌≡◌, ◌<◌, IfSome, length, option_copied};
+ghost use Rattle.std.specs.Prelude.{◌≡◌, ◌<◌, ◌≤◌, IfSome, length, option_copied};
 ghost use Rattle.arrayvec.specs.ArrayVec.{array_vec_len};
 ghost use Rattle.ns_types.specs.State.Sums.{node_load};
 ghost use Rattle.ns_types.specs.Working.Commit.{node_name, nodes_in, quota_named};
@@ -31,9 +31,9 @@ pub(crate) struct SoFar {
     /// What the nodes that do their part place.
     pub(crate) placed: Amount,
     /// Places of the nodes that do their part.
-    pub(crate) committed: ArrayVec<u64, 1000>,
+    pub(crate) committed: ArrayVec<u16, 1000>,
     /// Places of those that do not.
-    pub(crate) dropped: ArrayVec<u64, 1000>,
+    pub(crate) dropped: ArrayVec<u16, 1000>,
 }
 
 /// Decides for the node, which stands in neither list, by its part of the plan.
@@ -51,6 +51,7 @@ fn decide<V: View>(
     requires stops { stops.now ≡ plan.now.stops }
     requires quota { option_copied quota ≡
         quota_named (V.world view.now) snapshot.now.namespace }
+    requires few { length snapshot.now.nodes ≤ 1000 }
     requires inside { node < length snapshot.now.nodes }
     requires part { IsPart node plan.now.placing.placements part }
     requires load { load ≡ node_load
@@ -71,9 +72,9 @@ fn decide<V: View>(
     if takes(view, snapshot, quota, name, left, part.size, so_far.placed) {
         so_far.used = left.used;
         so_far.placed = add(so_far.placed, part.size);
-        so_far.committed.push(node);
+        so_far.committed.push(node as u16);
     } else {
-        so_far.dropped.push(node);
+        so_far.dropped.push(node as u16);
     }
 }
 

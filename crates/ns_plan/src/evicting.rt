@@ -8,10 +8,10 @@ ghost use Rattle.ns_types.proofs.Once.{once};
 ghost use Rattle.ns_plan.specs.After.{after_stops, keys_of};
 ghost use Rattle.ns_plan.specs.Looks.{AreVictims, IsOnFewNodes};
 
-use crate::after::{counted, has_number};
+use crate::after::counted;
 use crate::taking::node_name;
 use crate::view::View;
-use ns_place::marking::Marked;
+use ns_place::marking::{Marked, Places};
 use ns_types::plan::{Eviction, Placement, Plan};
 use ns_types::snapshot::Snapshot;
 use ns_types::text::same_text;
@@ -98,15 +98,14 @@ fn hold<'a, V: View>(
     Ok(())
 }
 
-/// The evictions of committed nodes that count, each allocation once, in the order of the plan. It costs a walk over
-/// the committed nodes for each placement, two look-ups for each eviction of these nodes, and the square of how many
-/// count.
+/// The evictions of committed nodes that count, each allocation once, in the order of the plan. It costs two look-ups for
+/// each eviction of these nodes, and the square of how many count.
 pub fn victims<'a, V: View>(
     alloc: Global,
     view: &V,
     snapshot: &Snapshot,
     plan: &'a Plan,
-    committed: &[u64],
+    committed: &Places<'_>,
 ) -> Result<Vec<&'a Eviction>, AllocError>
     requires { IsOnFewNodes snapshot.now plan.now }
     ensures listed { IfOk result (λ v. keys_of (map (λ e. e.now) v.items) ≡ victim_keys (victims_of
@@ -118,7 +117,7 @@ pub fn victims<'a, V: View>(
     let stops = Marked::new(plan.stops.as_slice());
     let mut held = Vec::new(alloc);
     for placement in plan.placing.placements.as_slice() {
-        if has_number(committed, placement.node) {
+        if committed.has(placement.node) {
             hold(view, snapshot, &stops, placement, &mut held)?;
         }
     }

@@ -20,7 +20,7 @@ use crate::looking::node_name;
 use crate::stopping::is_live;
 use keyed::{NameSlot, NameTable};
 use ns_change::{Change, put_row, take_plan};
-use ns_place::marking::Marked;
+use ns_place::marking::Places;
 use ns_tables::{Tables, TenantRows};
 use ns_types::evaluation::Evaluation;
 use ns_types::job::JobKind;
@@ -64,7 +64,7 @@ fn add_name(table: &mut NameTable<()>, name: &Text) -> Result<(), AllocError>
 fn table_of_names(
     alloc: Global,
     snapshot: &Snapshot,
-    places: &[u64],
+    places: &[u16],
 ) -> Result<NameTable<()>, AllocError>
     ensures { IfOk result (λ table. table
         ≡ fold (λ m k. with_name m (node_name snapshot.now k)) empty places.now) }
@@ -72,7 +72,10 @@ fn table_of_names(
     let nameless = Text::from_string(String::new(alloc));
     let mut table = NameTable::new(alloc);
     for place in places {
-        add_name(&mut table, node_name(snapshot, *place, &nameless))?;
+        add_name(
+            &mut table,
+            node_name(snapshot, u64::from(*place), &nameless),
+        )?;
     }
     Ok(table)
 }
@@ -91,7 +94,7 @@ fn keys_of(alloc: Global, slots: &[NameSlot<()>]) -> Result<Rows<Text>, AllocErr
 pub(crate) fn names_in(
     alloc: Global,
     snapshot: &Snapshot,
-    places: &[u64],
+    places: &[u16],
 ) -> Result<Rows<Text>, AllocError>
     ensures { IfOk result (λ names. names ≡ names_in snapshot.now places.now) }
 {
@@ -123,14 +126,14 @@ fn any_live(tenant: &TenantRows, stops: &[u64]) -> bool
     stops.iter().any(|number| is_live(tenant, *number))
 }
 
-fn any_placed(nodes: &Marked<'_>, placements: &[Placement]) -> bool
+fn any_placed(nodes: &Places<'_>, placements: &[Placement]) -> bool
     ensures { result ≡ list_any (λ p. has_number nodes.now p.node) placements.now }
 {
     placements.iter().any(|placement| nodes.has(placement.node))
 }
 
 /// What becomes of a plan that stands, where these of its nodes are dropped.
-pub(crate) fn effect_of(committed: &Committed, tenant: &TenantRows, dropped: &[u64]) -> Effect
+pub(crate) fn effect_of(committed: &Committed, tenant: &TenantRows, dropped: &[u16]) -> Effect
     ensures { let p = committed.now.plan.now in
         let placed = placed_on committed.now.nodes.now p.placing.placements in
         let stops = live_stops (tenant_of tenant.now) p.stops in

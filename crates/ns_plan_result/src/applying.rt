@@ -45,7 +45,7 @@ fn write_told(
     change: &mut Change,
     tenant: &TenantRows,
     turn: &Turn,
-    dropped: &[u64],
+    dropped: &[u16],
 ) -> Result<Content, AllocError>
     requires tenant { let kept = committed.now.snapshot.now in
         row_at committed.now.tables.now.tenants kept.namespace ≡ Some tenant.now }
@@ -80,7 +80,7 @@ pub fn apply_standing(
     committed: &Committed,
     tenant: &TenantRows,
     turn: &Turn,
-    dropped: &[u64],
+    dropped: &[u16],
 ) -> Result<Prepared, Refusal>
     requires tenant { let kept = committed.now.snapshot.now in
         row_at committed.now.tables.now.tenants kept.namespace ≡ Some tenant.now }
@@ -115,7 +115,7 @@ fn mark_told(
     change: &mut Change,
     snapshot: &Snapshot,
     turn: &Turn,
-    dropped: &[u64],
+    dropped: &[u16],
 ) -> Result<Content, AllocError>
     requires nothing { view tables.now change.old ≡ world_of tables.now }
     requires submitted { turn.now.worker.now.phase ≡ Phase.Submitted }
@@ -135,7 +135,7 @@ pub fn apply_refused(
     tables: &Tables,
     snapshot: &Snapshot,
     turn: &Turn,
-    dropped: &[u64],
+    dropped: &[u16],
 ) -> Result<Prepared, Refusal>
     requires submitted { turn.now.worker.now.phase ≡ Phase.Submitted }
     ensures { (p : Plan) → dropped.now ≡ nodes_in p.placing.placements →

@@ -1,6 +1,6 @@
 //! The part of a plan that is done.
 
-use ns_place::marking::Marked;
+use ns_place::marking::Places;
 use ns_tables::Tables;
 use ns_types::plan::Plan;
 use ns_types::snapshot::Snapshot;
@@ -13,5 +13,5 @@ pub struct Committed<'a> {
     pub snapshot: &'a Snapshot,
     pub plan: &'a Plan,
     /// The places in the snapshot of the nodes that do their part.
-    pub nodes: &'a Marked<'a>,
+    pub nodes: &'a Places<'a>,
 }

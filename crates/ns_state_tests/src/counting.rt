@@ -10,6 +10,7 @@ use keyed::{NumberSlot, NumberTable, OwnerTable};
 use ns_admin::opening;
 use ns_applier::view::Present;
 use ns_copies::live_of;
+use ns_place::marking::Places;
 use ns_plan::{live_stops, victims};
 use ns_tables::{AllocationTable, Tables};
 use ns_types::allocation::{Allocation, ClientStatus};
@@ -139,8 +140,8 @@ fn are_third_and_second(victims: &[&Eviction]) -> bool {
 fn evicts(rt: &impl Abort, alloc: Global, present: &Present<'_>) -> bool {
     let kept = kept(rt, alloc);
     let plan = plan(rt, alloc);
-    let evicted = victims(alloc, present, &kept, &plan, &[0]).expect(rt, "memory");
-    let nobody = victims(alloc, present, &kept, &plan, &[]).expect(rt, "memory");
+    let evicted = victims(alloc, present, &kept, &plan, &Places::new(&[0])).expect(rt, "memory");
+    let nobody = victims(alloc, present, &kept, &plan, &Places::new(&[])).expect(rt, "memory");
     are_third_and_second(evicted.as_slice()) && nobody.as_slice().is_empty()
 }
 

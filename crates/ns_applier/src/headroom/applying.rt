@@ -11,20 +11,20 @@ ghost use Rattle.ns_types.specs.Working.Parts.{lives_at, placed_on};
 ghost use Rattle.ns_applier.specs.Judging.{own_part_passes};
 
 use crate::headroom::ending::Headroom;
-use ns_place::marking::Marked;
+use ns_place::marking::Places;
 use ns_types::plan::{Placement, Plan};
 use ns_types::snapshot::Snapshot;
 use ns_types::text::{Text, same_text};
 
 // ---- its own namespace
 
-fn any_placed(placements: &[Placement], committed: &Marked<'_>) -> bool
+fn any_placed(placements: &[Placement], committed: &Places<'_>) -> bool
     ensures { result ≡ list_any (λ p. has_number committed.now p.node) placements.now }
 {
     placements.iter().any(|p| committed.has(p.node))
 }
 
-fn count_placed(placements: &[Placement], committed: &Marked<'_>) -> usize
+fn count_placed(placements: &[Placement], committed: &Places<'_>) -> usize
     ensures { result ≡ length (placed_on committed.now placements.now) }
 {
     placements.iter().filter(|p| committed.has(p.node)).count()
@@ -41,7 +41,7 @@ fn numbers_pass(
     headroom: &Headroom,
     namespace: &Text,
     placements: &[Placement],
-    committed: &Marked<'_>,
+    committed: &Places<'_>,
 ) -> bool
     ensures { result ≡ allocations_pass headroom.now namespace.now
         (length (placed_on committed.now placements.now)) }
@@ -54,7 +54,7 @@ fn does_something(
     headroom: &Headroom,
     snapshot: &Snapshot,
     plan: &Plan,
-    committed: &Marked<'_>,
+    committed: &Places<'_>,
 ) -> bool
     ensures { result ≡ does_something (doing headroom.now snapshot.now plan.now committed.now) }
 {
@@ -63,7 +63,7 @@ fn does_something(
 }
 
 /// Whether the number of the last allocation passes, or the index of the plan's namespace.
-fn own_passes(headroom: &Headroom, snapshot: &Snapshot, plan: &Plan, committed: &Marked<'_>) -> bool
+fn own_passes(headroom: &Headroom, snapshot: &Snapshot, plan: &Plan, committed: &Places<'_>) -> bool
     ensures { result ≡ own_passes headroom.now snapshot.now.namespace
         (doing headroom.now snapshot.now plan.now committed.now) }
 {
@@ -89,7 +89,7 @@ fn node_name<'a>(snapshot: &'a Snapshot, nameless: &'a Text, place: u64) -> &'a 
 fn is_on(
     snapshot: &Snapshot,
     nameless: &Text,
-    committed: &Marked<'_>,
+    committed: &Places<'_>,
     name: &Text,
     placement: &Placement,
 ) -> bool
@@ -105,7 +105,7 @@ fn count_on(
     snapshot: &Snapshot,
     nameless: &Text,
     placements: &[Placement],
-    committed: &Marked<'_>,
+    committed: &Places<'_>,
     name: &Text,
 ) -> usize
     requires { nameless.now ≡ [] }
@@ -124,7 +124,7 @@ fn node_passes(
     snapshot: &Snapshot,
     nameless: &Text,
     placements: &[Placement],
-    committed: &Marked<'_>,
+    committed: &Places<'_>,
     place: u64,
 ) -> bool
     requires { nameless.now ≡ [] }
@@ -145,14 +145,19 @@ fn any_node_passes(
     snapshot: &Snapshot,
     nameless: &Text,
     placements: &[Placement],
-    committed: &Marked<'_>,
+    committed: &Places<'_>,
 ) -> bool
     requires { nameless.now ≡ [] }
     ensures { result ≡ list_any (committed_passes headroom.now snapshot.now
         (placed_on committed.now placements.now)) committed.now }
 {
     committed.as_slice().iter().any(|place| node_passes(
-        headroom, snapshot, nameless, placements, committed, *place,
+        headroom,
+        snapshot,
+        nameless,
+        placements,
+        committed,
+        u64::from(*place),
     ))
 }
 
@@ -161,7 +166,7 @@ fn places_pass(
     headroom: &Headroom,
     snapshot: &Snapshot,
     plan: &Plan,
-    committed: &Marked<'_>,
+    committed: &Places<'_>,
 ) -> bool
     requires { is_past_bound headroom.now ≡ false }
     ensures { let kept = snapshot.now in
@@ -201,7 +206,7 @@ pub fn own_part_passes(
     headroom: &Headroom,
     snapshot: &Snapshot,
     plan: &Plan,
-    committed: &Marked<'_>,
+    committed: &Places<'_>,
 ) -> bool
     requires { is_past_bound headroom.now ≡ false }
     ensures { result ≡ own_part_passes headroom.now snapshot.now plan.now committed.now }

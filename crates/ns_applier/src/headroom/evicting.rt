@@ -9,7 +9,7 @@ ghost use Rattle.ns_plan.specs.Looks.{IsOnFewNodes};
 ghost use Rattle.ns_applier.specs.Judging.{eviction_passes, evictions_pass_at, lost_part_passes};
 
 use crate::headroom::ending::Headroom;
-use ns_place::marking::Marked;
+use ns_place::marking::{Marked, Places};
 use ns_plan::{View, counts};
 use ns_types::plan::{Eviction, Placement, Plan};
 use ns_types::snapshot::Snapshot;
@@ -41,7 +41,7 @@ fn placement_passes<V: View>(
     view: &V,
     snapshot: &Snapshot,
     stops: &Marked<'_>,
-    committed: &Marked<'_>,
+    committed: &Places<'_>,
     placement: &Placement,
 ) -> bool
     ensures { let kept = snapshot.now in let p = placement.now in
@@ -66,7 +66,7 @@ fn any_placement_passes<V: View>(
     view: &V,
     snapshot: &Snapshot,
     stops: &Marked<'_>,
-    committed: &Marked<'_>,
+    committed: &Places<'_>,
     placements: &[Placement],
 ) -> bool
     ensures { let kept = snapshot.now in
@@ -89,7 +89,7 @@ pub fn lost_part_passes<V: View>(
     view: &V,
     snapshot: &Snapshot,
     plan: &Plan,
-    committed: &Marked<'_>,
+    committed: &Places<'_>,
 ) -> bool
     requires same { V.world view.now ≡ headroom.now }
     requires nodes { IsOnFewNodes snapshot.now plan.now }

@@ -1,25 +1,10 @@
-//! A list of numbers in which one is looked up without a walk, where they are small or rise.
+//! A list of numbers in which one is looked up without a walk, where they rise.
 
 ghost use Rattle.std.specs.Prelude.{◌≡◌, ◌<◌, IsTrue, ℕ, length, slice_index_or, take};
 ghost use Rattle.std.specs.List.Sorted.{IsNonDecreasing};
 ghost use Rattle.ns_types.specs.State.Names.{has_number};
-ghost use Rattle.ns_place.specs.Marks.{AreFlags};
 
-use crate::marking::flags::Flags;
 use std::marker::Model;
-
-/// Flags of those among the numbers that are below 1,000.
-fn flags_of(numbers: &[u64]) -> Flags
-    ensures { AreFlags result numbers.now }
-{
-    let mut flags = Flags::new();
-    for number in numbers {
-        if *number < 1000 {
-            flags.flag(*number);
-        }
-    }
-    flags
-}
 
 #[tactic(auto, using(ns_types::proofs::Named::number_ties))]
 fn has_number(numbers: &[u64], number: u64) -> bool
@@ -57,21 +42,18 @@ fn is_repeated(numbers: &[u64], place: usize) -> bool
 #[derive(Drop)]
 pub struct Marked<'a> {
     numbers: &'a [u64],
-    flags: Flags,
     rises: bool,
 }
 
 impl<'a> Model for Marked<'a> {
     ghost use Rattle.std.specs.Prelude.{IsTrue, ℕ, List};
     ghost use Rattle.std.specs.List.Sorted.{IsNonDecreasing};
-    ghost use Rattle.ns_place.specs.Marks.{AreFlags};
 
     ghost Value = { List ℕ };
 
     ghost view = { λ m. m.numbers.now };
 
-    ghost invariant = { λ m. AreFlags m.flags m.numbers.now
-        × (IsTrue m.rises → IsNonDecreasing m.numbers.now) };
+    ghost invariant = { λ m. IsTrue m.rises → IsNonDecreasing m.numbers.now };
 }
 
 impl<'a> Marked<'a> {
@@ -84,7 +66,6 @@ impl<'a> Marked<'a> {
     {
         Marked {
             numbers,
-            flags: flags_of(numbers),
             rises: rises(numbers),
         }
     }
@@ -95,14 +76,11 @@ impl<'a> Marked<'a> {
         self.numbers
     }
 
-    /// Whether the number is among them. A number below 1,000 is looked up at once, and where the numbers rise any other by
-    /// a binary search. Else it costs a walk.
+    /// Whether the number is among them. Where the numbers rise it is a binary search, else it costs a walk.
     pub fn has(&self, number: u64) -> bool
         ensures { result ≡ has_number self.now number }
     {
-        if number < 1000 {
-            self.flags.has(number)
-        } else if self.rises {
+        if self.rises {
             is_in_rising(self.numbers, number)
         } else {
             has_number(self.numbers, number)

@@ -8,7 +8,7 @@ use Rattle.ns_plan.specs.After.{after_stops, keys_of}
 use Rattle.ns_plan.proofs.Holding.{victims_next}
 use Rattle.ns_plan.proofs.Parts.{victims_checked}
 use Rattle.ns_plan.proofs.evicting.victims.Goals as goal
-use Rattle.ns_plan.proofs.evicting.victims.Goals.{then-has_number+in_ok-hold, else-has_number}
+use Rattle.ns_plan.proofs.evicting.victims.Goals.{then-has+in_ok-hold, else-has}
 
 pub loop-placement-preserved : goal.loop-placement-preserved
 loop-placement-preserved g c =
@@ -23,12 +23,12 @@ loop-placement-preserved g c =
     let next = victims_next x kept nodes ps at p (subst (λ l. at < length l) all c.loop-placement-test.true)
     (c.placement-item.is ∙ ap (λ l. get_or l at p) all) in
     let so_far = keys_of (victims_of x kept (filter (λ p. has_number nodes p.node) (take at ps))) in
-    elim c.if-has_number.branch [
-      | then-has_number+in_ok-hold v ↦ (λ j. keys_of (map (λ e. e.now) (v.held-is j).items)) ∙ v.in_ok-hold.ensures so_far c.loop-placement.invariant
+    elim c.if-has.branch [
+      | then-has+in_ok-hold v ↦ (λ j. keys_of (map (λ e. e.now) (v.held-is j).items)) ∙ v.in_ok-hold.ensures so_far c.loop-placement.invariant
           ∙ (λ i. once (so_far ++ keys_of (victims_in (after_stops w kept.namespace ((c.new-stops.ensures ∙ c.as_slice.ensures) i)) kept p)))
-          ∙ ap once (sym (next true (sym c.has_number.ensures ∙ v.if-has_number.true)))
-      | else-has_number v ↦ (λ j. keys_of (map (λ e. e.now) (v.held-is j).items)) ∙ c.loop-placement.invariant
-          ∙ ap once (sym (next false (sym c.has_number.ensures ∙ v.if-has_number.false) ∙ append-nil so_far))
+          ∙ ap once (sym (next true (sym c.has.ensures ∙ v.if-has.true)))
+      | else-has v ↦ (λ j. keys_of (map (λ e. e.now) (v.held-is j).items)) ∙ c.loop-placement.invariant
+          ∙ ap once (sym (next false (sym c.has.ensures ∙ v.if-has.false) ∙ append-nil so_far))
     ]
 
 pub returns : goal.returns
