@@ -6,11 +6,13 @@
     python3 bench/instructions.py PROGRAM --placed for a job of one allocation, registered and placed, on a node that has no other
                                                    allocation, 100 others, or 900; and the last beside the second
     python3 bench/instructions.py PROGRAM --placed --nodes N    the same where the pool has N nodes, and not 10
+    python3 bench/instructions.py PROGRAM --placed --no-rep     the same where the C library does not use `rep movsb` and `rep stosb`
 
 Two runs are counted, of FEW reads and of twice as many, and their difference is divided by FEW: so what the program does at its
-start and its end, and the registration of the job, do not count. For jobs it is the same with JOBS of them, of which each goes to the
-node that the others are on. Callgrind counts each byte that `rep movsb` moves. The functions that take most are listed with it, where
-the program has their names. Ends with status 1 where a reply is not 200, or where the two runs do not answer each request.
+start and its end, and the registration of the job, do not count. For jobs it is the same with JOBS of them, of which each goes to
+the node that the others are on. Callgrind counts each byte that `rep movsb` or `rep stosb` moves as an instruction, unless the C
+library is kept from using them. The functions that take most are listed with it, where the program has their names. Ends with
+status 1 where a reply is not 200, or where the two runs do not answer each request.
 """
 
 import argparse
@@ -32,6 +34,8 @@ LISTED = 20
 ASKED = 6_000
 AIM = 4_000
 OK = b"HTTP/1.1 200 OK\r\n"
+# So many bytes are never moved at once.
+NO_REP = "glibc.cpu.x86_rep_movsb_threshold=1000000000:glibc.cpu.x86_rep_stosb_threshold=1000000000"
 
 
 def reads(number):
@@ -106,7 +110,10 @@ def main():
     parser.add_argument("--most", type=int)
     parser.add_argument("--placed", action="store_true")
     parser.add_argument("--nodes", type=int, default=10)
+    parser.add_argument("--no-rep", action="store_true")
     words = parser.parse_args()
+    if words.no_rep:
+        os.environ["GLIBC_TUNABLES"] = NO_REP
     if not os.path.exists(words.program):
         print(f"there is no {words.program} here: build the program first", file=sys.stderr)
         return 2
