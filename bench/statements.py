@@ -17,6 +17,7 @@ import sys
 
 TOP = os.path.dirname(os.path.dirname(os.path.abspath(__file__)))
 ITEM = re.compile(r"^\s*(pub(\([a-z]+\))? )?(const |unsafe )?(fn|struct|enum|trait|impl|ghost)\b")
+CLAUSE = re.compile(r"^\s*(ensures|requires)\b")
 ENDS = ("{", "}", ";")
 
 
@@ -59,13 +60,13 @@ def rust_statements(crate, text):
         if not head:
             at += 1
             continue
-        taken = [lines[at]]
-        while not opens_or_ends(lines[at]) and at + 1 < len(lines):
+        taken, kind = [lines[at]], head.group(4)
+        while not is_whole(kind, taken) and at + 1 < len(lines):
             at += 1
-            if lines[at].strip() == "{":
+            if lines[at].strip() in ("{", "{}"):
                 break
             taken.append(lines[at])
-        kind, statement = head.group(4), " ".join(" ".join(taken).split())
+        statement = " ".join(" ".join(taken).split())
         if kind in ("impl", "trait"):
             within = statement.rstrip(" {")
         elif kind in ("struct", "enum") and lines[at].rstrip().endswith("{"):
@@ -78,8 +79,13 @@ def rust_statements(crate, text):
     return found
 
 
-def opens_or_ends(line):
-    return line.rstrip().endswith(ENDS) and not re.match(r"^\s*(ensures|requires)", line) or re.search(r"\}\s*;$", line)
+def is_whole(kind, taken):
+    """Whether the last of these lines ends the statement, or opens what it has. A clause may take several lines, and a body opens on a
+    line of its own behind the clauses."""
+    line, text = taken[-1].rstrip(), " ".join(taken)
+    if kind == "ghost" or kind == "fn" and any(CLAUSE.match(it) for it in taken):
+        return line.endswith(";") and text.count("{") == text.count("}")
+    return line.endswith(ENDS)
 
 
 def definitions(crate, text):
