@@ -78,61 +78,75 @@ Usage: nsd <COMMAND>
 For more information, try '--help'.
 ";
 
-/// Whether `serve` with this word after a good address is bad, for this reason.
-fn is_bad(alloc: Global, word: &str, text: &str) -> bool {
-    are_bad(
-        alloc,
-        &["nsd", "serve", "--listen", "127.0.0.1:0", word],
-        text,
-    )
+/// Words of `serve` after a good address, and what is answered.
+static BAD_WORDS: [(&str, &str); 23] = [
+    ("--bootstrap=a b", BAD_SECRET),
+    ("--workers=0", BAD_WORKERS),
+    ("--workers=64", BAD_WORKERS),
+    ("--workers=+1", BAD_WORKERS),
+    ("--workers=", BAD_WORKERS),
+    ("--connections=0", BAD_CONNECTIONS),
+    ("--connections=65", BAD_CONNECTIONS),
+    ("--connections=-1", BAD_CONNECTIONS),
+    ("--accept=0", BAD_ACCEPT),
+    ("--accept=+1", BAD_ACCEPT),
+    ("--accept=18446744073709551616", BAD_ACCEPT),
+    ("--idle=0", BAD_IDLE),
+    ("--idle=86401", BAD_IDLE),
+    ("--idle=1.5", BAD_IDLE),
+    ("--idle=", BAD_IDLE),
+    ("--log-limit=0", BAD_LOG_LIMIT),
+    ("--log-limit=1e6", BAD_LOG_LIMIT),
+    ("--log-limit=18446744073709551616", BAD_LOG_LIMIT),
+    ("--rotate=0", BAD_ROTATE),
+    ("--rotate=1000000", BAD_ROTATE),
+    ("--rotate=-1", BAD_ROTATE),
+    ("--rotate=", BAD_ROTATE),
+    ("--rotate-bytes=1", BAD_ROTATE_BYTES),
+];
+
+static BAD_ADDRESSES: [&str; 6] = [
+    "",
+    "127.0.0.1",
+    "127.0.0.1:",
+    "127.0.0.1:65536",
+    "localhost:4646",
+    "::1:4646",
+];
+
+/// Bad beside `--rotate=1`.
+static BAD_BYTES: [&str; 2] = ["--rotate-bytes=0", "--rotate-bytes=18446744073709551616"];
+
+#[test]
+fn bad_addresses_of_serve(rt: HostRuntime) {
+    let alloc = rt.alloc();
+    assert!(rt; are_bad(alloc, &["nsd", "serve"], NO_ADDRESS));
+    for address in &BAD_ADDRESSES {
+        let words = ["nsd", "serve", "--listen", *address];
+        assert!(rt; are_bad(alloc, &words, BAD_ADDRESS));
+    }
 }
 
 #[test]
 fn bad_words_of_serve(rt: HostRuntime) {
     let alloc = rt.alloc();
-    assert!(rt; are_bad(alloc, &["nsd", "serve"], NO_ADDRESS));
-    for address in [
-        "",
-        "127.0.0.1",
-        "127.0.0.1:",
-        "127.0.0.1:65536",
-        "localhost:4646",
-        "::1:4646",
-    ] {
-        assert!(rt; are_bad(alloc, &["nsd", "serve", "--listen", address], BAD_ADDRESS));
+    for (word, text) in &BAD_WORDS {
+        let words = ["nsd", "serve", "--listen", "127.0.0.1:0", *word];
+        assert!(rt; are_bad(alloc, &words, *text));
     }
-    assert!(rt; is_bad(alloc, "--bootstrap=a b", BAD_SECRET));
-    for word in ["--workers=0", "--workers=64", "--workers=+1", "--workers="] {
-        assert!(rt; is_bad(alloc, word, BAD_WORKERS));
-    }
-    for word in ["--connections=0", "--connections=65", "--connections=-1"] {
-        assert!(rt; is_bad(alloc, word, BAD_CONNECTIONS));
-    }
-    for word in ["--accept=0", "--accept=+1", "--accept=18446744073709551616"] {
-        assert!(rt; is_bad(alloc, word, BAD_ACCEPT));
-    }
-    for word in ["--idle=0", "--idle=86401", "--idle=1.5", "--idle="] {
-        assert!(rt; is_bad(alloc, word, BAD_IDLE));
-    }
-    for word in [
-        "--log-limit=0",
-        "--log-limit=1e6",
-        "--log-limit=18446744073709551616",
-    ] {
-        assert!(rt; is_bad(alloc, word, BAD_LOG_LIMIT));
-    }
-    for word in ["--rotate=0", "--rotate=1000000", "--rotate=-1", "--rotate="] {
-        assert!(rt; is_bad(alloc, word, BAD_ROTATE));
-    }
-    assert!(rt; is_bad(alloc, "--rotate-bytes=1", BAD_ROTATE_BYTES));
-    for word in ["--rotate-bytes=0", "--rotate-bytes=18446744073709551616"] {
+}
+
+#[test]
+fn bad_bytes_beside_rotation(rt: HostRuntime) {
+    let alloc = rt.alloc();
+    for word in &BAD_BYTES {
         let words = [
             "nsd",
             "serve",
             "--listen",
             "127.0.0.1:0",
             "--rotate=1",
-            word,
+            *word,
         ];
         assert!(rt; are_bad(alloc, &words, BAD_ROTATE_BYTES));
     }
