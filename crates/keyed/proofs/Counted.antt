@@ -113,14 +113,22 @@ module _ {K V : Type 0} (R : K → K → Ordering) (o : IsTotalOrder R) (k : K) 
 
 module _ {K V : Type 0} (R : K → K → Ordering) (o : IsTotalOrder R) (k : K) (es : List (K × Option V)) (i : ℕ) (p : Belongs R k es i)
     (filled : ℕ) (sorted : T (is_sorted R es)) (count : filled ≡ length (row_list es)) where
-  pub inserted_sorted : T (is_sorted R (insert es i (k, None)))
-  inserted_sorted = subst (λ fs. T (is_sorted R fs)) (sym (p.put_is None)) (p.put_sorted None)
+  pub inserted_sorted : (x : Option V) → T (is_sorted R (insert es i (k, x)))
+  inserted_sorted x = subst (λ fs. T (is_sorted R fs)) (sym (p.put_is x)) (p.put_sorted x)
 
   -- a vacant slot is no row
   pub inserted_counted : filled ≡ length (row_list (insert es i (k, None)))
   inserted_counted =
       let law : length (row_list (put R k None es)) + size (flat (find R k es)) ≡ length (row_list es) + 0 = counted-put R o k None es sorted in
       let same : length (row_list (insert es i (k, None))) ≡ length (row_list (put R k None es)) = ap (λ fs. length (row_list fs)) (p.put_is None) in
+      let held : size (flat (find R k es)) ≡ 0 = ap (λ x. size (flat x)) p.find_is in
+      omega arith
+
+  pub added_counted : (v : V) → filled + 1 ≡ length (row_list (insert es i (k, Some v)))
+  added_counted v =
+      let law : length (row_list (put R k (Some v) es)) + size (flat (find R k es)) ≡ length (row_list es) + 1 = counted-put R o k (Some v) es sorted in
+      let same : length (row_list (insert es i (k, Some v))) ≡ length (row_list (put R k (Some v) es)) =
+      ap (λ fs. length (row_list fs)) (p.put_is (Some v)) in
       let held : size (flat (find R k es)) ≡ 0 = ap (λ x. size (flat x)) p.find_is in
       omega arith
 

@@ -9,7 +9,7 @@ use Rattle.std.specs.List.{filter, list_any}
 use Rattle.std.specs.FinMap.{IsAntisymmetric, FinMap, entries, get, insert, from_sorted, empty, empty_of_len, len, len-entries, entries_sorted}
 use Rattle.std.specs.FinMap.{entries-from_sorted, entries-insert, get-entries, get-insert, get-from_sorted, get-remove, remove, same_map, same_entries_map}
 use Rattle.std.specs.FinMap.Entries.{find, put, is_sorted, below_all, is_sorted-put, find-where_key}
-use Rattle.keyed.specs.Table.{flat, with_row, row_list, at_slot, rows, with_slot, emptied, without_vacant, has_slot, row_at}
+use Rattle.keyed.specs.Table.{flat, with_row, row_list, at_slot, rows, with_slot, emptied, without_vacant, added, has_slot, row_at}
 use Rattle.keyed.specs.Slots.{without}
 use Rattle.ns_types.proofs.Tests.{first, second, both}
 use Rattle.keyed.proofs.Ordered.{absent, below_tied, below-filter, is_sorted-filter}
@@ -238,6 +238,21 @@ module _ {K V : Type 0} {R : K → K → Ordering} (o : IsTotalOrder R) where
         | false ↦ from_sorted-put o k None es s
       ]
 
+  pub sorted-added : (k : K) (v : V) (es : List (K × Option V)) → T (is_sorted R es) →
+      T (is_sorted R (cond (is_some (flat (find R k es))) es (put R k (Some v) es)))
+  sorted-added k v es s = elim (is_some (flat (find R k es))) as (λ b. T (is_sorted R (cond b es (put R k (Some v) es))))
+      [ true ↦ s | false ↦ is_sorted-put R o k (Some v) es s ]
+
+  pub from_sorted-added : (k : K) (v : V) (es : List (K × Option V)) → T (is_sorted R es) →
+      from_sorted {R = R} (cond (is_some (flat (find R k es))) es (put R k (Some v) es)) ≡ added (from_sorted es) k v
+  from_sorted-added k v es s =
+      ap (λ x. from_sorted (cond (is_some (flat x)) es (put R k (Some v) es))) (sym (get-from_sorted R es k s))
+      ∙ elim (is_some (flat (get (from_sorted {R = R} es) k))) as
+      (λ b. from_sorted {R = R} (cond b es (put R k (Some v) es)) ≡ cond b (from_sorted es) (insert (from_sorted es) k (Some v))) [
+        | true ↦ refl
+        | false ↦ from_sorted-put o k (Some v) es s
+      ]
+
   pub sorted-emptied : (k : K) (es : List (K × Option V)) → T (is_sorted R es) → T (is_sorted R (cond (is_some (find R k es)) (put R k None es) es))
   sorted-emptied k es s = elim (is_some (find R k es)) as (λ b. T (is_sorted R (cond b (put R k None es) es))) [
     | true ↦ is_sorted-put R o k None es s
@@ -315,6 +330,15 @@ module _ {K V : Type 0} {R : K → K → Ordering} (o : IsTotalOrder R) where
       rows new ≡ insert (rows old) k v
   row_put same old made new k v e f = ap rows f ∙ rows-set o same made k v ∙ ap (λ m. insert (rows m) k v) e ∙
       ap (λ m. insert m k v) (rows-with_slot o same old k)
+
+  -- a row that is added is inserted, unless one is there
+  pub rows-added : IsAntisymmetric R → (m : FinMap R (Option V)) (k : K) (v : V) →
+      rows (added m k v) ≡ cond (is_some (get (rows m) k)) (rows m) (insert (rows m) k v)
+  rows-added same m k v = by (is_some (row_at m k)) ∙ ap (λ x. cond (is_some x) (rows m) (insert (rows m) k v)) (sym (get-rows o m k))
+    where
+      by : (b : Bool) → rows (cond b m (insert m k (Some v))) ≡ cond b (rows m) (insert (rows m) k v)
+      by true = refl
+      by false = rows-set o same m k v
 
   -- a slot that was made goes again
   pub remove-with_slot : IsAntisymmetric R → (m : FinMap R (Option V)) (k : K) → has_slot m k ≡ false → remove (with_slot m k) k ≡ m

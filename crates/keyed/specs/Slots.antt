@@ -82,6 +82,10 @@ module _ {K V : Type 0} (R : K → K → Ordering) where
   abbrev pub with_slot : K → List (K × Option V) → List (K × Option V)
   with_slot k es = cond (has_slot k es) es (put R k None es)
 
+  -- with that row at the key, unless it has one
+  abbrev pub added : K → V → List (K × Option V) → List (K × Option V)
+  added k v es = cond (is_some (flat (find R k es))) es (put R k (Some v) es)
+
   -- with the slot of the key vacant, where there is one
   abbrev pub emptied : K → List (K × Option V) → List (K × Option V)
   emptied k es = cond (has_slot k es) (put R k None es) es

@@ -49,6 +49,10 @@ module _ {K V : Type 0} {R : K → K → Ordering} where
   abbrev pub row_at : FinMap R (Option V) → K → Option V
   row_at m k = flat (get m k)
 
+  -- with that row at the key, unless it has one
+  abbrev pub added : FinMap R (Option V) → K → V → FinMap R (Option V)
+  added m k v = cond (is_some (row_at m k)) m (insert m k (Some v))
+
   -- no room is lost
   abbrev pub KeepsSlots : FinMap R (Option V) → FinMap R (Option V) → Type 0
   KeepsSlots old new = (k : K) → IsTrue (has_slot old k) → IsTrue (has_slot new k)

@@ -3,7 +3,7 @@ ghost use Rattle.std.specs.Prelude.{◌≡◌, ℕ, IsTrue, T, OnOk, OnErr, is_s
 ghost use Rattle.std.specs.FinMap.{empty, entries, from_sorted, get, insert, len, remove};
 ghost use Rattle.std.specs.FinMap.Entries.{is_sorted};
 ghost use Rattle.std.specs.Ordering.{nat_cmp};
-ghost use Rattle.keyed.specs.Table.{IsNextRow, rows, row_at, has_slot, with_slot, emptied, without_vacant};
+ghost use Rattle.keyed.specs.Table.{IsNextRow, added, rows, row_at, has_slot, with_slot, emptied, without_vacant};
 ghost use Rattle.keyed.specs.Over.{HasRoomFor, over};
 ghost use Rattle.keyed.specs.Slots.{Passed};
 
@@ -157,6 +157,15 @@ impl<V: Drop> NumberTable<V> {
         ensures { self.new ≡ insert self.old key (Some row) }
     {
         self.slots.set(&key, row);
+    }
+
+    /// Puts a row at `key`, unless one is there. Want of memory is the only error.
+    pub fn add(&mut self, key: u64, row: V) -> Result<(), AllocError>
+        ensures ok { OnOk result (self.new ≡ added self.old key row) }
+        ensures err { OnErr result (self.new ≡ self.old) }
+    {
+        self.slots.add(key, row)?;
+        Ok(())
     }
 
     /// Takes the row at `key` out, to be changed and set again. Its slot stays, vacant.

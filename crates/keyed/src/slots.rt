@@ -2,7 +2,7 @@
 ghost use Rattle.std.specs.Prelude.{◌≡◌, ◌<◌, ◌≤◌, [], IsTrue, T, OnOk, OnErr, length, option_copied};
 ghost use Rattle.std.specs.FinMap.Entries.{find, put, is_sorted};
 ghost use Rattle.std.specs.List.{remove};
-ghost use Rattle.keyed.specs.Slots.{Found, Knows, Passed, Placed, has_slot, with_slot, row, without, without_vacant, emptied, filled};
+ghost use Rattle.keyed.specs.Slots.{Found, Knows, Passed, Placed, added, has_slot, with_slot, row, without, without_vacant, emptied, filled};
 ghost use Rattle.keyed.specs.Table.{row_list};
 
 use crate::index::{IndexKey, KeyIndex};
@@ -297,6 +297,23 @@ impl<K: Ord + Hash + SlotKey + IndexKey + Drop, V: Drop> Slots<K, V> {
                 self.filled += 1;
             }
         }
+    }
+
+    /// Puts a row at `key`, unless one is there.
+    pub(crate) fn add(&mut self, key: K, row: V) -> Result<(), AllocError>
+        ensures ok { OnOk result (self.new ≡ added K.cmp key row self.old) }
+        ensures err { OnErr result (self.new ≡ self.old) }
+    {
+        if let Err(i) = self.place(&key) {
+            self.slots.insert(i, (key, Some(row)))?;
+            self.filled += 1;
+            note_slot(&mut self.index, &self.slots, i);
+            return Ok(());
+        }
+        if self.get(&key).is_none() {
+            self.set(&key, row);
+        }
+        Ok(())
     }
 
     /// Takes the row at `key` out. Its slot stays, vacant.

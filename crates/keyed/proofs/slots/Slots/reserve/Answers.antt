@@ -19,7 +19,7 @@ pub invariant_of-self-in-Err : goal.invariant_of-self-in-Err
 invariant_of-self-in-Err g c =
     let p = inside_belongs g.K.Ord.cmp c.args.key _ _ c.in-Err.i c.self.view_is c.in-Err.ensures in
     let sorted = inserted_sorted g.K.Ord.cmp g.met.K.Ord.total c.args.key c.self.inside.slots.items c.in-Err.i p c.self.inside.filled c.self.invariant.0.0
-    c.self.invariant.0.1 in
+    c.self.invariant.0.1 None in
     let counted = inserted_counted g.K.Ord.cmp g.met.K.Ord.total c.args.key c.self.inside.slots.items c.in-Err.i p c.self.inside.filled c.self.invariant.0.0
     c.self.invariant.0.1 in
     (rw c.in_ok-insert.ensures.items (sorted, counted), c.note_slot.ensures)
