@@ -154,8 +154,8 @@ members_then j rest =
     ap (λ (r : List ℕ). numbered (codes "],\"CreateIndex\":") j.row.create_index ++ member_rest j r) (stop_then j.row.stop rest)
 
 -- the members, with the texts that were written
-pub members_are : (j : JobShown) (d : Document) (id namespace pool status stop : List ℕ) → d ≡ j.row.document → id ≡ j.id → namespace ≡ j.namespace → pool ≡ d.pool →
-    status ≡ texted (codes ",\"Status\":") (job_status_text j.status) → stop ≡ stop_text j.row.stop →
+pub members_are : (j : JobShown) (d : Document) (id namespace pool status stop : List ℕ) → d ≡ j.row.document → id ≡ j.id →
+    namespace ≡ j.namespace → pool ≡ d.pool → status ≡ texted (codes ",\"Status\":") (job_status_text j.status) → stop ≡ stop_text j.row.stop →
     ((((((numbered (codes "],\"CreateIndex\":") j.row.create_index ++ texted (codes ",\"ID\":") id) ++ numbered (codes ",\"JobModifyIndex\":") j.row.modify_index) ++
     texted (codes ",\"Namespace\":") namespace) ++ texted (codes ",\"NodePool\":") pool) ++ numbered (codes ",\"Priority\":") d.priority) ++
     status) ++ stop ≡ member_text j

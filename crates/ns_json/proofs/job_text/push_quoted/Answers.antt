@@ -8,4 +8,5 @@ returns c =
     let text = c.args.text.now in
     let plain : escape text ≡ text = escape_plain text (sym c.is_plain.ensures ∙ c.if-not-is_plain.false) in
     let begun = more _ _ _ (codes "\"") text c.in_ok-push_quote.ensures c.in_ok-push.ensures in
-    after c.push_quote-2.result _ _ _ (codes "\"" ++ text) (codes "\"") (quoted text) begun (ap (λ (x : List ℕ). 34 ∷ (x ++ 34 ∷ [])) (sym plain)) c.push_quote-2.ensures
+    after c.push_quote-2.result _ _ _ (codes "\"" ++ text) (codes "\"") (quoted text) begun
+    (ap (λ (x : List ℕ). 34 ∷ (x ++ 34 ∷ [])) (sym plain)) c.push_quote-2.ensures
