@@ -1,7 +1,7 @@
 //! The live allocations of a node, in the order in which they were placed.
 
 ghost use Rattle.std.specs.Prelude.{◌≡◌, IfOk, OnOk, fold, map};
-ghost use Rattle.std.specs.FinMap.{contains_key, empty, entries};
+ghost use Rattle.std.specs.FinMap.{empty, entries};
 ghost use Rattle.keyed.specs.Table.{row_list, rows};
 ghost use Rattle.ns_types.specs.Working.Snapshot.{live_on, seen_live};
 ghost use Rattle.ns_live_index.specs.Index.{IsRight};
@@ -20,15 +20,6 @@ use std::alloc::{AllocError, Global};
 
 /// Live allocations by their place on the node.
 type ByPlace = NumberTable<LiveAllocation>;
-
-fn has_place(seen: &ByPlace, place: u64) -> bool
-    ensures { result ≡ contains_key (rows seen.now) place }
-{
-    match seen.get(place) {
-        Some(_) => true,
-        None => false,
-    }
-}
 
 fn seen_live(
     namespace: &Shared<Text>,
@@ -55,13 +46,7 @@ fn add_seen(
     ensures { OnOk result (rows seen.new
         ≡ add_seen (rows seen.old) (seen_row namespace.now number row.now)) }
 {
-    if has_place(seen, row.place) {
-        return Ok(());
-    }
-    let shown = seen_live(namespace, number, row)?;
-    seen.reserve(row.place)?;
-    seen.set(row.place, shown);
-    Ok(())
+    seen.add(row.place, seen_live(namespace, number, row)?)
 }
 
 fn add_number(
