@@ -316,23 +316,48 @@ fn replayed(
     }
 }
 
+/// Lists, the lines of a log, the bodies with which own steps are answered, and whether they are, or the fault.
+type Replay<'a> = (
+    Lists<'a>,
+    &'a [&'a str],
+    &'a [&'a str],
+    Result<bool, ReplayFault>,
+);
+
 const WRITTEN: &str = "{}";
 
+/// `default` may use every pool.
+static UNCONFINED: [Replay; 3] = [
+    (OWN, &[JOBS], &[], Err(ReplayFault::Premise(0))),
+    (NONE, &[JOBS], &[], Err(ReplayFault::Differs(1))),
+    (NONE, &[LAID_OUT], &[], Err(ReplayFault::Premise(2))),
+];
+
+static NEW: [Replay; 1] = [(OWN, &[LAID_OUT, EAST], &[WRITTEN; 4], Ok(true))];
+
+static LAID: [Replay; 5] = [
+    (NONE, &[JOBS], &[], Err(ReplayFault::Premise(0))),
+    (OWN, &[JOBS, FIRST, SECOND], &[REGISTERED, TOOK], Ok(true)),
+    (OWN, &[JOBS, SECOND], &[], Err(ReplayFault::NotARun(2))),
+    (OWN, &[SECOND], &[], Err(ReplayFault::Differs(0))),
+    (OWN, &[JOBS, TOGETHER], &[], Err(ReplayFault::Premise(2))),
+];
+
+/// Whether each comes to what is said beside it.
+fn are_replayed(rt: &impl Abort, alloc: Global, core: &Core, cases: &[Replay]) -> bool {
+    let mut right = true;
+    for case in cases {
+        right &= replayed(rt, alloc, core, case.0, case.1, case.2) == case.3;
+    }
+    right
+}
+
 fn replays(rt: &impl Abort, alloc: Global, core: &mut Core, _root: &Text) -> bool {
-    let told = |core: &Core, lists: Lists, lines: &[&str], bodies: &[&str]| {
-        replayed(rt, alloc, core, lists, lines, bodies)
-    };
-    let mut right = told(core, OWN, &[JOBS], &[]) == Err(ReplayFault::Premise(0));
-    right &= told(core, NONE, &[JOBS], &[]) == Err(ReplayFault::Differs(1));
-    right &= told(core, NONE, &[LAID_OUT], &[]) == Err(ReplayFault::Premise(2));
+    let mut right = are_replayed(rt, alloc, core, &UNCONFINED);
     make(rt, alloc, core, &[CONFINED]);
-    right &= told(core, OWN, &[LAID_OUT, EAST], &[WRITTEN; 4]) == Ok(true);
+    right &= are_replayed(rt, alloc, core, &NEW);
     make(rt, alloc, core, &[LAID_OUT]);
-    right &= told(core, NONE, &[JOBS], &[]) == Err(ReplayFault::Premise(0));
-    right &= told(core, OWN, &[JOBS, FIRST, SECOND], &[REGISTERED, TOOK]) == Ok(true);
-    right &= told(core, OWN, &[JOBS, SECOND], &[]) == Err(ReplayFault::NotARun(2));
-    right &= told(core, OWN, &[SECOND], &[]) == Err(ReplayFault::Differs(0));
-    right & (told(core, OWN, &[JOBS, TOGETHER], &[]) == Err(ReplayFault::Premise(2)))
+    right & are_replayed(rt, alloc, core, &LAID)
 }
 
 #[test]
