@@ -1,3 +1,4 @@
+mod Commands
 mod Errors
 mod Given
 pub mod Serving

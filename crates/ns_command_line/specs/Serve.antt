@@ -1,5 +1,5 @@
 -- The words of `serve`.
-use Rattle.std.specs.Prelude.{◌≡◌, Option, Some, true, codes}
+use Rattle.std.specs.Prelude.{◌≡◌, List, [], ◌∷◌, Option, Some, true, codes, fold}
 use Rattle.std.specs.Net.Grammar.{IsSocketText}
 use Rattle.clap.specs.Words.{App, Rule, Text, new_app, new_rule, with_rule}
 use Rattle.ns_listener.specs.declared.service.Service.{Service}
@@ -15,12 +15,14 @@ listen_rule =
 abbrev pub option_rule : Text → Rule
 option_rule name = record (new_rule name) { long = Some name; value_names = 1 }
 
+abbrev pub serve_rules : List Rule
+serve_rules =
+    listen_rule ∷ option_rule (codes "bootstrap") ∷ option_rule (codes "workers")
+    ∷ option_rule (codes "connections") ∷ option_rule (codes "accept") ∷ option_rule (codes "idle")
+    ∷ option_rule (codes "log-limit") ∷ option_rule (codes "rotate") ∷ option_rule (codes "rotate-bytes") ∷ []
+
 abbrev pub serve_words : App
-serve_words =
-    with_rule (with_rule (with_rule (with_rule (with_rule (with_rule (with_rule (with_rule (with_rule
-    (new_app (codes "serve")) listen_rule) (option_rule (codes "bootstrap"))) (option_rule (codes "workers")))
-    (option_rule (codes "connections"))) (option_rule (codes "accept"))) (option_rule (codes "idle")))
-    (option_rule (codes "log-limit"))) (option_rule (codes "rotate"))) (option_rule (codes "rotate-bytes"))
+serve_words = fold with_rule (new_app (codes "serve")) serve_rules
 
 -- what is given to `serve` for this argument
 abbrev pub of_serve : Text → Named → Option Text

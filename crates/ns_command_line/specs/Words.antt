@@ -1,5 +1,5 @@
 -- The words that the program takes, as `clap` reads them.
-use Rattle.std.specs.Prelude.{◌≡◌, ◌⊎◌, List, [], ◌∷◌, Option, Some, None, codes, true, if◌then◌else◌}
+use Rattle.std.specs.Prelude.{◌≡◌, ◌⊎◌, List, [], ◌∷◌, Option, Some, None, codes, fold, true, if◌then◌else◌}
 use Rattle.std.specs.Str.{bytes_eq}
 use Rattle.clap.specs.Simple.{on_top}
 use Rattle.clap.specs.Words.{App, Rule, Text}
@@ -32,8 +32,11 @@ drive_rule = record (new_rule (codes "drive")) { long = Some (codes "drive"); ac
 abbrev pub print_rule : Rule
 print_rule = record (new_rule (codes "print")) { long = Some (codes "print"); value_names = 1 }
 
+abbrev pub pipe_rules : List Rule
+pipe_rules = bootstrap_rule ∷ drive_rule ∷ print_rule ∷ []
+
 abbrev pub pipe_words : App
-pipe_words = with_rule (with_rule (with_rule (new_app (codes "pipe")) bootstrap_rule) drive_rule) print_rule
+pipe_words = fold with_rule (new_app (codes "pipe")) pipe_rules
 
 -- the namespace, which has to be there
 abbrev pub namespace_rule : Rule
@@ -51,17 +54,21 @@ pool_rule = record (new_rule (codes "pool")) { long = Some (codes "pool"); value
 abbrev pub quota_rule : Rule
 quota_rule = record (new_rule (codes "quota")) { long = Some (codes "quota"); value_names = 1; action = Some Append }
 
+abbrev pub alone_rules : List Rule
+alone_rules = namespace_rule ∷ from_rule ∷ pool_rule ∷ quota_rule ∷ []
+
 abbrev pub alone_words : App
-alone_words =
-    with_rule (with_rule (with_rule (with_rule (new_app (codes "alone")) namespace_rule) from_rule) pool_rule) quota_rule
+alone_words = fold with_rule (new_app (codes "alone")) alone_rules
 
 -- without its subcommands, of which one has to be there
 abbrev pub bare_words : App
 bare_words = on_top (λ top. record top { subcommand_required = true }) (new_app (codes "nsd"))
 
+abbrev pub subcommands : List App
+subcommands = pipe_words ∷ serve_words ∷ alone_words ∷ []
+
 abbrev pub program_words : App
-program_words =
-    with_subcommand (with_subcommand (with_subcommand bare_words pipe_words.top) serve_words.top) alone_words.top
+program_words = fold (λ program command. with_subcommand program command.top) bare_words subcommands
 
 -- ---- what `clap` finds in the words
 

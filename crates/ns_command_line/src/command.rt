@@ -153,9 +153,8 @@ fn pipe<'a>(alloc: Global) -> Result<Command<'a>, AllocError>
     ensures shape { IfOk result (λ command. app_of command ≡ pipe_words) }
     ensures local { IfOk result (λ command. (out-Command command).has_globals ≡ false) }
 {
-    let command = bare_pipe(alloc).arg(bootstrap(alloc))?;
-    let command = command.arg(drive(alloc))?;
-    command.arg(print(alloc))
+    let args = vec![in alloc; bootstrap(alloc), drive(alloc), print(alloc)]?;
+    bare_pipe(alloc).args(args)
 }
 
 /// `alone` without its arguments.
@@ -174,10 +173,8 @@ fn alone<'a>(alloc: Global) -> Result<Command<'a>, AllocError>
     ensures shape { IfOk result (λ command. app_of command ≡ alone_words) }
     ensures local { IfOk result (λ command. (out-Command command).has_globals ≡ false) }
 {
-    let command = bare_alone(alloc).arg(namespace(alloc))?;
-    let command = command.arg(from(alloc))?;
-    let command = command.arg(pool(alloc))?;
-    command.arg(quota(alloc))
+    let args = vec![in alloc; namespace(alloc), from(alloc), pool(alloc), quota(alloc)]?;
+    bare_alone(alloc).args(args)
 }
 
 /// The program without its subcommands.
@@ -194,7 +191,6 @@ fn bare<'a>(alloc: Global) -> Command<'a>
 pub fn command<'a>(alloc: Global) -> Result<Command<'a>, AllocError>
     ensures { IfOk result (λ command. app_of command ≡ program_words) }
 {
-    let command = bare(alloc).subcommand(pipe(alloc)?)?;
-    let command = command.subcommand(serve::serve(alloc)?)?;
-    command.subcommand(alone(alloc)?)
+    let commands = vec![in alloc; pipe(alloc)?, serve::serve(alloc)?, alone(alloc)?]?;
+    bare(alloc).subcommands(commands)
 }

@@ -40,6 +40,53 @@ Exit statuses:
   4  the output failed
   5  out of memory, or a thread could not be started";
 
+/// The name of an option, what stands for its value in the help, and the help.
+type ServeOption<'a> = (&'a str, &'a str, &'a str);
+
+const BOOTSTRAP: ServeOption = (
+    "bootstrap",
+    "SECRET",
+    "Secret of the first management token (default: drawn at random and printed)",
+);
+
+const WORKERS: ServeOption = ("workers", "N", "Number of workers, 1 to 63 (default: 2)");
+
+const CONNECTIONS: ServeOption = (
+    "connections",
+    "N",
+    "Number of connections served at once, 1 to 64 (default: 4)",
+);
+
+const ACCEPT: ServeOption = (
+    "accept",
+    "N",
+    "Number of connections after which the server ends (default: none, it runs on)",
+);
+
+const IDLE: ServeOption = (
+    "idle",
+    "SECONDS",
+    "Number of seconds after which an idle connection is closed, 1 to 86400 (default: never)",
+);
+
+const LOG_LIMIT: ServeOption = (
+    "log-limit",
+    "N",
+    "Number of entries that the log may have (default: 1000000)",
+);
+
+const ROTATE: ServeOption = (
+    "rotate",
+    "N",
+    "Number of entries at which the log is written out, below its limit (default: never)",
+);
+
+const ROTATE_BYTES: ServeOption = (
+    "rotate-bytes",
+    "B",
+    "Number of bytes of text past which it is written out as well, with --rotate only",
+);
+
 fn listen<'a>(alloc: Global) -> Arg<'a>
     ensures rule { rule_of result ≡ listen_rule }
     ensures local { result.global ≡ false }
@@ -51,111 +98,16 @@ fn listen<'a>(alloc: Global) -> Arg<'a>
         .help("Address to listen on: an IP address and a port, as 127.0.0.1:4646 or [::1]:0")
 }
 
-/// The option of this name, which may be left out.
-fn option<'a>(alloc: Global, name: &'a str, value: &'a str, help: &'a str) -> Arg<'a>
-    ensures rule { rule_of result ≡ option_rule name.entry.now }
+/// An option, which may be left out.
+fn option<'a>(alloc: Global, option: ServeOption<'a>) -> Arg<'a>
+    ensures rule { rule_of result ≡ option_rule option.entry.0.now }
     ensures local { result.global ≡ false }
 {
+    let (name, value, help) = option;
     Arg::new(alloc, name)
         .long(name)
         .value_name(value)
         .help(help)
-}
-
-fn bootstrap<'a>(alloc: Global) -> Arg<'a>
-    ensures rule { rule_of result ≡ option_rule (codes "bootstrap") }
-    ensures local { result.global ≡ false }
-{
-    option(
-        alloc,
-        "bootstrap",
-        "SECRET",
-        "Secret of the first management token (default: drawn at random and printed)",
-    )
-}
-
-fn workers<'a>(alloc: Global) -> Arg<'a>
-    ensures rule { rule_of result ≡ option_rule (codes "workers") }
-    ensures local { result.global ≡ false }
-{
-    option(
-        alloc,
-        "workers",
-        "N",
-        "Number of workers, 1 to 63 (default: 2)",
-    )
-}
-
-fn connections<'a>(alloc: Global) -> Arg<'a>
-    ensures rule { rule_of result ≡ option_rule (codes "connections") }
-    ensures local { result.global ≡ false }
-{
-    option(
-        alloc,
-        "connections",
-        "N",
-        "Number of connections served at once, 1 to 64 (default: 4)",
-    )
-}
-
-fn accept<'a>(alloc: Global) -> Arg<'a>
-    ensures rule { rule_of result ≡ option_rule (codes "accept") }
-    ensures local { result.global ≡ false }
-{
-    option(
-        alloc,
-        "accept",
-        "N",
-        "Number of connections after which the server ends (default: none, it runs on)",
-    )
-}
-
-fn idle<'a>(alloc: Global) -> Arg<'a>
-    ensures rule { rule_of result ≡ option_rule (codes "idle") }
-    ensures local { result.global ≡ false }
-{
-    option(
-        alloc,
-        "idle",
-        "SECONDS",
-        "Number of seconds after which an idle connection is closed, 1 to 86400 (default: never)",
-    )
-}
-
-fn log_limit<'a>(alloc: Global) -> Arg<'a>
-    ensures rule { rule_of result ≡ option_rule (codes "log-limit") }
-    ensures local { result.global ≡ false }
-{
-    option(
-        alloc,
-        "log-limit",
-        "N",
-        "Number of entries that the log may have (default: 1000000)",
-    )
-}
-
-fn rotate<'a>(alloc: Global) -> Arg<'a>
-    ensures rule { rule_of result ≡ option_rule (codes "rotate") }
-    ensures local { result.global ≡ false }
-{
-    option(
-        alloc,
-        "rotate",
-        "N",
-        "Number of entries at which the log is written out, below its limit (default: never)",
-    )
-}
-
-fn rotate_bytes<'a>(alloc: Global) -> Arg<'a>
-    ensures rule { rule_of result ≡ option_rule (codes "rotate-bytes") }
-    ensures local { result.global ≡ false }
-{
-    option(
-        alloc,
-        "rotate-bytes",
-        "B",
-        "Number of bytes of text past which it is written out as well, with --rotate only",
-    )
 }
 
 /// `serve` without its arguments.
@@ -172,13 +124,16 @@ pub fn serve<'a>(alloc: Global) -> Result<Command<'a>, AllocError>
     ensures shape { IfOk result (λ command. app_of command ≡ serve_words) }
     ensures local { IfOk result (λ command. (out-Command command).has_globals ≡ false) }
 {
-    let command = bare(alloc).arg(listen(alloc))?;
-    let command = command.arg(bootstrap(alloc))?;
-    let command = command.arg(workers(alloc))?;
-    let command = command.arg(connections(alloc))?;
-    let command = command.arg(accept(alloc))?;
-    let command = command.arg(idle(alloc))?;
-    let command = command.arg(log_limit(alloc))?;
-    let command = command.arg(rotate(alloc))?;
-    command.arg(rotate_bytes(alloc))
+    let args = vec![in alloc;
+        listen(alloc),
+        option(alloc, BOOTSTRAP),
+        option(alloc, WORKERS),
+        option(alloc, CONNECTIONS),
+        option(alloc, ACCEPT),
+        option(alloc, IDLE),
+        option(alloc, LOG_LIMIT),
+        option(alloc, ROTATE),
+        option(alloc, ROTATE_BYTES),
+    ]?;
+    bare(alloc).args(args)
 }

@@ -1,11 +1,30 @@
-use Rattle.std.proofs.Common.{◌∙◌, ap₂}
+use Rattle.std.proofs.Common.{◌∙◌, List, [], ◌∷◌, ap, fold, subst}
 use Rattle.std.proofs.lemmas.Result.{IfOk-weaker}
+use Rattle.clap.specs.Built.{AddsArg, AddsInTurn}
 use Rattle.clap.specs.Words.{with_rule}
+use Rattle.clap.specs.declared.builder.arg.Arg.{Arg}
+use Rattle.ns_command_line.specs.Words.{alone_rules}
+use Rattle.ns_command_line.proofs.Commands.{HaveRules, args_added, stays_local}
 use Rattle.ns_command_line.proofs.command.alone.Goals as goal
 
+abbrev given : goal.After-args-2 → List Arg
+given c = c.namespace.result ∷ c.from.result ∷ c.pool.result ∷ c.quota.result ∷ []
+
+have : (c : goal.After-args-2) → HaveRules (given c) alone_rules
+have c = (
+  (c.namespace.ensures.rule, c.namespace.ensures.local),
+  (
+    (c.from.ensures.rule, c.from.ensures.local),
+    ((c.pool.ensures.rule, c.pool.ensures.local), ((c.quota.ensures.rule, c.quota.ensures.local), tt)),
+  ),
+)
+
 pub returns-clause-shape : goal.returns-clause-shape
-returns-clause-shape c =
-    let first = c.in_ok-command.ensures.shape c.namespace.ensures.local ∙ ap₂ with_rule c.bare_alone.ensures.shape c.namespace.ensures.rule in
-    let second = c.in_ok-command-2.ensures.shape c.from.ensures.local ∙ ap₂ with_rule first c.from.ensures.rule in
-    let third = c.in_ok-command-3.ensures.shape c.pool.ensures.local ∙ ap₂ with_rule second c.pool.ensures.rule in
-    IfOk-weaker c.arg-4.result _ _ (λ _ adds. adds.shape c.quota.ensures.local ∙ ap₂ with_rule third c.quota.ensures.rule) c.arg-4.ensures
+returns-clause-shape c = IfOk-weaker c.args-2.result _ _ (λ command adds. args_added (given c) alone_rules c.bare_alone.result command
+    (subst (λ items. AddsInTurn AddsArg c.bare_alone.result items command) c.in_ok-args.ensures.items adds) (have c)
+    ∙ ap (λ app. fold with_rule app alone_rules) c.bare_alone.ensures.shape) c.args-2.ensures
+
+pub returns-clause-local : goal.returns-clause-local
+returns-clause-local c = IfOk-weaker c.args-2.result _ _ (λ command adds. stays_local (given c) alone_rules c.bare_alone.result command
+    (subst (λ items. AddsInTurn AddsArg c.bare_alone.result items command) c.in_ok-args.ensures.items adds) (have c)
+    c.bare_alone.ensures.local) c.args-2.ensures

@@ -1,13 +1,25 @@
-use Rattle.std.proofs.Common.{◌∙◌, ap, ap₂}
+use Rattle.std.proofs.Common.{◌∙◌, List, [], ◌∷◌, ap, fold, subst}
 use Rattle.std.proofs.lemmas.Result.{IfOk-weaker}
+use Rattle.clap.specs.Built.{AddsInTurn, AddsSubcommand}
 use Rattle.clap.specs.Words.{App, with_subcommand}
+use Rattle.clap.specs.declared.builder.command.Command.{Command}
+use Rattle.ns_command_line.specs.Words.{subcommands}
+use Rattle.ns_command_line.proofs.Commands.{AreApps, subcommands_added}
 use Rattle.ns_command_line.proofs.command.command.Goals as goal
 
+abbrev given : goal.After-subcommands → List Command
+given c = c.in_ok-pipe.field-0 ∷ c.in_ok-serve.field-0 ∷ c.in_ok-alone.field-0 ∷ []
+
+are : (c : goal.After-subcommands) → AreApps (given c) subcommands
+are c = (
+  (c.in_ok-pipe.ensures.shape, c.in_ok-pipe.ensures.local),
+  (
+    (c.in_ok-serve.ensures.shape, c.in_ok-serve.ensures.local),
+    ((c.in_ok-alone.ensures.shape, c.in_ok-alone.ensures.local), tt),
+  ),
+)
+
 pub returns : goal.returns
-returns c =
-    let first = c.in_ok-command.ensures.shape c.in_ok-pipe.ensures.local
-    ∙ ap₂ with_subcommand c.bare.ensures (ap (λ (a : App). a.top) c.in_ok-pipe.ensures.shape) in
-    let second = c.in_ok-command-2.ensures.shape c.in_ok-serve.ensures.local
-    ∙ ap₂ with_subcommand first (ap (λ (a : App). a.top) c.in_ok-serve.ensures.shape) in
-    let alone_is = ap (λ (a : App). a.top) c.in_ok-alone.ensures.shape in
-    IfOk-weaker c.subcommand-3.result _ _ (λ _ adds. adds.shape c.in_ok-alone.ensures.local ∙ ap₂ with_subcommand second alone_is) c.subcommand-3.ensures
+returns c = IfOk-weaker c.subcommands.result _ _ (λ command adds. subcommands_added (given c) subcommands c.bare.result command
+    (subst (λ items. AddsInTurn AddsSubcommand c.bare.result items command) c.in_ok-commands.ensures.items adds) (are c)
+    ∙ ap (λ program. fold (λ p (command : App). with_subcommand p command.top) program subcommands) c.bare.ensures) c.subcommands.ensures

@@ -1,10 +1,30 @@
-use Rattle.std.proofs.Common.{◌∙◌, ap₂}
+use Rattle.std.proofs.Common.{◌∙◌, List, [], ◌∷◌, ap, fold, subst}
 use Rattle.std.proofs.lemmas.Result.{IfOk-weaker}
+use Rattle.clap.specs.Built.{AddsArg, AddsInTurn}
 use Rattle.clap.specs.Words.{with_rule}
+use Rattle.clap.specs.declared.builder.arg.Arg.{Arg}
+use Rattle.ns_command_line.specs.Words.{pipe_rules}
+use Rattle.ns_command_line.proofs.Commands.{HaveRules, args_added, stays_local}
 use Rattle.ns_command_line.proofs.command.pipe.Goals as goal
 
+abbrev given : goal.After-args-2 → List Arg
+given c = c.bootstrap.result ∷ c.drive.result ∷ c.print.result ∷ []
+
+have : (c : goal.After-args-2) → HaveRules (given c) pipe_rules
+have c = (
+  (c.bootstrap.ensures.rule, c.bootstrap.ensures.local),
+  (
+    (c.drive.ensures.rule, c.drive.ensures.local),
+    ((c.print.ensures.rule, c.print.ensures.local), tt),
+  ),
+)
+
 pub returns-clause-shape : goal.returns-clause-shape
-returns-clause-shape c =
-    let first = c.in_ok-command.ensures.shape c.bootstrap.ensures.local ∙ ap₂ with_rule c.bare_pipe.ensures.shape c.bootstrap.ensures.rule in
-    let second = c.in_ok-command-2.ensures.shape c.drive.ensures.local ∙ ap₂ with_rule first c.drive.ensures.rule in
-    IfOk-weaker c.arg-3.result _ _ (λ _ adds. adds.shape c.print.ensures.local ∙ ap₂ with_rule second c.print.ensures.rule) c.arg-3.ensures
+returns-clause-shape c = IfOk-weaker c.args-2.result _ _ (λ command adds. args_added (given c) pipe_rules c.bare_pipe.result command
+    (subst (λ items. AddsInTurn AddsArg c.bare_pipe.result items command) c.in_ok-args.ensures.items adds) (have c)
+    ∙ ap (λ app. fold with_rule app pipe_rules) c.bare_pipe.ensures.shape) c.args-2.ensures
+
+pub returns-clause-local : goal.returns-clause-local
+returns-clause-local c = IfOk-weaker c.args-2.result _ _ (λ command adds. stays_local (given c) pipe_rules c.bare_pipe.result command
+    (subst (λ items. AddsInTurn AddsArg c.bare_pipe.result items command) c.in_ok-args.ensures.items adds) (have c)
+    c.bare_pipe.ensures.local) c.args-2.ensures
