@@ -34,14 +34,15 @@ fn play<W: Write>(alloc: Global, part: &str, out: &mut W) -> anyhow::Result<()> 
     let (head, text) = part.split_once('\n').context(BAD_HEAD)?;
     writeln!(out, "=== {head}")?;
     let (kind, rest) = first_word(head);
-    match kind {
-        "serve" => serve(alloc, rest, text)?.print(out),
-        "log" => log(alloc, rest, text)?.print(out),
-        "alone" => alone(alloc, rest, text.as_bytes())?.print(out),
-        "rounds" => rounds(alloc, rest, text)?.print(out),
-        "script" => script(alloc, text, out),
+    let played = match kind {
+        "serve" => serve(alloc, rest, text),
+        "log" => log(alloc, rest, text),
+        "alone" => alone(alloc, rest, text.as_bytes()),
+        "rounds" => rounds(alloc, rest, text),
+        "script" => return script(alloc, text, out),
         _ => anyhow::bail!("a part of no known kind"),
-    }
+    };
+    played?.print(out)
 }
 
 /// Plays the parts of the text, one after the other.
