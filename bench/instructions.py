@@ -5,6 +5,8 @@
     python3 bench/instructions.py PROGRAM --most N ends with status 1 where a read takes more than N
     python3 bench/instructions.py PROGRAM --placed for a job of one allocation, registered and placed, on a node that has no other
                                                    allocation, 100 others, or 900; and the last beside the second
+    python3 bench/instructions.py PROGRAM --pool   for the same beside no allocation and 5,000 on other nodes of its pool; and what
+                                                   each of these costs it
     python3 bench/instructions.py PROGRAM --placed --nodes N    the same where the pool has N nodes, and not 10
     python3 bench/instructions.py PROGRAM --placed --no-rep     the same where the C library does not use `rep movsb` and `rep stosb`
 
@@ -28,6 +30,8 @@ FEW = 1_000
 JOBS = 20
 ROOM = 1_000
 BESIDE = (0, 100, 900)
+# Five nodes full of them.
+IN_POOL = 5 * ROOM
 ASKED_PLACED, AIM_PLACED = 130_000, 80_000
 ASKED_RATIO = 1.5
 LISTED = 20
@@ -49,6 +53,15 @@ def placed(beside, count):
     def requests(number):
         filled = jobs("other", 1, 50, 1, count=beside) if beside else []
         return nodes(ROOM)[:count] + filled + jobs("web", number, 50, 1, count=1)
+
+    return requests
+
+
+def beside_full_nodes(others):
+    """Ten nodes, of which those allocations fill some, and so many jobs of one allocation, which go to the next node."""
+
+    def requests(number):
+        return nodes(ROOM)[:10] + jobs("other", others // ROOM, 50, 1, count=ROOM) + jobs("web", number, 50, 1, count=1)
 
     return requests
 
@@ -104,11 +117,25 @@ def show_placed(program, count):
     return 0
 
 
+def show_pool(program):
+    totals = []
+    for others in (0, IN_POOL):
+        found = each_of(program, beside_full_nodes(others), JOBS, ["--drive"])
+        if found is None:
+            return 1
+        totals.append(found[0])
+        print(f"a job of one allocation beside {others} on other nodes of its pool takes {found[0]:.0f} instructions")
+        show(found[1])
+    print(f"each of them costs it {(totals[1] - totals[0]) / IN_POOL:.1f}")
+    return 0
+
+
 def main():
     parser = argparse.ArgumentParser()
     parser.add_argument("program", nargs="?", default="crates/nsd/out/nsd")
     parser.add_argument("--most", type=int)
     parser.add_argument("--placed", action="store_true")
+    parser.add_argument("--pool", action="store_true")
     parser.add_argument("--nodes", type=int, default=10)
     parser.add_argument("--no-rep", action="store_true")
     words = parser.parse_args()
@@ -119,6 +146,8 @@ def main():
         return 2
     if words.placed:
         return show_placed(words.program, words.nodes)
+    if words.pool:
+        return show_pool(words.program)
     found = each_of(words.program, reads, FEW)
     if found is None:
         return 1
