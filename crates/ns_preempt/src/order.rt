@@ -3,6 +3,7 @@
 ghost use Rattle.std.specs.Prelude.{◌≡◌, ◌-◌, IfOk, filter, map, nat_lt, reverse};
 ghost use Rattle.ns_types.specs.Placing.Preemption.{evictable};
 
+use ns_types::live_rows::LiveRows;
 use ns_types::snapshot::LiveAllocation;
 use std::alloc::{AllocError, Global};
 
@@ -25,15 +26,18 @@ fn lower<'a>(
 }
 
 /// The allocations whose priority is lower than the job's by 10 or more: lowest priority first, then the last placed
-/// first.
+/// first. Where none has a priority as low, it looks at none of them.
 pub fn evictable<'a>(
     alloc: Global,
-    live: &'a [LiveAllocation],
+    live: &'a LiveRows,
     priority: u64,
 ) -> Result<Vec<&'a LiveAllocation>, AllocError>
     ensures { IfOk result (λ v. map (λ a. a.now) v.items ≡ evictable priority live.now) }
 {
-    let mut order = lower(alloc, live, priority)?;
+    if live.least_priority() >= priority.saturating_sub(9) {
+        return Ok(Vec::new(alloc));
+    }
+    let mut order = lower(alloc, live.as_slice(), priority)?;
     order.sort_by_key(|a| a.priority)?;
     Ok(order)
 }

@@ -10,6 +10,7 @@ use crate::stops::Stops;
 use ns_place::{Candidate, feasible};
 use ns_preempt::evictable;
 use ns_types::job::Job;
+use ns_types::live_rows::LiveRows;
 use ns_types::resources::{Resources, less};
 use ns_types::shared::Shared;
 use ns_types::snapshot::{LiveAllocation, OwnAllocation, PoolNode};
@@ -23,8 +24,8 @@ fn stays(namespace: &Text, stops: &Stops<'_>, allocation: &LiveAllocation) -> bo
     !(stops.has(allocation.number) && *allocation.namespace.get() == *namespace)
 }
 
-/// What those that stay leave of the capacity.
-fn left_of(
+/// What those that stay leave of the capacity, by a look at each.
+fn left_by_each(
     capacity: Resources,
     namespace: &Text,
     stops: &Stops<'_>,
@@ -40,6 +41,17 @@ fn left_of(
         }
     }
     left
+}
+
+/// What those that stay leave of the capacity. Where nothing stops, it looks at none of them.
+fn left_of(capacity: Resources, namespace: &Text, stops: &Stops<'_>, live: &LiveRows) -> Resources
+    ensures { result ≡ minus capacity
+        (total (λ a. a.size) (staying namespace.now stops.now live.now)) }
+{
+    match live.load() {
+        Some(load) if stops.as_slice().is_empty() => less(capacity, load),
+        _ => left_by_each(capacity, namespace, stops, live.as_slice()),
+    }
 }
 
 fn staying<'a>(
@@ -72,7 +84,7 @@ fn candidate<'a>(
         ≡ candidate_of job.now namespace.now stops.now node.now) }
 {
     let document = job.document.get();
-    let live = node.live.as_slice();
+    let live = &node.live;
     let order = evictable(alloc, live, document.priority)?;
     let evictable = staying(alloc, namespace, stops, &order)?;
     let left = left_of(node.row.offer.capacity, namespace, stops, live);

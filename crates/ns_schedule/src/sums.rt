@@ -9,25 +9,25 @@ ghost use Rattle.ns_schedule.specs.Fits.{fits, node_fits, quota_fits, tasks_size
 
 use crate::wanted::missing;
 use ns_types::job::{Group, Job, Task};
+use ns_types::live_rows::LiveRows;
 use ns_types::resources::{Resources, checked_more, checked_plus, none};
 use ns_types::shared::Shared;
-use ns_types::snapshot::{LiveAllocation, OwnAllocation, PoolNode, QuotaSeen, Snapshot};
+use ns_types::snapshot::{OwnAllocation, PoolNode, QuotaSeen, Snapshot};
 
-fn checked_load(capacity: Resources, live: &[LiveAllocation]) -> Option<Resources>
+fn checked_load(capacity: Resources, live: &LiveRows) -> Option<Resources>
     ensures { let both = plus capacity (total (λ a. a.size) live.now) in
         SomeIff result (IsCounted both) both }
 {
-    let mut sum = capacity;
-    for a in live {
-        sum = checked_plus(sum, a.size)?;
+    match live.load() {
+        Some(load) => checked_plus(capacity, load),
+        None => None,
     }
-    Some(sum)
 }
 
 fn node_fits(node: &PoolNode) -> bool
     ensures { result ≡ node_fits node.now }
 {
-    checked_load(node.row.offer.capacity, node.live.as_slice()).is_some()
+    checked_load(node.row.offer.capacity, &node.live).is_some()
 }
 
 fn nodes_fit(nodes: &[Shared<PoolNode>]) -> bool

@@ -14,6 +14,7 @@ use ns_place::marking::Places;
 use ns_plan::{live_stops, victims};
 use ns_tables::{AllocationTable, Tables};
 use ns_types::allocation::{Allocation, ClientStatus};
+use ns_types::live_rows::LiveRows;
 use ns_types::node::{Node, NodeStatus, Offer};
 use ns_types::plan::{Eviction, Placement, Placing, Plan};
 use ns_types::rows::Rows;
@@ -75,7 +76,7 @@ fn node(rt: &impl Abort, alloc: Global) -> PoolNode {
     PoolNode {
         name: text(rt, alloc, "n"),
         row,
-        live: Rows::new(alloc),
+        live: LiveRows::new(alloc),
     }
 }
 

@@ -15,6 +15,7 @@ pub mod LiveSums
 pub mod Named
 pub mod Once
 pub mod Outcomes
+mod Owners
 pub mod Queue
 pub mod ReadingLemmas
 pub mod Registrations

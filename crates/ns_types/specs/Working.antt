@@ -1,5 +1,6 @@
 pub mod Queue
 pub mod Snapshot
+pub mod Owners
 pub mod Worker
 pub mod Work
 pub mod Commit

@@ -10,6 +10,7 @@ pub mod id;
 pub mod job;
 pub mod key;
 pub mod laws;
+pub mod live_rows;
 pub mod name;
 pub mod node;
 pub mod plan;

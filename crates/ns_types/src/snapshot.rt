@@ -3,6 +3,7 @@
 use crate::allocation::Allocation;
 use crate::evaluation::Evaluation;
 use crate::job::Job;
+use crate::live_rows::LiveRows;
 use crate::node::Node;
 use crate::resources::{Limits, Resources};
 use crate::rows::Rows;
@@ -47,7 +48,7 @@ impl Drop for LiveAllocation {
 pub struct PoolNode {
     pub name: Text,
     pub row: Node,
-    pub live: Rows<LiveAllocation>,
+    pub live: LiveRows,
 }
 
 impl Drop for PoolNode {

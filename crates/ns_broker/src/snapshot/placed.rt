@@ -12,7 +12,7 @@ use keyed::{KeySet, NameSlot, NumberSlot, NumberTable};
 use ns_live_index::Live;
 use ns_tables::Tables;
 use ns_types::allocation::Allocation;
-use ns_types::rows::Rows;
+use ns_types::live_rows::LiveRows;
 use ns_types::shared::Shared;
 use ns_types::snapshot::LiveAllocation;
 use ns_types::text::Text;
@@ -120,13 +120,10 @@ fn add_namespaces(
 }
 
 /// The rows of the slots, in their order.
-fn in_order(
-    alloc: Global,
-    slots: Vec<NumberSlot<LiveAllocation>>,
-) -> Result<Rows<LiveAllocation>, AllocError>
+fn in_order(alloc: Global, slots: Vec<NumberSlot<LiveAllocation>>) -> Result<LiveRows, AllocError>
     ensures { IfOk result (λ shown. shown ≡ map (λ e. e.1) (row_list slots.items)) }
 {
-    let mut shown = Rows::from_vec(Vec::with_capacity(alloc, slots.len())?);
+    let mut shown = LiveRows::with_capacity(alloc, slots.len())?;
     for (_, slot) in slots {
         if let Some(row) = slot {
             shown.push(row)?;
@@ -171,12 +168,12 @@ pub(crate) fn live_on(
     live: &Live,
     pool: &Text,
     node: &Text,
-) -> Result<Rows<LiveAllocation>, AllocError>
+) -> Result<LiveRows, AllocError>
     requires { IsRight (world_of tables.now) live.now }
     ensures { IfOk result (λ shown. shown ≡ live_on (world_of tables.now) pool.now node.now) }
 {
     let Some(keys) = live.keys_on(pool, node) else {
-        return Ok(Rows::new(tables.alloc));
+        return Ok(LiveRows::new(tables.alloc));
     };
     let seen = by_place(tables, keys)?;
     in_order(tables.alloc, seen.into_slots())

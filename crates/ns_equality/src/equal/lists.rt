@@ -17,7 +17,7 @@ impl<T: Equal> Equal for Option<T> {
 }
 
 /// Whether the lists are as long, and have the same value at each place.
-fn same_list<T: Equal>(a: &[T], b: &[T]) -> bool
+pub(crate) fn same_list<T: Equal>(a: &[T], b: &[T]) -> bool
     ensures { IsTrue result ↔ (a.now ≡ b.now) }
 {
     if a.len() != b.len() {

@@ -1,6 +1,8 @@
 //! Snapshots and what is seen only in them.
 
 use crate::equal::Equal;
+use crate::equal::lists::same_list;
+use ns_types::live_rows::LiveRows;
 use ns_types::snapshot::{LiveAllocation, OwnAllocation, PoolNode, QuotaSeen, Snapshot};
 
 impl Equal for OwnAllocation {
@@ -15,6 +17,13 @@ impl Equal for LiveAllocation {
             && self.priority.equal(&other.priority)
             && self.size.equal(&other.size)
             && self.namespace.equal(&other.namespace)
+    }
+}
+
+/// Most are told to be the same without a comparison of the names of each.
+impl Equal for LiveRows {
+    fn equal(&self, other: &LiveRows) -> bool {
+        self.is_like(other) || same_list(self.as_slice(), other.as_slice())
     }
 }
 

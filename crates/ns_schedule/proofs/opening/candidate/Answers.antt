@@ -14,9 +14,8 @@ new-requires c =
     let namespace = c.args.namespace.now in
     let priority = c.get-document.result.now.priority in
     let live = c.args.node.now.live in
-    let load = total (λ (a : LiveAllocation). a.size) (staying namespace stops c.as_slice-live.result.now) in
-    let order : map seen c.in_ok-order.order.items ≡ evictable priority live =
-    c.in_ok-order.ensures ∙ ap (evictable priority) c.as_slice-live.ensures in
+    let load = total (λ (a : LiveAllocation). a.size) (staying namespace stops live) in
+    let order : map seen c.in_ok-order.order.items ≡ evictable priority live = c.in_ok-order.ensures in
     let left : map seen c.in_ok-evictable.evictable.items ≡ staying namespace stops (evictable priority live) =
     c.in_ok-evictable.ensures ∙ ap (staying namespace stops) (ap (map seen) c.deref.ensures.value ∙ order) in
     subst (λ (ys : List LiveAllocation). IsCounted (plus c.left_of-left.result (total (λ a. a.size) ys))) (sym left)

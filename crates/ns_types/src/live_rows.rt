@@ -1,0 +1,218 @@
+//! The live allocations of a node, with which those of two nodes are compared at little cost.
+
+ghost use Rattle.std.specs.Prelude.{◌≡◌, ◌++◌, ◌∷◌, ◌≤◌, [], IfOk, IfSome, OnErr, OnOk, Some, SomeIff, length, map, slice_get, take, true};
+ghost use Rattle.std.specs.Bool.{OnTrue};
+ghost use Rattle.ns_types.specs.Working.Owners.{IsLoad, KeepsNames, without_name};
+ghost use Rattle.std.specs.List.{All};
+ghost use Rattle.ns_types.specs.State.Resources.{IsCounted, plus};
+ghost use Rattle.ns_types.specs.declared.resources.Resources.{Resources};
+
+use crate::resources::{Resources, checked_plus, none};
+use crate::shared::Shared;
+use crate::snapshot::LiveAllocation;
+use crate::text::{Text, same_text};
+use std::alloc::{AllocError, Global};
+use std::marker::Model;
+
+/// So many of the names that came last are looked through for the name of a row.
+const RECENT: usize = 8;
+
+/// Live allocations in the order in which they were placed. Contracts see them as a list. The name of each one's namespace also
+/// stands in a list of names, which may have a name twice; the place there tells most rows of two such lists apart.
+pub struct LiveRows {
+    rows: Vec<LiveAllocation>,
+    names: Vec<Shared<Text>>,
+    owners: Vec<usize>,
+    /// What they take together. None: it is past 64 bits.
+    load: Option<Resources>,
+    /// None of them has a lower priority.
+    least: u64,
+}
+
+impl Drop for LiveRows {
+    fn drop(self) {
+        let LiveRows {
+            rows: _rows,
+            names: _names,
+            owners: _owners,
+            load: _,
+            least: _,
+        } = self;
+    }
+}
+
+impl Model for LiveRows {
+    ghost use Rattle.std.specs.Prelude.{List};
+    ghost use Rattle.std.specs.Prelude.{◌≤◌};
+    ghost use Rattle.std.specs.List.{All};
+    ghost use Rattle.ns_types.specs.Working.Owners.{AreOwned, IsLoad};
+    ghost use Rattle.ns_types.specs.declared.snapshot.LiveAllocation.{LiveAllocation};
+
+    ghost Value = { List LiveAllocation };
+
+    ghost view = { λ l. l.rows.items };
+
+    ghost invariant = { λ l. AreOwned l.names.items l.owners.items l.rows.items
+        × IsLoad l.rows.items l.load
+        × All (λ a. l.least ≤ a.priority) l.rows.items };
+}
+
+/// Where the name stands among those that came last.
+fn recent(names: &[Shared<Text>], name: &Text) -> Option<usize>
+    ensures { IfSome result (λ place. slice_get names.now place ≡ Some name.now) }
+{
+    let mut place = names.len();
+    let least = place.saturating_sub(RECENT);
+    while least < place {
+        place -= 1;
+        if same_text(names[place].get(), name) {
+            return Some(place);
+        }
+    }
+    None
+}
+
+/// A place at which the name stands. It is put behind the others where it is none of those that came last.
+fn owner_of(names: &mut Vec<Shared<Text>>, name: &Shared<Text>) -> Result<usize, AllocError>
+    ensures kept { KeepsNames names.old.items names.new.items }
+    ensures ok { IfOk result (λ place. slice_get names.new.items place ≡ Some name.now) }
+{
+    if let Some(place) = recent(names.as_slice(), name.get()) {
+        return Ok(place);
+    }
+    let place = names.len();
+    names.push(name.share()?)?;
+    Ok(place)
+}
+
+/// Whether these are the same names.
+fn same_names(a: &[Shared<Text>], b: &[Shared<Text>]) -> bool
+    ensures { OnTrue result (a.now ≡ b.now) }
+{
+    if a.len() != b.len() {
+        return false;
+    }
+    for i in 0..a.len() {
+        if !same_text(a[i].get(), b[i].get()) {
+            return false;
+        }
+    }
+    true
+}
+
+/// Whether both have the same number, priority and size.
+fn same_but_name(a: &LiveAllocation, b: &LiveAllocation) -> bool
+    ensures { OnTrue result (without_name a.now ≡ without_name b.now) }
+{
+    a.number == b.number && a.priority == b.priority && a.size == b.size
+}
+
+/// What is taken together with one more.
+fn with_size(load: Option<Resources>, size: Resources) -> Option<Resources>
+    ensures { (sum : Resources) → SomeIff load (IsCounted sum) sum →
+        SomeIff result (IsCounted (plus sum size)) (plus sum size) }
+{
+    match load {
+        Some(load) => checked_plus(load, size),
+        None => None,
+    }
+}
+
+impl LiveRows {
+    /// None. It takes no memory.
+    pub fn new(alloc: Global) -> LiveRows
+        ensures { result ≡ [] }
+    {
+        LiveRows {
+            rows: Vec::new(alloc),
+            names: Vec::new(alloc),
+            owners: Vec::new(alloc),
+            load: Some(none()),
+            least: u64::MAX,
+        }
+    }
+
+    /// None, with memory for so many.
+    pub fn with_capacity(alloc: Global, most: usize) -> Result<LiveRows, AllocError>
+        ensures { IfOk result (λ rows. rows ≡ []) }
+    {
+        Ok(LiveRows {
+            rows: Vec::with_capacity(alloc, most)?,
+            names: Vec::new(alloc),
+            owners: Vec::with_capacity(alloc, most)?,
+            load: Some(none()),
+            least: u64::MAX,
+        })
+    }
+
+    pub fn as_slice(&self) -> &[LiveAllocation]
+        ensures { result.now ≡ self.now }
+    {
+        self.rows.as_slice()
+    }
+
+    /// What they take together. None: it is past 64 bits. It looks at none of them.
+    pub fn load(&self) -> Option<Resources>
+        ensures { IsLoad self.now result }
+    {
+        self.load
+    }
+
+    /// None of them has a lower priority. It looks at none of them.
+    pub fn least_priority(&self) -> u64
+        ensures { All (λ a. result ≤ a.priority) self.now }
+    {
+        self.least
+    }
+
+    /// Puts a row at the end. Want of memory is the only error.
+    pub fn push(&mut self, row: LiveAllocation) -> Result<(), AllocError>
+        ensures ok { OnOk result (self.new ≡ self.old ++ row ∷ []) }
+        ensures err { OnErr result (self.new ≡ self.old) }
+    {
+        let owner = match owner_of(&mut self.names, &row.namespace) {
+            Ok(owner) => owner,
+            Err(refused) => {
+                drop(row);
+                return Err(refused);
+            }
+        };
+        if self.owners.reserve(1).is_err() {
+            drop(row);
+            return Err(AllocError);
+        }
+        let (size, priority) = (row.size, row.priority);
+        self.rows.push(row)?;
+        self.owners.push_reserved(owner);
+        self.load = with_size(self.load, size);
+        self.least = self.least.min(priority);
+        Ok(())
+    }
+
+    /// Whether they are the same rows with the same names in the same places. It compares no names but those of the lists.
+    /// Where the answer is no, the rows may still be equal.
+    pub fn is_like(&self, other: &LiveRows) -> bool
+        ensures { OnTrue result (self.now ≡ other.now) }
+    {
+        if self.rows.len() != other.rows.len() || self.owners.len() != other.owners.len() {
+            return false;
+        }
+        if !same_names(self.names.as_slice(), other.names.as_slice()) {
+            return false;
+        }
+        self.owners.as_slice() == other.owners.as_slice() && self.has_like(other)
+    }
+
+    /// Whether those at the same places have the same numbers, priorities and sizes.
+    fn has_like(&self, other: &LiveRows) -> bool
+        requires { length self.now ≡ length other.now }
+        ensures { OnTrue result (map without_name self.now ≡ map without_name other.now) }
+    {
+        for i in 0..self.rows.len() {
+            if !same_but_name(&self.rows[i], &other.rows[i]) {
+                return false;
+            }
+        }
+        true
+    }
+}
