@@ -1,10 +1,10 @@
 -- What is known of the keys of slots, as the slots change, and where a key stands by it.
-use Rattle.std.specs.Prelude.{◌≡◌, ℕ, zero, suc, ◌<◌, ◌≤◌, Bool, false, cond, T, List, [], ◌∷◌, length, is_some, Option, Some, None, refl}
+use Rattle.std.specs.Prelude.{◌≡◌, ℕ, zero, suc, ◌+◌, ◌<◌, ◌≤◌, Bool, false, cond, nat_lt, not, T, List, [], ◌∷◌, length, is_some, Option, Some, None, refl}
 use Rattle.std.proofs.Common.{ap, sym, ◌∙◌, arith, get_or, set}
 use Rattle.std.proofs.lemmas.List.Quantifiers.{position-Some}
 use Rattle.std.proofs.lemmas.Map.Entries.{length-keys_of}
 use Rattle.std.proofs.Math.ListN.{get_or-map}
-use Rattle.std.specs.List.{AllByRecursion, insert, position, remove}
+use Rattle.std.specs.List.{AllByRecursion, insert, position, position_or_len, remove}
 use Rattle.std.specs.Map.{keys_of}
 use Rattle.std.specs.Option.{option_map}
 use Rattle.std.specs.declared.cmp.Ordering.{Ordering}
@@ -65,6 +65,17 @@ module _ {K X : Type 0} where
   known_inserted None (Some ks) es i e l is h p = absurd p
   known_inserted (Some js) (Some ks) es i e l is h p = p ∙ ap (λ ls. insert ls i e.0) h ∙ keys_of-put_back es i e l is
 
+module _ {K X : Type 0} (p : K → Bool) where
+  place_in_keys : (es : List (K × X)) → position_or_len p (keys_of es) ≡ position_or_len (λ e. p e.0) es
+  place_in_keys [] = refl
+  place_in_keys (e ∷ es) = ap (λ n. cond (not (p e.0)) (1 + n) 0) (place_in_keys es)
+
+  -- the first of the keys that passes stands where the first entry with such a key does
+  pub key_place : (es : List (K × X)) → position p (keys_of es) ≡ position (λ e. p e.0) es
+  key_place es =
+      let at : ℕ = position_or_len (λ e. p e.0) es in
+      ap (λ n. cond (nat_lt n (length (keys_of es))) (Some n) None) (place_in_keys es) ∙ ap (λ n. cond (nat_lt at n) (Some at) None) (length-keys_of es)
+
 module _ {K X : Type 0} (R : K → K → Ordering) (eq : K → K → Bool) (ties : (x y : K) → eq x y ≡ is_eq (R x y)) where
   apart : (k : K) (e : K × X) (es : List (K × X)) (r : Ordering) → R k e.0 ≡ r → is_eq r ≡ false → Lacks R k es → Lacks R k (e ∷ es)
   apart k e es r t differs rest = record {
@@ -90,3 +101,7 @@ module _ {K X : Type 0} (R : K → K → Ordering) (eq : K → K → Bool) (ties
       option_map (position (eq k)) known ≡ Some r → Found R k es r
   known_found o k es sorted None h r e = cc
   known_found o k es sorted (Some ks) h r e = found_at o k es sorted r (let is : position (eq k) ks ≡ r = cc in ap (position (eq k)) (sym h) ∙ is)
+
+  -- where a key stands, found by a comparison with each
+  pub among_found : (o : IsTotalOrder R) (k : K) (es : List (K × X)) → T (is_sorted R es) → (r : Option ℕ) → r ≡ position (λ e. eq k e.0) es → Found R k es r
+  among_found o k es sorted r is = found_at o k es sorted r (key_place (eq k) es ∙ sym is)

@@ -1,7 +1,7 @@
 // Slots in the order of their keys, in a plain `Vec`, with an index of many names.
-ghost use Rattle.std.specs.Prelude.{◌≡◌, ◌<◌, ◌≤◌, [], IsTrue, T, OnOk, OnErr, length, option_copied};
+ghost use Rattle.std.specs.Prelude.{◌≡◌, ◌<◌, ◌≤◌, [], IfSome, IsTrue, T, OnOk, OnErr, length, option_copied};
 ghost use Rattle.std.specs.FinMap.Entries.{find, put, is_sorted};
-ghost use Rattle.std.specs.List.{remove};
+ghost use Rattle.std.specs.List.{position, remove};
 ghost use Rattle.keyed.specs.Slots.{Found, Knows, Passed, Placed, added, has_slot, with_slot, row, without, without_vacant, emptied, filled};
 ghost use Rattle.keyed.specs.Table.{row_list};
 
@@ -38,6 +38,9 @@ impl<K: Ord + Hash, V> Model for Slots<K, V> {
 pub(crate) trait SlotKey {
     /// The slot to look at first, of so many whose keys rise from `least` on. Any answer serves; a good one saves steps.
     fn guess(&self, least: &Self, count: usize) -> usize;
+
+    /// Fewer slots than so many are gone through one after the other.
+    fn few() -> usize;
 }
 
 /// Numbers that are given one after the other stand side by side, and the next one belongs behind the last.
@@ -49,11 +52,20 @@ impl SlotKey for u64 {
             Err(_) => 0,
         }
     }
+
+    fn few() -> usize {
+        0
+    }
 }
 
+/// Whether two texts are the same is known sooner than which of them comes first.
 impl SlotKey for Text {
     fn guess(&self, _least: &Text, count: usize) -> usize {
         count / 2
+    }
+
+    fn few() -> usize {
+        MANY
     }
 }
 
@@ -88,6 +100,13 @@ fn between(low: usize, high: usize, guess: usize) -> usize
     } else {
         low + (high - low) / 2
     }
+}
+
+/// Where the slot of `key` stands, found by a comparison with each key.
+fn place_among<K: Eq, X>(slots: &[(K, X)], key: &K) -> Option<usize>
+    ensures { result ≡ position (λ slot. K.eq key.now slot.0) slots.now }
+{
+    slots.iter().position(|slot| *key == slot.0)
 }
 
 /// Where the slot of `key` stands, or where it belongs: a binary search that begins at the key's guess.
@@ -200,11 +219,24 @@ impl<K: Ord + Hash + SlotKey + IndexKey + Drop, V: Drop> Slots<K, V> {
         self.filled
     }
 
+    /// Where the slot of `key` stands, if anywhere, where no search is needed: by the index, or among few.
+    fn known(&self, key: &K) -> Option<Option<usize>>
+        ensures { IfSome result (λ found. Found K.cmp key.now self.now found) }
+    {
+        if let Some(found) = self.index.find(key) {
+            return Some(found);
+        }
+        if self.slots.len() < K::few() {
+            return Some(place_among(self.slots.as_slice(), key));
+        }
+        None
+    }
+
     /// Where the slot of `key` stands, or where it belongs.
     fn place(&self, key: &K) -> Result<usize, usize>
         ensures { Placed K.cmp key.now self.now result }
     {
-        if let Some(Some(i)) = self.index.find(key) {
+        if let Some(Some(i)) = self.known(key) {
             return Ok(i);
         }
         place_in(self.slots.as_slice(), key)
@@ -214,7 +246,7 @@ impl<K: Ord + Hash + SlotKey + IndexKey + Drop, V: Drop> Slots<K, V> {
     fn find(&self, key: &K) -> Option<usize>
         ensures { Found K.cmp key.now self.now result }
     {
-        if let Some(found) = self.index.find(key) {
+        if let Some(found) = self.known(key) {
             return found;
         }
         match place_in(self.slots.as_slice(), key) {
