@@ -1,30 +1,44 @@
 -- A command that takes arguments, or subcommands, one after the other.
 use Rattle.std.proofs.Common.{◌≡◌, ◌∙◌, ◌||◌, Bool, List, [], ◌∷◌, ap, ap₂, false, fold, sym}
 use Rattle.clap.specs.Built.{AddsArg, AddsInTurn, AddsSubcommand}
-use Rattle.clap.specs.Words.{App, Rule, app_of, rule_of, with_rule, with_subcommand}
+use Rattle.clap.specs.Words.{App, Rule, app_of, rule_of, with_rule}
 use Rattle.clap.specs.declared.builder.arg.Arg.{Arg}
 use Rattle.clap.specs.declared.builder.command.Command.{Command}
 use Rattle.clap.specs.declared.builder.command.Command.TheViews.{out-Command}
+use Rattle.ns_command_line.specs.Words.{with_app}
 
--- each argument has the rule that stands beside it, and holds for its own command alone
-abbrev pub HaveRules : List Arg → List Rule → Type 0
-HaveRules [] [] = Unit {0}
-HaveRules [] (rule ∷ rules) = ⊥
-HaveRules (arg ∷ args) [] = ⊥
-HaveRules (arg ∷ args) (rule ∷ rules) = ((rule_of arg ≡ rule) × (arg.global ≡ false)) × HaveRules args rules
+-- each of the first goes with the one that stands beside it
+abbrev pub GoTogether : {X Y : Type 0} → (X → Y → Type 0) → List X → List Y → Type 0
+GoTogether goes [] [] = Unit {0}
+GoTogether goes [] (y ∷ ys) = ⊥
+GoTogether goes (x ∷ xs) [] = ⊥
+GoTogether goes (x ∷ xs) (y ∷ ys) = goes x y × GoTogether goes xs ys
 
-pub args_added : (args : List Arg) (rules : List Rule) (old new : Command) → AddsInTurn AddsArg old args new → HaveRules args rules →
+module _ {X Y : Type 0} (adds : Command → X → Command → Type 0) (goes : X → Y → Type 0) where
+  -- where each adds what stands beside it, all add it in turn
+  added_in_turn : (with_one : App → Y → App) → ((x : X) (y : Y) (old new : Command) → adds old x new → goes x y → app_of new ≡ with_one (app_of old) y) →
+      (xs : List X) (ys : List Y) (old new : Command) → AddsInTurn adds old xs new → GoTogether goes xs ys → app_of new ≡ fold with_one (app_of old) ys
+  added_in_turn with_one each [] [] old new all together = ap app_of (sym all)
+  added_in_turn with_one each [] (y ∷ ys) old new all together = absurd together
+  added_in_turn with_one each (x ∷ xs) [] old new all together = absurd together
+  added_in_turn with_one each (x ∷ xs) (y ∷ ys) old new all together = added_in_turn with_one each xs ys all.0 new all.2 together.1
+      ∙ ap (λ app. fold with_one app ys) (each x y old all.0 all.1 together.0)
+
+-- ---- arguments
+
+-- the argument has the rule, and holds for its own command alone
+abbrev pub HasRule : Arg → Rule → Type 0
+HasRule arg rule = (rule_of arg ≡ rule) × (arg.global ≡ false)
+
+pub args_added : (args : List Arg) (rules : List Rule) (old new : Command) → AddsInTurn AddsArg old args new → GoTogether HasRule args rules →
     app_of new ≡ fold with_rule (app_of old) rules
-args_added [] [] old new adds have = ap app_of (sym adds)
-args_added [] (rule ∷ rules) old new adds have = absurd have
-args_added (arg ∷ args) [] old new adds have = absurd have
-args_added (arg ∷ args) (rule ∷ rules) old new adds have = args_added args rules adds.0 new adds.2 have.1
-    ∙ ap (λ app. fold with_rule app rules) (adds.1.shape have.0.1 ∙ ap (with_rule (app_of old)) have.0.0)
+args_added = added_in_turn AddsArg HasRule with_rule
+    (λ arg rule old new adds has. adds.shape has.1 ∙ ap (with_rule (app_of old)) has.0)
 
 abbrev or_else : Bool → Bool → Bool
 or_else a b = a || b
 
-pub stays_local : (args : List Arg) (rules : List Rule) (old new : Command) → AddsInTurn AddsArg old args new → HaveRules args rules →
+pub stays_local : (args : List Arg) (rules : List Rule) (old new : Command) → AddsInTurn AddsArg old args new → GoTogether HasRule args rules →
     (out-Command old).has_globals ≡ false → (out-Command new).has_globals ≡ false
 stays_local [] [] old new adds have is = ap (λ c. (out-Command c).has_globals) (sym adds) ∙ is
 stays_local [] (rule ∷ rules) old new adds have is = absurd have
@@ -32,21 +46,13 @@ stays_local (arg ∷ args) [] old new adds have is = absurd have
 stays_local (arg ∷ args) (rule ∷ rules) old new adds have is =
     stays_local args rules adds.0 new adds.2 have.1 (adds.1.globals ∙ ap₂ or_else is have.0.1)
 
--- each subcommand is the one that stands beside it, and has no argument that holds for others
-abbrev pub AreApps : List Command → List App → Type 0
-AreApps [] [] = Unit {0}
-AreApps [] (app ∷ apps) = ⊥
-AreApps (command ∷ commands) [] = ⊥
-AreApps (command ∷ commands) (app ∷ apps) =
-    ((app_of command ≡ app) × ((out-Command command).has_globals ≡ false)) × AreApps commands apps
+-- ---- subcommands
 
-abbrev with_app : App → App → App
-with_app program app = with_subcommand program app.top
+-- the subcommand is that one, and has no argument that holds for others
+abbrev pub IsApp : Command → App → Type 0
+IsApp command app = (app_of command ≡ app) × ((out-Command command).has_globals ≡ false)
 
 pub subcommands_added : (commands : List Command) (apps : List App) (old new : Command) → AddsInTurn AddsSubcommand old commands new →
-    AreApps commands apps → app_of new ≡ fold (λ program command. with_subcommand program command.top) (app_of old) apps
-subcommands_added [] [] old new adds are = ap app_of (sym adds)
-subcommands_added [] (app ∷ apps) old new adds are = absurd are
-subcommands_added (command ∷ commands) [] old new adds are = absurd are
-subcommands_added (command ∷ commands) (app ∷ apps) old new adds are = subcommands_added commands apps adds.0 new adds.2 are.1
-    ∙ ap (λ program. fold with_app program apps) (adds.1.shape are.0.1 ∙ ap (with_app (app_of old)) are.0.0)
+    GoTogether IsApp commands apps → app_of new ≡ fold with_app (app_of old) apps
+subcommands_added = added_in_turn AddsSubcommand IsApp with_app
+    (λ command app old new adds is. adds.shape is.1 ∙ ap (with_app (app_of old)) is.0)

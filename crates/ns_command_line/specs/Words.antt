@@ -67,8 +67,12 @@ bare_words = on_top (λ top. record top { subcommand_required = true }) (new_app
 abbrev pub subcommands : List App
 subcommands = pipe_words ∷ serve_words ∷ alone_words ∷ []
 
+-- the program with that subcommand besides
+abbrev pub with_app : App → App → App
+with_app program command = with_subcommand program command.top
+
 abbrev pub program_words : App
-program_words = fold (λ program command. with_subcommand program command.top) bare_words subcommands
+program_words = fold with_app bare_words subcommands
 
 -- ---- what `clap` finds in the words
 

@@ -4,13 +4,13 @@ use Rattle.clap.specs.Built.{AddsArg, AddsInTurn}
 use Rattle.clap.specs.Words.{with_rule}
 use Rattle.clap.specs.declared.builder.arg.Arg.{Arg}
 use Rattle.ns_command_line.specs.Words.{alone_rules}
-use Rattle.ns_command_line.proofs.Commands.{HaveRules, args_added, stays_local}
+use Rattle.ns_command_line.proofs.Commands.{GoTogether, HasRule, args_added, stays_local}
 use Rattle.ns_command_line.proofs.command.alone.Goals as goal
 
 abbrev given : goal.After-args-2 → List Arg
 given c = c.namespace.result ∷ c.from.result ∷ c.pool.result ∷ c.quota.result ∷ []
 
-have : (c : goal.After-args-2) → HaveRules (given c) alone_rules
+have : (c : goal.After-args-2) → GoTogether HasRule (given c) alone_rules
 have c = (
   (c.namespace.ensures.rule, c.namespace.ensures.local),
   (

@@ -4,14 +4,14 @@ use Rattle.clap.specs.Built.{AddsArg, AddsInTurn}
 use Rattle.clap.specs.Words.{with_rule}
 use Rattle.clap.specs.declared.builder.arg.Arg.{Arg}
 use Rattle.ns_command_line.specs.Serve.{serve_rules}
-use Rattle.ns_command_line.proofs.Commands.{HaveRules, args_added, stays_local}
+use Rattle.ns_command_line.proofs.Commands.{GoTogether, HasRule, args_added, stays_local}
 use Rattle.ns_command_line.proofs.command.serve.serve.Goals as goal
 
 abbrev given : goal.After-args-2 → List Arg
 given c = c.listen.result ∷ c.option.result ∷ c.option-2.result ∷ c.option-3.result ∷ c.option-4.result ∷ c.option-5.result ∷ c.option-6.result ∷
     c.option-7.result ∷ c.option-8.result ∷ []
 
-have : (c : goal.After-args-2) → HaveRules (given c) serve_rules
+have : (c : goal.After-args-2) → GoTogether HasRule (given c) serve_rules
 have c = (
   (c.listen.ensures.rule, c.listen.ensures.local),
   (
