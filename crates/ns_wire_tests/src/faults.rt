@@ -1,9 +1,9 @@
-// Readers and writers that are slow or fail.
+// Runs whose input or output is slow or fails.
 use crate::same_bits::SameBits;
+use crate::streams::{Narrow, Slow, giving};
 use ns_command_line::{RunEnd, run_words};
 use ns_http::Counted;
 use std::alloc::Global;
-use std::io::{self, ErrorKind, Read, Write};
 use std::rt::HostRuntime;
 
 const WORDS: [&str; 4] = ["nsd", "pipe", "--bootstrap", "root"];
@@ -17,50 +17,6 @@ const REGISTERED: &[u8] =
 const LISTED: &[u8] =
     b"HTTP/1.1 200 OK\r\nContent-Type: application/json\r\nX-Nomad-Index: 1\r\nContent-Length: 105\r\n\r\n[{\"ID\":\"web\",\"JobModifyIndex\":1,\"Namespace\":\"default\",\"Priority\":50,\"Status\":\"pending\",\"Type\":\"service\"}]";
 
-/// Gives at most `step` bytes a read, and fails at the end if `fails`.
-#[derive(Drop)]
-struct Slow<'a> {
-    rest: &'a [u8],
-    step: usize,
-    fails: bool,
-}
-
-impl Read for Slow<'_> {
-    fn read(&mut self, buf: &mut [u8]) -> io::Result<usize> {
-        if self.fails && self.rest.is_empty() {
-            return Err(io::Error::from(ErrorKind::ConnectionReset));
-        }
-        let count = self.step.min(buf.len()).min(self.rest.len());
-        let (front, rest) = self.rest.split_at(count);
-        buf[..count].copy_from_slice(front);
-        self.rest = rest;
-        Ok(count)
-    }
-}
-
-/// Takes so many bytes more, and then fails.
-#[derive(Drop)]
-struct Narrow {
-    taken: Vec<u8>,
-    room: usize,
-}
-
-impl Write for Narrow {
-    fn write(&mut self, buf: &[u8]) -> io::Result<usize> {
-        let count = self.room.min(buf.len());
-        if count == 0 {
-            return Err(io::Error::from(ErrorKind::BrokenPipe));
-        }
-        self.taken.extend_from_slice(&buf[..count])?;
-        self.room -= count;
-        Ok(count)
-    }
-
-    fn flush(&mut self) -> io::Result<()> {
-        Ok(())
-    }
-}
-
 /// What a run left.
 #[derive(Drop)]
 struct RunLeft {
@@ -72,12 +28,14 @@ struct RunLeft {
 fn run(alloc: Global, reader: Slow<'_>, room: usize) -> RunLeft {
     let mut errors = Counted::new(Vec::new(alloc));
     let writer = Narrow {
-        taken: Vec::new(alloc),
+        bytes: Vec::new(alloc),
+        step: usize::MAX,
         room,
+        fails: true,
     };
     let outcome = run_words(alloc, &WORDS, SameBits, reader, writer, &mut errors);
     let (status, written) = match outcome {
-        RunEnd::Ended(ended) => (ended.status, ended.writer.into_inner().taken),
+        RunEnd::Ended(ended) => (ended.status, ended.writer.into_inner().bytes),
         RunEnd::Serve(..) => (u8::MAX, Vec::new(alloc)),
     };
     RunLeft {
@@ -101,12 +59,7 @@ fn leaves(left: &RunLeft, status: u8, written: &[&[u8]], errors: &[u8]) -> bool 
 
 /// Whether both requests are answered when each read gives so many bytes.
 fn is_answered(alloc: Global, step: usize) -> bool {
-    let reader = Slow {
-        rest: INPUT,
-        step,
-        fails: false,
-    };
-    let left = run(alloc, reader, usize::MAX);
+    let left = run(alloc, giving(INPUT, step), usize::MAX);
     leaves(&left, 0, &[REGISTERED, LISTED], b"")
 }
 
@@ -122,7 +75,7 @@ fn is_read_fault(alloc: Global, fails: bool) -> bool {
     let reader = Slow {
         rest: &INPUT[..INPUT.len() - 1],
         step: usize::MAX,
-        fails,
+        left: if fails { 1 } else { usize::MAX },
     };
     let left = run(alloc, reader, usize::MAX);
     leaves(&left, 3, &[REGISTERED], b"read fault\n")
@@ -136,12 +89,7 @@ fn input_that_ends_inside_a_request_or_fails(rt: HostRuntime) {
 
 /// Whether a run whose output takes only these bytes tells of a write fault.
 fn is_write_fault(alloc: Global, taken: &[u8]) -> bool {
-    let reader = Slow {
-        rest: INPUT,
-        step: usize::MAX,
-        fails: false,
-    };
-    let left = run(alloc, reader, taken.len());
+    let left = run(alloc, giving(INPUT, usize::MAX), taken.len());
     leaves(&left, 4, &[taken], b"write fault\n")
 }
 

@@ -1,3 +1,4 @@
+use crate::streams::{Narrow, Slow, giving, wide};
 use linked_list_allocator::LocalHeap;
 use ns_http::{Answer, ConnFault, Counted, Counts, INTERRUPTION_LIMIT, READ_ROOM, Request, serve};
 use ns_types::refusal::Refusal;
@@ -51,53 +52,6 @@ impl<A: Allocator + Copy> Answer for Echo<A> {
     }
 }
 
-/// Gives at most `step` bytes a read, and fails after so many reads.
-#[derive(Drop)]
-struct Slow<'a> {
-    rest: &'a [u8],
-    step: usize,
-    left: usize,
-}
-
-impl Read for Slow<'_> {
-    fn read(&mut self, buf: &mut [u8]) -> io::Result<usize> {
-        if self.left == 0 {
-            return Err(io::Error::from(ErrorKind::ConnectionReset));
-        }
-        self.left -= 1;
-        let count = self.step.min(buf.len()).min(self.rest.len());
-        let (front, rest) = self.rest.split_at(count);
-        buf[..count].copy_from_slice(front);
-        self.rest = rest;
-        Ok(count)
-    }
-}
-
-/// Takes at most `step` bytes a write, and so many in all. Then it fails, or takes nothing.
-#[derive(Drop)]
-struct Narrow {
-    bytes: Vec<u8>,
-    step: usize,
-    room: usize,
-    fails: bool,
-}
-
-impl Write for Narrow {
-    fn write(&mut self, buf: &[u8]) -> io::Result<usize> {
-        if self.room == 0 && self.fails {
-            return Err(io::Error::from(ErrorKind::BrokenPipe));
-        }
-        let count = self.step.min(buf.len()).min(self.room);
-        self.room -= count;
-        self.bytes.extend_from_slice(&buf[..count])?;
-        Ok(count)
-    }
-
-    fn flush(&mut self) -> io::Result<()> {
-        Ok(())
-    }
-}
-
 #[derive(Drop)]
 struct ServedOutcome {
     result: Result<u64, ConnFault>,
@@ -124,23 +78,6 @@ fn talk(alloc: Global, reader: Slow<'_>, writer: Narrow) -> ServedOutcome {
         writes: writes.calls(),
         read_faults: reads.faults(),
         write_faults: writes.faults(),
-    }
-}
-
-fn wide(alloc: Global) -> Narrow {
-    Narrow {
-        bytes: Vec::new(alloc),
-        step: usize::MAX,
-        room: usize::MAX,
-        fails: false,
-    }
-}
-
-fn giving(rest: &[u8], step: usize) -> Slow<'_> {
-    Slow {
-        rest,
-        step,
-        left: usize::MAX,
     }
 }
 

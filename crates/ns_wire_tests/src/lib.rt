@@ -26,4 +26,6 @@ mod secrets;
 #[cfg(test)]
 mod serving;
 #[cfg(test)]
+mod streams;
+#[cfg(test)]
 mod texts;
