@@ -1,5 +1,7 @@
 //! How answers are written, a line each.
 
+use crate::words::{write_line, write_words};
+use itoa::Buffer;
 use ns_core::Core;
 use ns_types::evaluation::Status;
 use ns_types::key::EvalKey;
@@ -11,12 +13,14 @@ use std::io::{self, Write};
 
 /// Status, index and body.
 pub fn write_response<W: Write>(out: &mut W, response: &Response) -> io::Result<()> {
+    let mut digits = Buffer::new();
     match response {
-        Response::Done(Some(index), body) => writeln!(out, "200 {index} {body}"),
-        Response::Done(None, body) => writeln!(out, "200 {body}"),
+        Response::Done(Some(index), body) => {
+            write_line(out, &["200 ", digits.format(*index), " ", body.as_str()])
+        }
+        Response::Done(None, body) => write_line(out, &["200 ", body.as_str()]),
         Response::Refused(refusal) => {
-            let (status, text) = (refusal.status(), refusal.text());
-            writeln!(out, "{status} {text}")
+            write_line(out, &[digits.format(refusal.status()), " ", refusal.text()])
         }
     }
 }
@@ -28,7 +32,7 @@ pub fn write_refusal<W: Write>(out: &mut W, refusal: Refusal) -> io::Result<()> 
         Refusal::Foreign => "foreign",
         _ => refusal.text(),
     };
-    writeln!(out, "{text}")
+    write_line(out, &[text])
 }
 
 fn status_text(status: Status) -> &'static str {
@@ -44,10 +48,11 @@ fn status_text(status: Status) -> &'static str {
 /// With a space before each.
 fn write_numbers<W: Write>(out: &mut W, numbers: &[u64]) -> io::Result<()> {
     if numbers.is_empty() {
-        write!(out, " nothing")?;
+        write_words(out, &[" nothing"])?;
     }
+    let mut digits = Buffer::new();
     for number in numbers {
-        write!(out, " {number}")?;
+        write_words(out, &[" ", digits.format(*number)])?;
     }
     Ok(())
 }
@@ -55,43 +60,44 @@ fn write_numbers<W: Write>(out: &mut W, numbers: &[u64]) -> io::Result<()> {
 /// With a space before each.
 fn write_names<W: Write>(out: &mut W, names: &[Text]) -> io::Result<()> {
     if names.is_empty() {
-        write!(out, " nothing")?;
+        write_words(out, &[" nothing"])?;
     }
     for name in names {
-        let name = name.as_str();
-        write!(out, " {name}")?;
+        write_words(out, &[" ", name.as_str()])?;
     }
     Ok(())
 }
 
 /// The allocations that were made, and the nodes that were dropped.
 fn write_applied<W: Write>(out: &mut W, made: &[u64], dropped: &[Text]) -> io::Result<()> {
-    write!(out, "applied")?;
+    write_words(out, &["applied"])?;
     write_numbers(out, made)?;
-    write!(out, ", dropped")?;
+    write_words(out, &[", dropped"])?;
     write_names(out, dropped)?;
-    writeln!(out)
+    write_line(out, &[])
 }
 
 /// How the evaluation ended, and its follower.
 fn write_finished<W: Write>(out: &mut W, status: Status, follower: Option<u64>) -> io::Result<()> {
-    let status = status_text(status);
-    match follower {
-        Some(number) => writeln!(out, "finished {status}, followed by {number}"),
-        None => writeln!(out, "finished {status}, followed by nothing"),
-    }
+    let mut digits = Buffer::new();
+    let follower = match follower {
+        Some(number) => digits.format(number),
+        None => "nothing",
+    };
+    write_line(
+        out,
+        &["finished ", status_text(status), ", followed by ", follower],
+    )
 }
 
 fn write_content<W: Write>(out: &mut W, content: &Content) -> anyhow::Result<()> {
+    let mut digits = Buffer::new();
     let written = match content {
-        Content::Took(number) => writeln!(out, "took {number}"),
-        Content::Queued(number) => writeln!(out, "queued {number}"),
+        Content::Took(number) => write_line(out, &["took ", digits.format(*number)]),
+        Content::Queued(number) => write_line(out, &["queued ", digits.format(*number)]),
         Content::Applied(made, dropped) => write_applied(out, made.as_slice(), dropped.as_slice()),
         Content::Finished(status, follower) => write_finished(out, *status, *follower),
-        Content::Nacked(status) => {
-            let status = status_text(*status);
-            writeln!(out, "nacked {status}")
-        }
+        Content::Nacked(status) => write_line(out, &["nacked ", status_text(*status)]),
         _ => anyhow::bail!("an answer that no worker gets"),
     };
     Ok(written?)
@@ -102,7 +108,7 @@ pub fn write_reply<W: Write>(out: &mut W, answer: &Result<Reply, Refusal>) -> an
     match answer {
         Ok(reply) => {
             if let Some(index) = reply.index {
-                write!(out, "{index} ")?;
+                write_words(out, &[Buffer::new().format(index), " "])?;
             }
             write_content(out, &reply.content)
         }
@@ -112,17 +118,18 @@ pub fn write_reply<W: Write>(out: &mut W, answer: &Result<Reply, Refusal>) -> an
 
 /// The number of the evaluation whose snapshot was taken.
 pub fn write_snapped<W: Write>(out: &mut W, number: u64) -> io::Result<()> {
-    writeln!(out, "snapped {number}")
+    write_line(out, &["snapped ", Buffer::new().format(number)])
 }
 
 /// An evaluation of a list, if there is one.
 pub fn write_key<W: Write>(out: &mut W, key: Option<&EvalKey>) -> io::Result<()> {
     match key {
         Some(key) => {
-            let (number, namespace) = (key.number(), key.namespace().as_str());
-            writeln!(out, "{number} of {namespace}")
+            let mut digits = Buffer::new();
+            let number = digits.format(key.number());
+            write_line(out, &[number, " of ", key.namespace().as_str()])
         }
-        None => writeln!(out, "nothing"),
+        None => write_line(out, &["nothing"]),
     }
 }
 
@@ -141,9 +148,10 @@ pub fn write_phase<W: Write>(out: &mut W, core: &Core, worker: u64) -> io::Resul
     match core.phase(worker) {
         Some(busy) => {
             let phase = phase_text(busy.phase);
-            let (number, namespace, tries) = (busy.evaluation, busy.namespace.as_str(), busy.tries);
-            writeln!(out, "{phase} {number} of {namespace}, {tries} tries")
+            write_words(out, &[phase, " ", Buffer::new().format(busy.evaluation)])?;
+            write_words(out, &[" of ", busy.namespace.as_str()])?;
+            write_line(out, &[", ", Buffer::new().format(busy.tries), " tries"])
         }
-        None => writeln!(out, "idle"),
+        None => write_line(out, &["idle"]),
     }
 }

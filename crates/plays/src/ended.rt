@@ -1,5 +1,7 @@
 //! How a run ended.
 
+use crate::words::write_line;
+use itoa::Buffer;
 use std::io::Write;
 
 /// The exit status, what was written, and what was written of faults.
@@ -13,9 +15,8 @@ pub struct PlayEnd {
 impl PlayEnd {
     /// Writes what was written, the exit status on a line of its own, and what was written of faults.
     pub fn print<W: Write>(&self, out: &mut W) -> anyhow::Result<()> {
-        let status = self.status;
         out.write_all(self.written.as_slice())?;
-        writeln!(out, "\nstatus {status}")?;
+        write_line(out, &["\nstatus ", Buffer::new().format(self.status)])?;
         out.write_all(self.errors.as_slice())?;
         Ok(())
     }

@@ -1,6 +1,7 @@
 //! The calls of a core that take no memory, and so can't be refused for want of it.
 
-use crate::words::ROOT;
+use crate::words::{ROOT, write_line, write_words};
+use itoa::Buffer;
 use ns_core::Core;
 use ns_types::acl::{PoolRights, Rights};
 use ns_types::key::EvalKey;
@@ -65,6 +66,10 @@ fn busy_with(core: &Core, worker: u64, namespace: &Text) -> u64 {
     }
 }
 
+fn write_number<W: Write>(out: &mut W, name: &str, number: u64) -> io::Result<()> {
+    write_words(out, &[name, Buffer::new().format(number)])
+}
+
 impl Looked {
     /// Each call once.
     fn at(core: &Core, asked: &LookTargets) -> Looked {
@@ -91,21 +96,23 @@ impl Looked {
     }
 
     fn write<W: Write>(self, out: &mut W) -> io::Result<()> {
-        let Looked {
-            served,
-            planned,
-            busy,
-            ..
-        } = self;
-        write!(out, "served {served}, planned {planned}, busy {busy}")?;
-        let (may_list, may_read) = (self.rights.list_jobs, self.pool_rights.read);
-        write!(out, ", list-jobs {may_list}, pool read {may_read}")?;
-        let (is_there, permits) = (self.is_there, self.permits);
-        write!(out, ", there {is_there}, permits {permits}")?;
-        let (shares, apart) = (self.shares, self.apart);
-        let (has_served, lacks_room) = (self.has_served, self.lacks_room);
-        write!(out, ", shares {shares}, apart {apart}")?;
-        writeln!(out, ", has served {has_served}, lacks room {lacks_room}")
+        write_number(out, "served ", self.served)?;
+        write_number(out, ", planned ", self.planned)?;
+        write_number(out, ", busy ", self.busy)?;
+        let flags = [
+            (", list-jobs ", self.rights.list_jobs),
+            (", pool read ", self.pool_rights.read),
+            (", there ", self.is_there),
+            (", permits ", self.permits),
+            (", shares ", self.shares),
+            (", apart ", self.apart),
+            (", has served ", self.has_served),
+            (", lacks room ", self.lacks_room),
+        ];
+        for (name, is_so) in flags {
+            write_words(out, &[name, if is_so { "true" } else { "false" }])?;
+        }
+        write_line(out, &[])
     }
 }
 

@@ -21,7 +21,7 @@ use crate::connection::{log, serve};
 use crate::repeated::rounds;
 use crate::replayed::alone;
 use crate::server::script;
-use crate::words::{BAD_HEAD, first_word};
+use crate::words::{BAD_HEAD, first_word, write_line};
 use anyhow::Context;
 use std::alloc::Global;
 use std::io::{Read, Write};
@@ -32,7 +32,7 @@ const MARK: &str = "\n=== ";
 /// Plays one part: its first line begins with a word that says its kind.
 fn play<W: Write>(alloc: Global, part: &str, out: &mut W) -> anyhow::Result<()> {
     let (head, text) = part.split_once('\n').context(BAD_HEAD)?;
-    writeln!(out, "=== {head}")?;
+    write_line(out, &["=== ", head])?;
     let (kind, rest) = first_word(head);
     let played = match kind {
         "serve" => serve(alloc, rest, text),

@@ -7,7 +7,7 @@ use crate::looks::{LookTargets, write_looks};
 use crate::steps::ScriptStep;
 use crate::taken::Snapshots;
 use crate::watch::CopyWatch;
-use crate::words::ROOT;
+use crate::words::{ROOT, write_line};
 use anyhow::Context;
 use ns_core::Core;
 use ns_http::Request;
@@ -196,7 +196,7 @@ impl<'a> ScriptServer<'a> {
     /// Writes each line, and below it what it is answered.
     fn play<W: Write>(&mut self, lines: &'a str, out: &mut W) -> anyhow::Result<()> {
         for text in lines.split('\n') {
-            writeln!(out, "{text}")?;
+            write_line(out, &[text])?;
             let line = Line::read(text).context("a line that says nothing")?;
             self.obey(line, out)?;
         }
