@@ -1,5 +1,5 @@
 -- What is known of the keys of slots, as the slots change, and where a key stands by it.
-use Rattle.std.specs.Prelude.{◌≡◌, ℕ, zero, suc, ◌+◌, ◌<◌, ◌≤◌, Bool, false, cond, nat_lt, not, T, List, [], ◌∷◌, length, is_some, Option, Some, None, refl}
+use Rattle.std.specs.Prelude.{◌≡◌, ℕ, zero, suc, ◌+◌, ◌<◌, ◌≤◌, Bool, false, cond, nat_lt, not, T, List, [], ◌∷◌, length, is_some, Option, Some, None, IfSome, refl}
 use Rattle.std.proofs.Common.{ap, sym, ◌∙◌, arith, get_or, set}
 use Rattle.std.proofs.lemmas.List.Quantifiers.{position-Some}
 use Rattle.std.proofs.lemmas.Map.Entries.{length-keys_of}
@@ -97,10 +97,10 @@ module _ {K X : Type 0} (R : K → K → Ordering) (eq : K → K → Bool) (ties
       stands R o k (d ∷ ds) i d sorted within
       (equal_by _ (sym (ties k (get_or (d ∷ ds) i d).0) ∙ ap (eq k) (sym (get_or-map (λ e. e.0) (d ∷ ds) i d)) ∙ p.1))
 
-  pub known_found : (o : IsTotalOrder R) (k : K) (es : List (K × X)) → T (is_sorted R es) → (known : Option (List K)) → Knows known es → (r : Option ℕ) →
-      option_map (position (eq k)) known ≡ Some r → Found R k es r
-  known_found o k es sorted None h r e = cc
-  known_found o k es sorted (Some ks) h r e = found_at o k es sorted r (let is : position (eq k) ks ≡ r = cc in ap (position (eq k)) (sym h) ∙ is)
+  pub known_found : (o : IsTotalOrder R) (k : K) (es : List (K × X)) → T (is_sorted R es) → (known : Option (List K)) → Knows known es →
+      IfSome (option_map (position (eq k)) known) (λ r. Found R k es r)
+  known_found o k es sorted None h = tt
+  known_found o k es sorted (Some ks) h = found_at o k es sorted (position (eq k) ks) (ap (position (eq k)) (sym h))
 
   -- where a key stands, found by a comparison with each
   pub among_found : (o : IsTotalOrder R) (k : K) (es : List (K × X)) → T (is_sorted R es) → (r : Option ℕ) → r ≡ position (λ e. eq k e.0) es → Found R k es r

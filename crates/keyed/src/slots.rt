@@ -219,17 +219,14 @@ impl<K: Ord + Hash + SlotKey + IndexKey + Drop, V: Drop> Slots<K, V> {
         self.filled
     }
 
-    /// Where the slot of `key` stands, if anywhere, where no search is needed: by the index, or among few.
+    /// Where the slot of `key` stands, if anywhere, where no search is needed: among few, or by the index.
     fn known(&self, key: &K) -> Option<Option<usize>>
         ensures { IfSome result (λ found. Found K.cmp key.now self.now found) }
     {
-        if let Some(found) = self.index.find(key) {
-            return Some(found);
-        }
         if self.slots.len() < K::few() {
             return Some(place_among(self.slots.as_slice(), key));
         }
-        None
+        self.index.find(key)
     }
 
     /// Where the slot of `key` stands, or where it belongs.
