@@ -1,4 +1,4 @@
-use Rattle.std.proofs.Common.{◌-◌, ◌≤◌, ◌∙◌, ℕ, Bor, ap, filter, map, nat_lt, refl, reverse, rules, subst, sym}
+use Rattle.std.proofs.Common.{◌-◌, ◌≤◌, ◌∙◌, ℕ, Bor, List, ap, filter, map, nat_lt, refl, reverse, rules, subst, sym}
 use Rattle.std.proofs.lemmas.List.Sorted.{All-permutation, IsNonDecreasingBy-from_sort_by_key, IsPermutation-reverse, answers_always}
 use Rattle.ns_types.specs.declared.snapshot.LiveAllocation.{LiveAllocation}
 use Rattle.ns_preempt.proofs.Levels.{each_of_all, no_levels, sorted_is_levels}
@@ -23,6 +23,7 @@ returns c =
     let up = IsNonDecreasingBy-from_sort_by_key (λ (a : Bor LiveAllocation). a.now.priority) c.sort_by_key.new.self.items
     c.in_ok-sort_by_key.ensures.sorted (λ a r q k. search rules) in
     let stable = c.sort_by_key.ensures.stable (λ a. a.now.priority) (answers_always _ _ _ (λ f a r g h. search rules)) in
-    let order = c.in_ok-order.ensures ∙ ap (λ live. filter (λ (a : LiveAllocation). nat_lt a.priority (c.args.priority - 9)) (reverse live)) c.as_slice.ensures in
+    let evicted = λ (live : List LiveAllocation). filter (λ a. nat_lt a.priority (c.args.priority - 9)) (reverse live) in
+    let order = c.in_ok-order.ensures ∙ ap evicted c.as_slice.ensures in
     sorted_is_levels key seen at (λ a p. refl) (c.args.priority - 9) c.in_ok-order.order.items c.sort_by_key.new.self.items (reverse c.args.live.now)
     order c.sort_by_key.ensures.permutation up stable
