@@ -9,7 +9,6 @@ use Rattle.keyed.specs.Table.{flat, row_at}
 use Rattle.keyed.proofs.Ordered.{absent, below_tied}
 use Rattle.keyed.proofs.Tables.{get-rows}
 use Rattle.ns_types.specs.declared.allocation.Allocation.{Allocation}
-use Rattle.ns_types.specs.declared.snapshot.PoolNode.{PoolNode}
 use Rattle.ns_types.specs.declared.resources.Resources.{Resources}
 use Rattle.ns_types.specs.State.Resources.{none}
 use Rattle.ns_types.specs.State.Names.{ByNumber, Key, Name, name_cmp, same_name}
@@ -22,11 +21,13 @@ use Rattle.ns_types.proofs.Tests.{first, not_Some, second}
 use Rattle.ns_live_index.specs.declared.live.Live.{Live}
 use Rattle.ns_live_index.specs.Index.{Indexes, IsEmpty, IsRight, KeepsKeys, with_changes}
 use Rattle.ns_live_index.specs.Naming.{AreKept, HoldsSame, KeepsNames, KeepsNodes, PutsQuota, is_quota, use_in}
-use Rattle.ns_live_index.specs.Shown.{KeepsShown, ShowsUnmoved, live_row, shown_at, shown_in}
+use Rattle.ns_live_index.specs.declared.shown.SeenNode.{SeenNode}
+use Rattle.ns_live_index.specs.Shown.{KeepsShown, ShowsUnmoved, base_at, base_in, live_row}
 use Rattle.ns_live_index.proofs.Kept.{index_kept, pools_kept}
 use Rattle.ns_live_index.proofs.PutLoads.{empty_indexes}
 use Rattle.ns_live_index.proofs.Puts.{indexes_same}
 use Rattle.ns_live_index.proofs.Totals.{are_still_kept, total_free}
+use Rattle.ns_live_index.proofs.Unmoved.{none_shown}
 use Rattle.ns_tables.specs.Allocations.{IsTotalOf, live_use, rows_use}
 use Rattle.ns_types.specs.State.Resources.{IsTotal}
 use Rattle.ns_tables.specs.declared.tables.Tables.{Tables}
@@ -69,7 +70,7 @@ uses_in slots ns = use_at (flat (find name_cmp ns slots))
 
 pub record IsIndexing (live : Live) (rest slots : Slots) : Type 0 where
   pub index : Indexes (rows_but rest slots) live
-  pub shown : (pool name : Name) → shown_at live pool name ≡ None
+  pub shown : (pool name : Name) → base_at live pool name ≡ None
   pub quotas : AreKept (quotas_but rest slots) (uses_in slots) live.quotas
   pub sorted : T (is_sorted name_cmp rest)
   pub found : (k : Name) → is_some (find name_cmp k rest) ≡ true → find name_cmp k slots ≡ find name_cmp k rest
@@ -205,7 +206,7 @@ module _ (x : Name × Option TenantRows) (rest left slots : Slots) (is : rest �
           index = indexes_same (with_changes x.0 tenant.allocations.slots (rows_but rest slots)) (rows_but left slots) done
               (index_kept (with_changes x.0 tenant.allocations.slots (rows_but rest slots)) new done (pools_kept new done (put.0 ∙ room.0))
               (index (index_kept (rows_but rest slots) old made keys h.index))) (λ key. sym (put_there key));
-          shown = λ pool name. ap (λ shown. shown_in shown pool name) (put.1 ∙ room.1) ∙ by pool name (shown_at new pool name) refl;
+          shown = λ pool name. ap (λ shown. base_in shown pool name) (put.1 ∙ room.1) ∙ by pool name (base_at new pool name) refl;
           quotas = subst (λ quotas. AreKept quotas (uses_in slots) done.quotas)
               (λ i ns. (ap (λ r. cond (same_name ns x.0) r (quotas_but rest slots ns)) (its ∙ sym (ap quota_in at)) ∙ moved_as quota_in ns) i)
               (put_names (quotas_but rest slots) (uses_in slots) (are_still_kept new.quotas mid.quotas room_names (quotas_but rest slots) (uses_in slots)
@@ -215,16 +216,17 @@ module _ (x : Name × Option TenantRows) (rest left slots : Slots) (is : rest �
           found = found_later;
         })
       where
-        by : (pool name : Name) (r : Option PoolNode) → shown_at new pool name ≡ r → shown_at new pool name ≡ None
+        by : (pool name : Name) (r : Option SeenNode) → base_at new pool name ≡ r → base_at new pool name ≡ None
         by pool name None e = e
-        by pool name (Some node) e = absurd (not_Some node (sym (h.shown pool name) ∙ sym (ap (λ s. shown_in s pool name) kept.0) ∙ (shown pool name node e).0))
+        by pool name (Some seen) e = absurd (not_Some seen (sym (h.shown pool name) ∙ sym (ap (λ s. base_in s pool name) kept.0)
+            ∙ (shown.bases pool name seen e).0))
 
 pub all_indexed : (t : Tables) (live : Live) (rest slots : Slots) → slots ≡ entries t.tenants → rest ≡ [] → IsIndexing live rest slots →
     IsRight (world_of t) live
 all_indexed t live rest slots is nothing h = record {
   index = indexes_same (rows_but rest slots) (allocation_at (world_of t)) live h.index
       (λ key. sym (ap (λ l. rows_but l slots key) nothing ∙ ap (λ l. rows_in l key) is ∙ sym (stored key)));
-  shown = λ pool name node e. absurd (not_Some node (sym (h.shown pool name) ∙ e));
+  shown = none_shown (world_of t) live h.shown;
   quotas = subst (λ quotas. AreKept quotas (use_in (world_of t).tenants) live.quotas)
       (λ i ns. (ap (λ l. quotas_but l slots ns) nothing ∙ ap (λ l. quota_in (flat (find name_cmp ns l))) is ∙ sym (named ns)) i)
       (subst (λ uses. AreKept (quotas_but rest slots) uses live.quotas) (λ i ns. (ap (λ l. uses_in l ns) is ∙ sym (used ns)) i) h.quotas);

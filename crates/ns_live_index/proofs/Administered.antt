@@ -23,17 +23,16 @@ use Rattle.ns_types.proofs.Leads.{Leads, leads_found, leads_lift, leads_unless, 
 use Rattle.ns_types.proofs.Lists.{left_none, not_both, right_none}
 use Rattle.ns_types.proofs.Named.{names, one_name, one_number}
 use Rattle.ns_types.proofs.Tables.{none_of_any, tied}
-use Rattle.ns_types.proofs.Tests.{not_Some}
 use Rattle.ns_live_index.specs.Index.{IsRight}
 use Rattle.ns_live_index.specs.Laws.{AdministrationKeepsRight, EmptyIsRightAtFirst, SoundLoadsFit}
 use Rattle.ns_live_index.specs.Naming.{AreNamed, KeepsNodes, is_quota, use_in}
-use Rattle.ns_live_index.specs.Shown.{live_row, shown_in}
+use Rattle.ns_live_index.specs.Shown.{base_in, live_row, shown_in}
 use Rattle.ns_live_index.specs.declared.live.Live.{Live}
 use Rattle.ns_live_index.proofs.Kept.{pools_kept}
 use Rattle.ns_live_index.proofs.PutLoads.{empty_indexes, still_loaded}
 use Rattle.ns_live_index.proofs.Bounded.{load_counted, sound_within}
 use Rattle.ns_live_index.proofs.Totals.{total_free}
-use Rattle.ns_live_index.proofs.Unmoved.{is_live_there, live_alike, no_live_row, shown_still}
+use Rattle.ns_live_index.proofs.Unmoved.{is_live_there, live_alike, no_live_row, none_shown, same_until, shown_still}
 
 -- ---- what is live in a namespace, where it is there
 
@@ -53,7 +52,11 @@ right_again w w' live live' same right nodes named = record {
       (pools_kept live live' nodes.0).loads
       (λ pool node key. same.rows pool node key.0 key.1);
   shown = shown_still w w' live live' right (λ pool name node is.
-      (ap (λ shown. shown_in shown pool name) (sym nodes.1) ∙ is, ((λ key. same.rows pool name key.0 key.1), same.nodes pool name)));
+      (ap (λ shown. shown_in shown pool name) (sym nodes.1) ∙ is, ((λ key. same.rows pool name key.0 key.1), same.nodes pool name)))
+      (λ pool name seen is. (
+        ap (λ shown. base_in shown pool name) (sym nodes.1) ∙ is,
+        same_until pool name seen.last (allocation_at w) (allocation_at w') (λ key. same.rows pool name key.0 key.1),
+      ));
   quotas = named;
 }
 
@@ -213,7 +216,7 @@ empty_right secret live none = record {
   index = empty_indexes (allocation_at (opening secret).world) live
       (λ pool node key. none.keys pool node key ∙ sym (is_live_there pool node (allocation_at (opening secret).world key)
       ∙ ap is_some (dead pool node key))) none.loads dead;
-  shown = λ pool name node is. absurd (not_Some node (sym (none.shown pool name) ∙ is));
+  shown = none_shown (opening secret).world live none.shown;
   quotas = record {
     names = λ quota ns. none.names quota ns ∙ sym (ap (λ r. is_quota (option_and_then (λ (t : Tenant). t.namespace.quota) r) quota)
         (get-insert names empty default_name opening_tenant ns) ∙ unnamed quota ns (same_name ns default_name));

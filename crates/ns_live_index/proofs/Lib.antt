@@ -14,3 +14,4 @@ pub mod QuotaLevels
 pub mod Showing
 pub mod Totals
 pub mod Unmoved
+pub mod Until

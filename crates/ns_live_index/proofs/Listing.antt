@@ -89,36 +89,40 @@ flat_alike f g (a ∷ xs) h = λ i. h.0 i ++ flat_alike f g xs h.1 i
 abbrev pub shown : Key × Allocation → Name × (ℕ × Allocation)
 shown found = (found.0.0, (found.0.1, found.1))
 
-module _ (w : World) (pool node : Name) (held : KeySet)
-    (right : (key : Key) → holds_key held key ≡ option_map_or (is_live_on pool node) (allocation_at w key) false) where
+-- the allocations of all namespaces that pass a test
+abbrev pub passing : World → (Allocation → Bool) → List (Name × (ℕ × Allocation))
+passing w passes = flat_map (λ t. map (λ a. (t.0, a)) (filter (λ a. passes a.1) (entries t.1.allocations))) (entries w.tenants)
+
+module _ (w : World) (passes : Allocation → Bool) (held : KeySet)
+    (right : (key : Key) → holds_key held key ≡ option_map_or passes (allocation_at w key) false) where
   at_row : (ns : Name) (t : Tenant) (n : ℕ) (row : Allocation) → get w.tenants ns ≡ Some t → get t.allocations n ≡ Some row →
-      holds_key held (ns, n) ≡ is_live_on pool node row
-  at_row ns t n row at there = right (ns, n) ∙ ap (λ r. option_map_or (is_live_on pool node) r false)
+      holds_key held (ns, n) ≡ passes row
+  at_row ns t n row at there = right (ns, n) ∙ ap (λ r. option_map_or passes r false)
       (ap (option_and_then (λ (x : Tenant). get x.allocations n)) at ∙ there)
 
   -- of a namespace, at its numbers
   pub live_rows : (ns : Name) (t : Tenant) (its : ByNumber (Option Unit)) → get w.tenants ns ≡ Some t → row_at held.numbers ns ≡ Some its →
-      filter (λ a. is_live_on pool node a.1) (entries t.allocations) ≡ found_at (get t.allocations) (keys (rows its))
-  live_rows ns t its at is = filter_at_keys numbers one_number t.allocations (rows its) (λ _ row. is_live_on pool node row)
+      filter (λ a. passes a.1) (entries t.allocations) ≡ found_at (get t.allocations) (keys (rows its))
+  live_rows ns t its at is = filter_at_keys numbers one_number t.allocations (rows its) (λ _ row. passes row)
       (λ n row there. sym (at_row ns t n row at there) ∙ ap (λ r. option_map_or (λ (s : ByNumber (Option Unit)). is_some (row_at s n)) r false) is
       ∙ ap is_some (sym (get-rows numbers its n)))
 
   -- a namespace without keys has none
   no_rows : (ns : Name) (t : Tenant) → get w.tenants ns ≡ Some t → contains_key (rows held.numbers) ns ≡ false →
-      filter (λ a. is_live_on pool node a.1) (entries t.allocations) ≡ []
-  no_rows ns t at out = filter_none (λ a. is_live_on pool node a.1) (entries t.allocations)
-      (each_row numbers one_number (λ _ row. is_live_on pool node row ≡ false) t.allocations
+      filter (λ a. passes a.1) (entries t.allocations) ≡ []
+  no_rows ns t at out = filter_none (λ a. passes a.1) (entries t.allocations)
+      (each_row numbers one_number (λ _ row. passes row ≡ false) t.allocations
       (λ n row there. sym (at_row ns t n row at there) ∙ ap (λ r. option_map_or (λ (s : ByNumber (Option Unit)). is_some (row_at s n)) r false)
       (sym (get-rows names held.numbers ns) ∙ none_there (get (rows held.numbers) ns) out)))
 
-  -- its live allocations are the rows at its keys, in the order of the keys: no other row is looked at
-  pub allocations_are : allocations_on w pool node ≡ map shown (found_at (allocation_at w) (keys_in held))
-  allocations_are = flat_at_keys names one_name w.tenants (rows held.numbers)
-      (λ ns t. map (λ a. (ns, a)) (filter (λ a. is_live_on pool node a.1) (entries t.allocations)))
+  -- those that pass are the rows at its keys, in the order of the keys: no other row is looked at
+  pub passing_are : passing w passes ≡ map shown (found_at (allocation_at w) (keys_in held))
+  passing_are = flat_at_keys names one_name w.tenants (rows held.numbers)
+      (λ ns t. map (λ a. (ns, a)) (filter (λ a. passes a.1) (entries t.allocations)))
       (λ ns t at out. ap (map (λ a. (ns, a))) (no_rows ns t at out))
-      ∙ flat_alike (λ e. option_map_or (λ (t : Tenant). map (λ a. (e.0, a)) (filter (λ a. is_live_on pool node a.1) (entries t.allocations)))
+      ∙ flat_alike (λ e. option_map_or (λ (t : Tenant). map (λ a. (e.0, a)) (filter (λ a. passes a.1) (entries t.allocations)))
       (get w.tenants e.0) []) (λ e. map shown (found_at (allocation_at w) (map (λ n. (e.0, n)) (keys (rows e.1))))) (entries (rows held.numbers))
-      (each_row names one_name (λ ns its. option_map_or (λ (t : Tenant). map (λ a. (ns, a)) (filter (λ a. is_live_on pool node a.1) (entries t.allocations)))
+      (each_row names one_name (λ ns its. option_map_or (λ (t : Tenant). map (λ a. (ns, a)) (filter (λ a. passes a.1) (entries t.allocations)))
       (get w.tenants ns) [] ≡ map shown (found_at (allocation_at w) (map (λ n. (ns, n)) (keys (rows its))))) (rows held.numbers)
       (λ ns its is. by ns its (sym (get-rows names held.numbers ns) ∙ is) (get w.tenants ns) refl))
       ∙ sym (found_flat (allocation_at w) shown (λ e. map (λ n. (e.0, n)) (keys (rows e.1))) (entries (rows held.numbers)))
@@ -142,16 +146,22 @@ module _ (w : World) (pool node : Name) (held : KeySet)
           one (Some row) later = ap (λ l. (ns, (n, row)) ∷ l) later
 
       by : (ns : Name) (its : ByNumber (Option Unit)) → row_at held.numbers ns ≡ Some its → (r : Option Tenant) → get w.tenants ns ≡ r
-          → option_map_or (λ (t : Tenant). map (λ a. (ns, a)) (filter (λ a. is_live_on pool node a.1) (entries t.allocations))) r []
+          → option_map_or (λ (t : Tenant). map (λ a. (ns, a)) (filter (λ a. passes a.1) (entries t.allocations))) r []
           ≡ map shown (found_at (allocation_at w) (map (λ n. (ns, n)) (keys (rows its))))
       by ns its is None at = sym (ap (map shown) (nowhere ns at (keys (rows its))))
       by ns its is (Some t) at = ap (map (λ a. (ns, a))) (live_rows ns t its at is) ∙ there ns t at (keys (rows its))
+
+module _ (w : World) (pool node : Name) (held : KeySet)
+    (right : (key : Key) → holds_key held key ≡ option_map_or (is_live_on pool node) (allocation_at w key) false) where
+  -- the live allocations of the node
+  pub allocations_are : allocations_on w pool node ≡ map shown (found_at (allocation_at w) (keys_in held))
+  allocations_are = passing_are w (is_live_on pool node) held right
 
   -- no other namespace is looked at for the jobs that lose one with the node
   pub losses_are : losses pool node w ≡ flat_map (λ e. option_map_or (λ t. map (λ a. (e.0, a)) (losing_jobs pool node t)) (get w.tenants e.0) [])
       (entries (rows held.numbers))
   losses_are = flat_at_keys names one_name w.tenants (rows held.numbers) (λ ns t. map (λ a. (ns, a)) (losing_jobs pool node t))
-      (λ ns t at out. ap (λ es. map (λ (a : Allocation). (ns, a)) (values (from_entries {R = name_cmp} (map (λ a. (a.1.job, a.1)) es)))) (no_rows ns t at out)
+      (λ ns t at out. ap (λ es. map (λ (a : Allocation). (ns, a)) (values (from_entries {R = name_cmp} (map (λ a. (a.1.job, a.1)) es)))) (no_rows w (is_live_on pool node) held right ns t at out)
       ∙ ap (map (λ (a : Allocation). (ns, a))) no_job)
     where
       no_job : values (from_entries {X = Allocation} {R = name_cmp} []) ≡ []
@@ -226,4 +236,4 @@ pub live_set : (w : World) (pool node : Name) (held : KeySet) →
     ((key : Key) → holds_key held key ≡ option_map_or (is_live_on pool node) (allocation_at w key) false) →
     (ns : Name) (t : Tenant) (n : ℕ) (row : Allocation) → get w.tenants ns ≡ Some t → get t.allocations n ≡ Some row →
     has_key (keys_in held) (ns, n) ≡ is_live_on pool node row
-live_set w pool node held right ns t n row at there = has_key-keys_in held (ns, n) ∙ at_row w pool node held right ns t n row at there
+live_set w pool node held right ns t n row at there = has_key-keys_in held (ns, n) ∙ at_row w (is_live_on pool node) held right ns t n row at there

@@ -13,7 +13,7 @@ use Rattle.ns_live_index.specs.declared.live.Live.{Live}
 use Rattle.ns_live_index.specs.Levels.{has_pool_room, holds_in_pool, keys_at, load_at}
 use Rattle.ns_live_index.specs.Loads.{keys_use}
 use Rattle.ns_live_index.specs.Naming.{AreNamed, holds_at, total_at}
-use Rattle.ns_live_index.specs.Shown.{AreShown, shown_at}
+use Rattle.ns_live_index.specs.Shown.{AreShown, base_at}
 
 -- whether the index holds the key on this node of this pool
 abbrev pub holds : Live → Name → Name → Key → Bool
@@ -47,11 +47,11 @@ pub record IsRight (w : World) (live : Live) : Type 0 where
   pub shown : AreShown w live
   pub quotas : AreNamed w live
 
--- no keys and loads, no node is shown, and no namespace is held to name a quota
+-- no keys and loads, no node is kept, and no namespace is held to name a quota
 pub record IsEmpty (live : Live) : Type 0 where
   pub keys : (pool node : Name) (key : Key) → holds live pool node key ≡ false
   pub loads : (pool node : Name) → load_at live pool node ≡ none
-  pub shown : (pool name : Name) → shown_at live pool name ≡ None
+  pub shown : (pool name : Name) → base_at live pool name ≡ None
   pub names : (quota ns : Name) → holds_at live.quotas (quota, ns) ≡ false
   pub totals : (quota : Name) → total_at live.quotas quota ≡ none
 

@@ -6,3 +6,4 @@ pub mod Loads
 pub mod Moving
 pub mod Naming
 pub mod Shown
+pub mod Until

@@ -1,14 +1,13 @@
 //! The live allocations on all nodes and what they take, the nodes as they were last shown, and which namespaces name which
 //! quota, with what they use.
 
-ghost use Rattle.std.specs.Prelude.{◌≡◌, ℕ, false, IfOk, IsTrue, None, OnErr, OnOk, Option, Some, is_some};
+ghost use Rattle.std.specs.Prelude.{◌≡◌, ◌≤◌, ℕ, false, IfOk, IsTrue, None, OnErr, OnOk, Option, Some, is_some};
 ghost use Rattle.std.specs.Prelude.{option_copied};
 ghost use Rattle.std.specs.Option.{option_map_or};
 ghost use Rattle.keyed.specs.Over.{over};
 ghost use Rattle.keyed.specs.Table.{row_at, rows};
 ghost use Rattle.ns_types.specs.declared.allocation.Allocation.{Allocation};
 ghost use Rattle.ns_types.specs.declared.resources.Resources.{Resources};
-ghost use Rattle.ns_types.specs.declared.snapshot.PoolNode.{PoolNode};
 ghost use Rattle.ns_types.specs.State.Names.{Key, Name, same_key, same_name};
 ghost use Rattle.ns_types.specs.State.Resources.{IsCounted};
 ghost use Rattle.ns_types.specs.State.Rows.{World, is_live, is_live_on};
@@ -24,11 +23,13 @@ ghost use Rattle.ns_live_index.specs.Levels.{holds_in_pool, has_pool_room, load_
 ghost use Rattle.ns_live_index.specs.Moving.{AddsLoad, LeavesInPool, MovesInPool, taken};
 ghost use Rattle.ns_live_index.specs.Naming.{AreKept, AreNamed, HasNameRoom, HoldsSame, KeepsNames, KeepsNodes};
 ghost use Rattle.ns_live_index.specs.Naming.{PutsQuota, with_use};
-ghost use Rattle.ns_live_index.specs.Shown.{ForgetsNodes, KeepsShown, ShowsSame, ShowsThere, ShowsUnmoved, live_row, shown_at};
+ghost use Rattle.ns_live_index.specs.Shown.{ForgetsNodes, HidesRow, KeepsShown, ShowsSame, ShowsThere, ShowsUnmoved, base_at};
+ghost use Rattle.ns_live_index.specs.Shown.{shown_at, shown_so};
+ghost use Rattle.ns_live_index.specs.declared.shown.ShownNodes.{ShownNodes};
 
 use crate::naming::{QuotaNames, copied_names, has_name};
 use crate::pool_keys::PoolKeys;
-use crate::shown::ShownNodes;
+use crate::shown::{SeenNode, ShownNodes};
 use keyed::{KeySet, NameTable, NumberTable};
 use ns_tables::AllocationTable;
 use ns_types::allocation::Allocation;
@@ -86,14 +87,24 @@ fn size_on(row: Option<&Allocation>, pool: &Text, node: &Text) -> Resources
     }
 }
 
-/// Whether the row is live only on a node on which the last one is live.
+/// Whether the row is live only on a node on which the last one is live, at no later place.
 fn is_beside(last: Option<&Allocation>, row: Option<&Allocation>) -> bool
-    ensures { IsTrue result → (pool : Name) (name : Name) →
-        live_row pool name (option_copied last.entry) ≡ None →
-        live_row pool name (option_copied row.entry) ≡ None }
+    ensures { IsTrue result → (shown : ShownNodes) → HidesRow (option_copied last.entry) shown →
+        HidesRow (option_copied row.entry) shown }
 {
     match row {
-        Some(row) => is_live_on(last, &row.pool, &row.node),
+        Some(row) => is_live_on(last, &row.pool, &row.node) && is_placed_by(last, row.place),
+        None => true,
+    }
+}
+
+/// Whether the row, if any, is placed no later.
+fn is_placed_by(row: Option<&Allocation>, place: u64) -> bool
+    ensures { (its : Allocation) → option_copied row.entry ≡ Some its →
+        IsTrue result → its.place ≤ place }
+{
+    match row {
+        Some(row) => row.place <= place,
         None => true,
     }
 }
@@ -130,7 +141,8 @@ impl Live {
     }
 
     /// The row under this key was `before` and is `after` from now on. It takes no memory: for a row that is live there
-    /// has to be room, which other keys keep. A node on which one of them is live is not shown any more.
+    /// has to be room, which other keys keep. A node on which one of them is live is not shown any more. It is kept as a base
+    /// where that is placed after its last.
     pub fn put(
         &mut self,
         namespace: &Text,
@@ -165,9 +177,7 @@ impl Live {
         after: Option<&Allocation>,
     )
         requires room { HasRoomFor self.old (namespace.now, number) (option_copied after) }
-        requires last { (pool : Name) (name : Name) (node : PoolNode) →
-            shown_at self.old pool name ≡ Some node →
-            live_row pool name (option_copied last) ≡ None }
+        requires last { HidesRow (option_copied last) self.old.shown }
         ensures index { (row_of : Key → Option Allocation) → Indexes row_of self.old →
             row_of (namespace.now, number) ≡ option_copied before.entry →
             Indexes (with_row (namespace.now, number) (option_copied after.entry) row_of) self.new }
@@ -180,9 +190,7 @@ impl Live {
         ensures room { (pool : Name) (node : Name) (key : Key) →
             same_key key (namespace.now, number) ≡ false →
             IsTrue (has_room self.old pool node key) → IsTrue (has_room self.new pool node key) }
-        ensures last { (pool : Name) (name : Name) (node : PoolNode) →
-            shown_at self.new pool name ≡ Some node →
-            live_row pool name (option_copied after.entry) ≡ None }
+        ensures last { HidesRow (option_copied after.entry) self.new.shown }
     {
         self.put_key(namespace, number, before, after);
         self.shown.forget_row(before);
@@ -296,7 +304,7 @@ impl Live {
         }
     }
 
-    /// The changed nodes of the pool are not shown any more. It takes no memory.
+    /// The changed nodes of the pool are not shown any more: those that are still there are kept as bases. It takes no memory.
     pub fn forget_all(&mut self, pool: &Text, changes: &NameTable<Node>)
         ensures keys { KeepsKeys self.old self.new }
         ensures shown { ForgetsNodes pool.now changes.now self.old self.new }
@@ -314,20 +322,22 @@ impl Live {
         self.shown.get(pool, name)
     }
 
+    /// The node as it was last shown, behind or not: up to its last place the live allocations are the same.
+    pub fn base_of(&self, pool: &Text, name: &Text) -> Option<&SeenNode>
+        ensures { option_copied result ≡ base_at self.now pool.now name.now }
+    {
+        self.shown.base_of(pool, name)
+    }
+
     /// Shows the node so from now on. Want of memory is the only error.
-    pub fn show(
-        &mut self,
-        pool: &Text,
-        name: &Text,
-        node: Shared<PoolNode>,
-    ) -> Result<(), AllocError>
+    pub fn show(&mut self, pool: &Text, name: &Text, seen: SeenNode) -> Result<(), AllocError>
         ensures keys { KeepsKeys self.old self.new }
         ensures names { KeepsNames self.old self.new }
         ensures ok { OnOk result (
-            ShowsThere pool.now name.now (Some node) self.old.shown self.new.shown) }
+            ShowsThere pool.now name.now (shown_so seen) self.old.shown self.new.shown) }
         ensures err { OnErr result (ShowsSame self.old.shown self.new.shown) }
     {
-        self.shown.put(self.alloc, pool, name, node)
+        self.shown.put(self.alloc, pool, name, seen)
     }
 
     /// The keys of the live allocations on this node, where there are some.

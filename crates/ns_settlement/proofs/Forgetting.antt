@@ -15,7 +15,7 @@ use Rattle.ns_settlement.specs.Indexed.{ForgetsChanged}
 use Rattle.ns_live_index.specs.declared.live.Live.{Live}
 use Rattle.ns_live_index.specs.Index.{KeepsKeys}
 use Rattle.ns_live_index.specs.Naming.{KeepsNames}
-use Rattle.ns_live_index.specs.Shown.{ForgetsNodes, shown_at}
+use Rattle.ns_live_index.specs.Shown.{ForgetsNodes, KeepsBases, shown_at}
 use Rattle.ns_live_index.proofs.Kept.{kept_same, kept_then}
 
 abbrev Slots : Type 0
@@ -30,15 +30,16 @@ pub record IsForgetting (old now : Live) (done : Slots) : Type 0 where
   pub names : KeepsNames old now
   pub shown : (pool name : Name) (node : PoolNode) → shown_at now pool name ≡ Some node →
       (shown_at old pool name ≡ Some node) × Each (IsOther pool name) done
+  pub bases : KeepsBases old now
 
 pub begun : (live : Live) → IsForgetting live live []
-begun live = record { keys = kept_same live; names = refl; shown = λ pool name node is. (is, tt) }
+begun live = record { keys = kept_same live; names = refl; shown = λ pool name node is. (is, tt); bases = λ pool name seen is. is }
 
 module _ (slots : Slots) (i : ℕ) (e : Name × Option PoolChange) (lt : i < length slots) (is : e ≡ get_or slots i e) (old now : Live)
     (h : IsForgetting old now (take i slots)) where
   one_more : (new : Live) → KeepsKeys now new → KeepsNames now new → ((pool name : Name) (node : PoolNode) → shown_at new pool name ≡ Some node →
-      (shown_at now pool name ≡ Some node) × IsOther pool name e) → IsForgetting old new (take (i + 1) slots)
-  one_more new keys names forgets = record {
+      (shown_at now pool name ≡ Some node) × IsOther pool name e) → KeepsBases now new → IsForgetting old new (take (i + 1) slots)
+  one_more new keys names forgets bases = record {
     keys = kept_then old now new h.keys keys;
     names = names ∙ h.names;
     shown = λ pool name node at.
@@ -48,17 +49,19 @@ module _ (slots : Slots) (i : ℕ) (e : Name × Option PoolChange) (lt : i < len
           subst (Each (IsOther pool name)) (sym (take_more slots i e lt ∙ ap (λ x. take i slots ++ x ∷ []) (sym is)))
               (each_append (IsOther pool name) (take i slots) (e ∷ []) before.1 (g.1, tt)),
         );
+    bases = λ pool name seen at. h.bases pool name seen (bases pool name seen at);
   }
 
   pub one_forgotten : (new : Live) (x : PoolChange) → e.1 ≡ Some x → KeepsKeys now new → KeepsNames now new → ForgetsNodes e.0 x.nodes now new →
       IsForgetting old new (take (i + 1) slots)
   one_forgotten new x some keys names forgets = one_more new keys names (λ pool name node at.
-      let g = forgets pool name node at in
-      (g.0, λ y there own. subst (λ x. get x.nodes name ≡ None) (same_Some x y (sym some ∙ there)) (g.1 own)))
+      let g = forgets.nodes pool name node at in
+      (g.0, λ y there own. subst (λ x. get x.nodes name ≡ None) (same_Some x y (sym some ∙ there)) (g.1 own))) forgets.bases
 
   pub none_forgotten : (new : Live) → e.1 ≡ None → new ≡ now → IsForgetting old new (take (i + 1) slots)
   none_forgotten new none stays = subst (λ live. IsForgetting old live (take (i + 1) slots)) (sym stays)
-      (one_more now (kept_same now) refl (λ pool name node at. (at, λ y there own. absurd (not_Some y (sym none ∙ there)))))
+      (one_more now (kept_same now) refl (λ pool name node at. (at, λ y there own. absurd (not_Some y (sym none ∙ there))))
+      (λ pool name seen at. at))
 
 other_all : (pool name : Name) (es : Slots) → Each (IsOther pool name) es → (x : PoolChange) → flat (find name_cmp pool es) ≡ Some x →
     get x.nodes name ≡ None
@@ -72,8 +75,11 @@ other_all pool name (e ∷ es) h x at = by (other_all pool name es h.1 x) (same_
 
 pub all_forgotten : (changes : FinMap name_cmp (Option PoolChange)) (slots : Slots) → slots ≡ entries changes → (old now : Live) →
     IsForgetting old now slots → ForgetsChanged changes old now
-all_forgotten changes slots is old now h pool name node at =
-    let g = h.shown pool name node at in (
-      g.0,
-      λ x there. other_all pool name (entries changes) (subst (Each (IsOther pool name)) is g.1) x (sym (ap flat (get-entries changes pool)) ∙ there),
-    )
+all_forgotten changes slots is old now h = record {
+  nodes = λ pool name node at.
+      let g = h.shown pool name node at in (
+        g.0,
+        λ x there. other_all pool name (entries changes) (subst (Each (IsOther pool name)) is g.1) x (sym (ap flat (get-entries changes pool)) ∙ there),
+      );
+  bases = h.bases;
+}

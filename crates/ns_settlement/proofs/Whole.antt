@@ -31,7 +31,8 @@ use Rattle.ns_settlement.proofs.Reserved.{is_some_class, releases_is}
 use Rattle.ns_live_index.specs.declared.live.Live.{Live}
 use Rattle.ns_live_index.specs.Index.{IsRight, KeepsKeys}
 use Rattle.ns_live_index.specs.Naming.{AreKept, AreKeptFor, KeepsNames, quota_in, use_in}
-use Rattle.ns_live_index.specs.Shown.{KeepsShown, ShowsUnmoved, live_row, shown_in}
+use Rattle.ns_live_index.specs.Shown.{KeepsShown, ShowsUnmoved, kept_in, live_row}
+use Rattle.ns_live_index.specs.Until.{row_until}
 use Rattle.ns_live_index.proofs.Kept.{index_kept}
 use Rattle.ns_live_index.proofs.Unmoved.{shown_still, still_right}
 use Rattle.ns_tables.specs.declared.tables.PoolRows.{PoolRows}
@@ -211,14 +212,16 @@ index_is s old new before mid live rows pools followed unmoved kept keys forgets
   index = subst (λ tenants. IsRightFor tenants live) (sym rows) (index_kept (allocation_in (changed_owners settled_tenant s.tenants
       (owners tenant_of old.tenants))) mid live keys (followed right.index));
   shown = shown_still (world_of old) (world_of new) before live right (λ pool name node is.
-      let g = forgets pool name node is in
-      let h = unmoved pool name node g.0 in (
+      let g = forgets.nodes pool name node is in
+      let h = unmoved.nodes pool name node g.0 in (
         h.0,
         (
           (λ key. ap (λ tenants. live_row pool name (allocation_in tenants key)) rows ∙ h.1 key),
           ap (λ m. option_and_then (λ p. get p.nodes name) (get m pool)) pools ∙ node_kept s.pools s.rooms (owners pool_of old.pools) pool name g.1,
         ),
-      ));
+      )) (λ pool name seen is.
+      let h = unmoved.bases pool name seen (forgets.bases pool name seen is) in
+      (h.0, λ key. ap (λ tenants. row_until pool name seen.last (allocation_in tenants key)) rows ∙ h.1 key));
   quotas = subst (λ tenants. AreKeptFor tenants live) (sym rows)
       (subst (AreKept (quota_in (changed_owners settled_tenant s.tenants (owners tenant_of old.tenants)))
       (use_in (changed_owners settled_tenant s.tenants (owners tenant_of old.tenants)))) (sym still) (kept right.quotas));
@@ -227,7 +230,7 @@ index_is s old new before mid live rows pools followed unmoved kept keys forgets
 pub index_stays : (old new : Tables) (before live : Live) → world_of new ≡ world_of old → KeepsKeys before live → KeepsShown before live →
     IsRight (world_of old) before → IsRight (world_of new) live
 index_stays old new before live same keys shown right = subst (λ w. IsRight w live) (sym same)
-    (still_right (world_of old) before live keys shown.1 (λ pool name. ap (λ s. shown_in s pool name) shown.0) right)
+    (still_right (world_of old) before live keys shown.1 (λ pool name. ap (λ s. kept_in s pool name) shown.0) right)
 
 -- ---- numbers within their bounds
 

@@ -11,7 +11,7 @@ use Rattle.ns_change.specs.declared.change.PoolChange.{PoolChange}
 use Rattle.ns_change.specs.declared.change.SettledTenant.{SettledTenant}
 use Rattle.ns_live_index.specs.declared.live.Live.{Live}
 use Rattle.ns_live_index.specs.Index.{HasRoomForAll, Indexes}
-use Rattle.ns_live_index.specs.Shown.{shown_at}
+use Rattle.ns_live_index.specs.Shown.{KeepsBases, shown_at}
 
 abbrev pub allocation_in : ByName Tenant → Key → Option Allocation
 allocation_in tenants key = option_and_then (λ t. get t.allocations key.1) (get tenants key.0)
@@ -26,6 +26,7 @@ HasIndexRoom changes live = (name : Name) (x : SettledTenant) → row_at changes
     HasRoomForAll live name x.rows.allocations
 
 -- what is still shown was shown before, and is no node that changes
-abbrev pub ForgetsChanged : FinMap name_cmp (Option PoolChange) → Live → Live → Type 0
-ForgetsChanged changes old new = (pool name : Name) (node : PoolNode) → shown_at new pool name ≡ Some node →
-    (shown_at old pool name ≡ Some node) × ((x : PoolChange) → row_at changes pool ≡ Some x → get x.nodes name ≡ None)
+pub record ForgetsChanged (changes : FinMap name_cmp (Option PoolChange)) (old new : Live) : Type 0 where
+  pub nodes : (pool name : Name) (node : PoolNode) → shown_at new pool name ≡ Some node →
+      (shown_at old pool name ≡ Some node) × ((x : PoolChange) → row_at changes pool ≡ Some x → get x.nodes name ≡ None)
+  pub bases : KeepsBases old new

@@ -1,4 +1,4 @@
-//! The live allocations of a node, with which those of two nodes are compared at little cost.
+//! The live allocations of a node, kept so that two such lists are compared at little cost.
 
 ghost use Rattle.std.specs.Prelude.{◌≡◌, ◌++◌, ◌∷◌, ◌≤◌, [], IfOk, IfSome, OnErr, OnOk, Some, SomeIff, length, map, slice_get, take, true};
 ghost use Rattle.std.specs.Bool.{OnTrue};
@@ -14,11 +14,12 @@ use crate::text::{Text, same_text};
 use std::alloc::{AllocError, Global};
 use std::marker::Model;
 
-/// So many of the names that came last are looked through for the name of a row.
+/// How many of the last names the name of a new row is compared with.
 const RECENT: usize = 8;
 
-/// Live allocations in the order in which they were placed. Contracts see them as a list. The name of each one's namespace also
-/// stands in a list of names, which may have a name twice; the place there tells most rows of two such lists apart.
+/// Live allocations in the order in which they were placed. Contracts see them as a list. Beside it stands a list of the names of
+/// their namespaces, where a name may stand twice, and for each allocation the place of its name there. Where two such lists have
+/// equal names and equal places, their allocations have equal namespaces, and no name is compared for each allocation.
 pub struct LiveRows {
     rows: Vec<LiveAllocation>,
     names: Vec<Shared<Text>>,
@@ -57,7 +58,7 @@ impl Model for LiveRows {
         × All (λ a. l.least ≤ a.priority) l.rows.items };
 }
 
-/// Where the name stands among those that came last.
+/// The place of the name, if it is one of the last `RECENT`.
 fn recent(names: &[Shared<Text>], name: &Text) -> Option<usize>
     ensures { IfSome result (λ place. slice_get names.now place ≡ Some name.now) }
 {
@@ -72,7 +73,7 @@ fn recent(names: &[Shared<Text>], name: &Text) -> Option<usize>
     None
 }
 
-/// A place at which the name stands. It is put behind the others where it is none of those that came last.
+/// The place of the name. It is put at the end, if it is none of the last `RECENT`.
 fn owner_of(names: &mut Vec<Shared<Text>>, name: &Shared<Text>) -> Result<usize, AllocError>
     ensures kept { KeepsNames names.old.items names.new.items }
     ensures ok { IfOk result (λ place. slice_get names.new.items place ≡ Some name.now) }
@@ -83,6 +84,52 @@ fn owner_of(names: &mut Vec<Shared<Text>>, name: &Shared<Text>) -> Result<usize,
     let place = names.len();
     names.push(name.share()?)?;
     Ok(place)
+}
+
+/// The same names with one more owner each.
+fn shared_names(alloc: Global, names: &[Shared<Text>]) -> Result<Vec<Shared<Text>>, AllocError>
+    ensures { IfOk result (λ shared. shared.items ≡ names.now) }
+{
+    let mut shared = Vec::with_capacity(alloc, names.len())?;
+    for name in names {
+        shared.push(name.share()?)?;
+    }
+    Ok(shared)
+}
+
+fn copied_row(row: &LiveAllocation) -> Result<LiveAllocation, AllocError>
+    ensures { IfOk result (λ copy. copy ≡ row.now) }
+{
+    Ok(LiveAllocation {
+        namespace: row.namespace.share()?,
+        number: row.number,
+        priority: row.priority,
+        size: row.size,
+    })
+}
+
+/// The same rows, with memory for so many.
+fn copied_rows(
+    alloc: Global,
+    rows: &[LiveAllocation],
+    most: usize,
+) -> Result<Vec<LiveAllocation>, AllocError>
+    ensures { IfOk result (λ copy. copy.items ≡ rows.now) }
+{
+    let mut copy = Vec::with_capacity(alloc, most)?;
+    for row in rows {
+        copy.push(copied_row(row)?)?;
+    }
+    Ok(copy)
+}
+
+/// The same places, with memory for so many.
+fn copied_owners(alloc: Global, owners: &[usize], most: usize) -> Result<Vec<usize>, AllocError>
+    ensures { IfOk result (λ copy. copy.items ≡ owners.now) }
+{
+    let mut copy = Vec::with_capacity(alloc, most)?;
+    copy.extend_from_slice(owners)?;
+    Ok(copy)
 }
 
 /// Whether these are the same names.
@@ -145,6 +192,20 @@ impl LiveRows {
         })
     }
 
+    /// The same rows, with memory for so many more. Want of memory is the only error.
+    pub fn copied(&self, alloc: Global, more: usize) -> Result<LiveRows, AllocError>
+        ensures { IfOk result (λ copy. copy ≡ self.now) }
+    {
+        let most = self.rows.len().saturating_add(more);
+        Ok(LiveRows {
+            rows: copied_rows(alloc, self.rows.as_slice(), most)?,
+            names: shared_names(alloc, self.names.as_slice())?,
+            owners: copied_owners(alloc, self.owners.as_slice(), most)?,
+            load: self.load,
+            least: self.least,
+        })
+    }
+
     pub fn as_slice(&self) -> &[LiveAllocation]
         ensures { result.now ≡ self.now }
     {
@@ -189,8 +250,8 @@ impl LiveRows {
         Ok(())
     }
 
-    /// Whether they are the same rows with the same names in the same places. It compares no names but those of the lists.
-    /// Where the answer is no, the rows may still be equal.
+    /// Whether both have equal rows, and their names stand in the same order. It compares no name for each row.
+    /// After a no the rows may still be equal.
     pub fn is_like(&self, other: &LiveRows) -> bool
         ensures { OnTrue result (self.now ≡ other.now) }
     {

@@ -1,16 +1,17 @@
-//! The nodes of a pool, with their live allocations. A node that did not change since it was last shown is shared.
+//! The nodes of a pool, with their live allocations. A node that did not change since it was last shown is shared. One to which
+//! only allocations came is made from what was shown of it.
 
 ghost use Rattle.std.specs.Prelude.{◌≡◌, ◌++◌, IfOk, OnOk, Some, flat_map};
 ghost use Rattle.ns_types.specs.State.Rows.{node_at};
 ghost use Rattle.ns_types.specs.Working.Snapshot.{live_on, nodes_of};
 ghost use Rattle.ns_live_index.specs.Index.{IsRight};
-ghost use Rattle.ns_broker.specs.Seen.{AreNodesOf, IsNodeOf, node_at_slot};
+ghost use Rattle.ns_broker.specs.Seen.{AreNodesOf, IsNodeOf, IsSeenNode, node_at_slot};
 ghost use Rattle.ns_tables.specs.World.{world_of};
 
 use crate::snapshot::placed::live_on;
 use keyed::NameSlot;
 use ns_change::copied_node;
-use ns_live_index::Live;
+use ns_live_index::{Live, SeenNode};
 use ns_tables::Tables;
 use ns_types::node::Node;
 use ns_types::rows::Rows;
@@ -25,20 +26,15 @@ fn made_node(
     pool: &Text,
     name: &Text,
     row: &Node,
-) -> Result<Shared<PoolNode>, AllocError>
+) -> Result<SeenNode, AllocError>
     requires { IsRight (world_of tables.now) live.now }
-    ensures { IfOk result (λ node. node ≡ record {
-      name = name.now;
-      row = row.now;
-      live = live_on (world_of tables.now) pool.now name.now;
-    }) }
+    ensures { IfOk result (λ seen.
+        IsSeenNode (world_of tables.now) pool.now name.now row.now seen) }
 {
-    let node = PoolNode {
-        name: name.clone()?,
-        row: copied_node(row)?,
-        live: live_on(tables, live, pool, name)?,
-    };
-    Shared::new(tables.alloc, node)
+    let copy = name.clone()?;
+    let present = copied_node(row)?;
+    let seen = live_on(tables, live, pool, name)?;
+    seen.into_node(tables.alloc, copy, present)
 }
 
 /// The node as it was last shown. One that changed since is made anew, and shown so from now on.
@@ -61,9 +57,9 @@ fn shared_node(
     if let Some(node) = live.shown_at(pool, name) {
         return node.share();
     }
-    let node = made_node(tables, live, pool, name, row)?;
-    let kept = node.share()?;
-    live.show(pool, name, kept)?;
+    let seen = made_node(tables, live, pool, name, row)?;
+    let node = seen.node.share()?;
+    live.show(pool, name, seen)?;
     Ok(node)
 }
 

@@ -6,4 +6,4 @@ use Rattle.ns_broker.proofs.snapshot.placed.by_place.Goals as goal
 
 pub returns : goal.returns
 returns c = c.in_ok-add_namespaces.ensures
-    ∙ (λ i. fold (add_namespace c.args.tables.now.tenants) ((ap rows c.in_ok-seen.ensures ∙ rows-empty) i) (c.as_slice-slots.ensures i))
+    ∙ (λ i. fold (add_namespace c.args.last c.args.tables.now.tenants) ((ap rows c.in_ok-seen.ensures ∙ rows-empty) i) (c.as_slice.ensures i))

@@ -10,7 +10,7 @@ loop-slot-init c = begun c.args.pool.now c.args.self.now
 pub loop-slot-preserved : goal.loop-slot-preserved
 loop-slot-preserved c = one_forgotten c.args.pool.now c.as_slice-slot-items.result.now c.loop-slot.slot-index c.slot-item.result c.loop-slot-test.true
     c.slot-item.is c.args.self.now c.loop-slot.self (record c.loop-slot.self { shown = c.forget.new.self })
-    (pools_kept c.loop-slot.self (record c.loop-slot.self { shown = c.forget.new.self }) refl) refl c.forget.ensures c.loop-slot.invariant
+    _ (pools_kept c.loop-slot.self (record c.loop-slot.self { shown = c.forget.new.self }) refl) refl c.forget.ensures c.loop-slot.invariant
 
 pub returns-clause-keys : goal.returns-clause-keys
 returns-clause-keys c = c.loop-slot.invariant.keys

@@ -9,6 +9,7 @@ use Rattle.ns_live_index.specs.declared.naming.QuotaNames.{QuotaNames}
 use Rattle.ns_live_index.specs.declared.pool_keys.PoolKeys.{PoolKeys}
 use Rattle.ns_live_index.specs.Levels.{holds_on_node, load_on}
 use Rattle.ns_live_index.specs.Naming.{holds_name}
+use Rattle.ns_live_index.specs.Shown.{if_seen}
 use Rattle.keyed.proofs.Levels.{says_nothing}
 use Rattle.ns_live_index.proofs.Showing.{shows_none}
 use Rattle.ns_live_index.proofs.Totals.{total_first}
@@ -21,7 +22,7 @@ returns c = record {
       c.new.ensures (pool, (node, key));
   loads = λ pool node. ap (λ r. option_map_or (λ (its : PoolKeys). load_on its node) r none)
       (ap (λ m. row_at m pool) c.new.ensures ∙ ap flat (get-empty name_cmp pool));
-  shown = λ pool name. shows_none c.new-2.result c.new-2.ensures pool name;
+  shown = λ pool name. ap if_seen (shows_none c.new-2.result c.new-2.ensures pool name);
   names = λ quota ns. says_nothing (λ (s : QuotaNames). s.quotas) holds_name c.new-3.result c.new-3.ensures (quota, ns);
   totals = λ quota. total_first c.new-3.result c.new-3.ensures quota;
 }

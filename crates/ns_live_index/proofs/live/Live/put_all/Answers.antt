@@ -1,17 +1,17 @@
-use Rattle.std.proofs.Common.{ap, refl, subst, sym, take, ◌∙◌}
+use Rattle.std.proofs.Common.{ap, subst, sym, take, ◌∙◌}
 use Rattle.keyed.proofs.Mapped.{take_all}
 use Rattle.ns_types.specs.State.Names.{Key}
 use Rattle.ns_live_index.specs.Index.{Indexes, with_changes, with_row}
 use Rattle.ns_live_index.specs.Shown.{ShowsUnmoved}
 use Rattle.ns_live_index.proofs.Changing.{all_changed, begun, changed_rows, one_changed}
 use Rattle.ns_live_index.proofs.Puts.{indexes_same}
-use Rattle.ns_live_index.proofs.Unmoved.{unmoved_as}
+use Rattle.ns_live_index.proofs.Unmoved.{none_hidden, unmoved_as}
 use Rattle.ns_live_index.proofs.live.Live.put_all.Goals as goal
 
 pub loop-slot-init : goal.loop-slot-init
 loop-slot-init c = (
   begun c.args.namespace.now c.args.table.now c.args.changes.now c.args.self.now _ c.as_slice-slot-items.ensures c.requires,
-  λ pool name node is. refl,
+  none_hidden c.args.self.now.shown,
 )
 
 pub loop-slot-preserved : goal.loop-slot-preserved
@@ -25,7 +25,7 @@ loop-slot-preserved c =
           (λ row_of was. subst (λ r. ShowsUnmoved row_of (with_row key r row_of) c.loop-slot.self new) c.as_ref-after.ensures.value
           (c.put_after.ensures.shown row_of (was ∙ sym c.get.ensures)))
           c.put_after.ensures.names c.put_after.ensures.room c.loop-slot.invariant.0,
-      λ pool name node is. c.put_after.ensures.last pool name node is,
+      c.put_after.ensures.last,
     )
 
 pub returns-clause-index : goal.returns-clause-index

@@ -14,7 +14,9 @@ returns-in-Some-clause-index c row_of right is = index_kept (with_changes c.args
     (c.put_all.ensures.index row_of right (λ n. is n ∙ ap (λ m. row_at m n) (sym c.rows.ensures)))
 
 pub returns-in-Some-clause-shown : goal.returns-in-Some-clause-shown
-returns-in-Some-clause-shown c row_of is = c.put_all.ensures.shown row_of (λ n. is n ∙ ap (λ m. row_at m n) (sym c.rows.ensures))
+returns-in-Some-clause-shown c row_of is =
+    let unmoved = c.put_all.ensures.shown row_of (λ n. is n ∙ ap (λ m. row_at m n) (sym c.rows.ensures)) in
+    record { nodes = unmoved.nodes; bases = unmoved.bases }
 
 pub returns-in-Some-clause-quotas : goal.returns-in-Some-clause-quotas
 returns-in-Some-clause-quotas c quota_of use_of kept named used = c.put_use.ensures quota_of use_of
