@@ -1,13 +1,11 @@
 //! A node as a plan sees it. Nomad's pages "How Nomad job placement works" and "Preemption".
 
-ghost use Rattle.std.specs.Prelude.{◌≡◌, ◌≤◌, IsTrue, MatchOption, length, map, take, ⊤};
+ghost use Rattle.std.specs.Prelude.{◌≡◌, ◌≤◌, IsTrue, length, map, take};
 ghost use Rattle.ns_types.specs.Placing.Planning.{placed_on};
 ghost use Rattle.ns_types.specs.Placing.Preemption.{makes_room};
 ghost use Rattle.ns_place.specs.Amounts.{IsCountedFreed};
-ghost use Rattle.ns_place.specs.Cost.{cost_of};
 
 use crate::amounts::total;
-use crate::cost::{Cost, SizeCost};
 use ns_types::resources::{Resources, minus, plus};
 use ns_types::snapshot::LiveAllocation;
 use ns_types::text::Text;
@@ -23,15 +21,12 @@ pub struct Candidate<'a> {
     evictable: Vec<&'a LiveAllocation>,
     /// How many of them the plan has evicted.
     evicted: usize,
-    /// What its victims cost for the size that was last asked for, unless the plan has placed something since.
-    known: Option<SizeCost>,
 }
 
 impl<'a> Model for Candidate<'a> {
     ghost use Rattle.std.specs.Prelude.{◌≤◌, drop, length, map};
     ghost use Rattle.ns_types.specs.Placing.Placement;
     ghost use Rattle.ns_place.specs.Amounts.{IsCountedFreed};
-    ghost use Rattle.ns_place.specs.Cost.{IsKnownCost};
 
     ghost Value = { Placement.Candidate };
 
@@ -43,13 +38,7 @@ impl<'a> Model for Candidate<'a> {
     } };
 
     ghost invariant = { λ c. (c.evicted ≤ length c.evictable.items)
-        × IsCountedFreed c.left (drop c.evicted (map (λ a. a.now) c.evictable.items))
-        × IsKnownCost (record {
-          name = c.name.now;
-          feasible = c.feasible;
-          left = c.left;
-          evictable = drop c.evicted (map (λ a. a.now) c.evictable.items);
-        }) c.known };
+        × IsCountedFreed c.left (drop c.evicted (map (λ a. a.now) c.evictable.items)) };
 }
 
 impl<'a> Candidate<'a> {
@@ -72,7 +61,6 @@ impl<'a> Candidate<'a> {
             left,
             evictable,
             evicted: 0,
-            known: None,
         }
     }
 
@@ -114,26 +102,7 @@ impl<'a> Candidate<'a> {
     {
         let (gone, _) = self.evictable().split_at(victims);
         let freed = total(gone);
-        self.known = None;
         self.left = minus(plus(self.left, freed), size);
         self.evicted += victims;
-    }
-
-    /// What its victims cost for the size, if that is remembered.
-    pub fn known_cost(&self, size: Resources) -> Option<Option<Cost>>
-        ensures { MatchOption result ⊤ (λ cost. cost ≡ cost_of size self.now) }
-    {
-        match self.known {
-            Some(known) if known.size == size => Some(known.cost),
-            _ => None,
-        }
-    }
-
-    /// Remembers what its victims cost for the size, until something is placed.
-    pub fn remember(&mut self, size: Resources, cost: Option<Cost>)
-        requires { cost ≡ cost_of size self.old }
-        ensures { self.new ≡ self.old }
-    {
-        self.known = Some(SizeCost { size, cost });
     }
 }

@@ -1,1 +1,4 @@
+pub mod Cost
 pub mod Fewest
+pub mod Laws
+pub mod Ranking

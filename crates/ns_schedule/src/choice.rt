@@ -1,14 +1,16 @@
 //! Where the next allocation goes where no node has room.
 
-ghost use Rattle.std.specs.Prelude.{◌≡◌, ◌<◌, length, MatchOption, None};
+ghost use Rattle.std.specs.Prelude.{◌≡◌, ◌<◌, length, IfOk, MatchOption, None};
 ghost use Rattle.std.specs.List.{HoldsAt};
 ghost use Rattle.ns_types.specs.Placing.Placement.{best_fit};
 ghost use Rattle.ns_types.specs.Placing.Planning.{choice};
+ghost use Rattle.ns_preempt.specs.Ranking.{IsRanking, IsRankingBut};
 ghost use Rattle.ns_schedule.specs.Chosen.{IsChosen};
 
 use ns_place::Candidate;
-use ns_preempt::{best_victims, victims};
+use ns_preempt::{Ranking, victims};
 use ns_types::resources::Resources;
+use std::alloc::AllocError;
 
 /// A node, and how many of those whom the job may evict there give way.
 #[derive(Clone, Copy)]
@@ -17,19 +19,26 @@ pub(crate) struct Chosen {
     pub victims: usize,
 }
 
-/// The node whose victims are cheapest. What they cost is remembered at each node.
-pub(crate) fn choose_with_victims(
-    candidates: &mut Vec<Candidate<'_>>,
+/// The node whose victims are cheapest. Until it is added to the ranking, the others are ranked.
+pub(crate) fn choose_with_victims<'a>(
+    candidates: &[Candidate<'a>],
+    ranking: &mut Ranking<'a>,
     size: Resources,
-) -> Option<Chosen>
-    requires { best_fit size candidates.old.items ≡ None }
-    ensures chosen { MatchOption result (choice size candidates.old.items ≡ None)
-        (λ ch. (ch.node < length candidates.old.items)
-        × HoldsAt (IsChosen size candidates.old.items ch.node ch.victims)
-        candidates.old.items ch.node) }
-    ensures same { candidates.new.items ≡ candidates.old.items }
+) -> Result<Option<Chosen>, AllocError>
+    requires full { best_fit size candidates.now ≡ None }
+    requires ranking { IsRanking ranking.old candidates.now }
+    ensures chosen { IfOk result (λ chosen. MatchOption chosen (choice size candidates.now ≡ None)
+        (λ ch. (ch.node < length candidates.now)
+        × HoldsAt (IsChosen size candidates.now ch.node ch.victims) candidates.now ch.node)) }
+    ensures ranking { IfOk result (λ chosen. MatchOption chosen
+        (IsRanking ranking.new candidates.now)
+        (λ ch. IsRankingBut ch.node ranking.new candidates.now)) }
 {
-    let node = best_victims(candidates.as_mut_slice(), size)?;
-    let victims = victims(&candidates[node], size)?;
-    Some(Chosen { node, victims })
+    let Some(node) = ranking.take_best(candidates, size)? else {
+        return Ok(None);
+    };
+    match victims(&candidates[node], size) {
+        Some(victims) => Ok(Some(Chosen { node, victims })),
+        None => Ok(None),
+    }
 }

@@ -9,7 +9,7 @@ ghost use Rattle.ns_types.specs.declared.resources.Resources.{Resources};
 
 use crate::made::{each, text};
 use ns_place::{Candidate, best_node};
-use ns_preempt::best_victims;
+use ns_preempt::Ranking;
 use ns_types::resources::Resources;
 use ns_types::shared::Shared;
 use ns_types::snapshot::LiveAllocation;
@@ -79,13 +79,15 @@ fn chosen(
     let second = allocation(rt, alloc, second);
     let third = allocation(rt, alloc, third);
     let fourth = allocation(rt, alloc, fourth);
-    let mut nodes = [
+    let nodes = [
         node(rt, alloc, &name, here, &first, &second),
         node(rt, alloc, &other, there, &third, &fourth),
     ];
+    let mut ranking = Ranking::new(alloc);
+    let giving_way = ranking.take_best(&nodes, each(250));
     (
         best_node(&nodes, each(200)),
-        best_victims(&mut nodes, each(250)),
+        giving_way.expect(rt, "memory"),
     )
 }
 

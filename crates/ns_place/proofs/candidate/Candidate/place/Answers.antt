@@ -33,5 +33,4 @@ invariant_of-self c =
       subst (λ (r : Resources). IsCountedFreed r (drop (e + v) all)) (sym now_left)
           (subst (λ (rest : List LiveAllocation). IsCountedFreed (minus (plus node.left (total size_of (take v node.evictable))) c.args.size) rest)
           (sym now_rest) below),
-      tt,
     )

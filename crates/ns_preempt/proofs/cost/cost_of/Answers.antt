@@ -3,8 +3,8 @@ use Rattle.std.specs.Option.{option_map}
 use Rattle.std.proofs.lemmas.List.{length-take-le, take-map}
 use Rattle.ns_types.specs.declared.snapshot.LiveAllocation.{LiveAllocation}
 use Rattle.ns_types.specs.Placing.Preemption.{highest_priority}
-use Rattle.ns_place.specs.declared.cost.Cost.{Cost}
-use Rattle.ns_preempt.proofs.costs.cost_of.Goals as goal
+use Rattle.ns_preempt.specs.declared.cost.Cost.{Cost}
+use Rattle.ns_preempt.proofs.cost.cost_of.Goals as goal
 
 pub returns : goal.returns
 returns c =
