@@ -6,7 +6,8 @@ use Rattle.std.specs.Option.{option_map_or}
 use Rattle.std.specs.declared.cmp.Ordering.{Ordering}
 use Rattle.std.specs.Cmp.{IsTotalOrder, tied_itself}
 use Rattle.std.specs.Ordering.{eq_by_cmp, is_eq, nat_cmp}
-use Rattle.std.specs.FinMap.{FinMap, IsAntisymmetric, empty, empty_of_len, entries, len-entries, get, get-empty, get-entries, get-insert, get-remove, insert, remove}
+use Rattle.std.specs.FinMap.{FinMap, IsAntisymmetric, empty, empty_of_len, entries, len-entries, get, get-empty}
+use Rattle.std.specs.FinMap.{get-entries, get-insert, get-remove, insert, remove}
 use Rattle.std.specs.FinMap.Entries.{find}
 use Rattle.keyed.specs.Table.{flat, has_slot, row_at, with_slot}
 use Rattle.keyed.proofs.Tables.{has_slot-insert, has_slot-with_slot}

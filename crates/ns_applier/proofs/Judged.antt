@@ -26,7 +26,8 @@ use Rattle.ns_types.proofs.TableRows.{each_fails}
 use Rattle.ns_types.proofs.Tables.{none_of_any}
 use Rattle.ns_types.proofs.Tests.{not_Some}
 use Rattle.ns_change.specs.Prepared.{bounded}
-use Rattle.ns_applier.specs.HeadroomApplying.{Doing, apply_passes, evaluations_pass, losing_in, own_passes, own_passes_in, place_passes, place_passes_on, places_on}
+use Rattle.ns_applier.specs.HeadroomApplying.{Doing, apply_passes, evaluations_pass, losing_in, own_passes}
+use Rattle.ns_applier.specs.HeadroomApplying.{own_passes_in, place_passes, place_passes_on, places_on}
 use Rattle.ns_applier.specs.HeadroomApplying.{stop_passes, victim_passes}
 use Rattle.ns_applier.specs.Judging.{doing}
 use Rattle.ns_applier.specs.Counters.{HasRoom, IsAtWork, judged}

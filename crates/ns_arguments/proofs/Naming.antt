@@ -1,5 +1,6 @@
 -- Names of one kind, text by text.
-use Rattle.std.proofs.Common.{◌≡◌, ◌∙◌, ◌&&◌, ◌++◌, ◌∷◌, [], ◌+◌, ◌<◌, ap, ap₂, length, map, refl, sym, Bool, true, false, take, List, ℕ, Some, None, if◌then◌else◌}
+use Rattle.std.proofs.Common.{◌≡◌, ◌∙◌, ◌&&◌, ◌++◌, ◌∷◌, [], ◌+◌, ◌<◌, ap, ap₂, length, map, refl, sym, Bool, true}
+use Rattle.std.proofs.Common.{false, take, List, ℕ, Some, None, if◌then◌else◌}
 use Rattle.std.proofs.Math.ListN.{get_or}
 use Rattle.std.proofs.lemmas.List.Folds.{list_all_at, list_all_more}
 use Rattle.std.proofs.lemmas.List.{get_or-map, length-map, take_more}

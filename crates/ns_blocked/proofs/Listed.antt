@@ -206,11 +206,13 @@ module _ (old new : Index) (next : ℕ) (h : IsIndexed old next) where
       grouped waits n true t = here waits n t (same_waits waits e.waits)
       grouped waits n false t = off (same_waits waits e.waits) (Some (row_of e)) (group_row old.groups waits n) ∙ h.grouped waits n
 
-      other : (n : ℕ) (x : BlockedEvaluation) → entry_at old n ≡ Some x → (s : Bool) → same_key x.key e.key ≡ s → cond s (Some next) (row_in old.places x.key) ≡ Some n
+      other : (n : ℕ) (x : BlockedEvaluation) → entry_at old n ≡ Some x → (s : Bool) → same_key x.key e.key ≡ s →
+          cond s (Some next) (row_in old.places x.key) ≡ Some n
       other n x is true s = absurd (not_Some n (sym none ∙ ap (row_in old.places) (sym (key_is x.key e.key s)) ∙ h.placed n x is))
       other n x is false s = h.placed n x is
 
-      placed : (n : ℕ) (x : BlockedEvaluation) (b : Bool) → same_number n next ≡ b → cond b (Some e) (entry_at old n) ≡ Some x → row_in new.places x.key ≡ Some n
+      placed : (n : ℕ) (x : BlockedEvaluation) (b : Bool) → same_number n next ≡ b →
+          cond b (Some e) (entry_at old n) ≡ Some x → row_in new.places x.key ≡ Some n
       placed n x true t is = ap (λ (x : BlockedEvaluation). row_in new.places x.key) (sym (same_Some e x is)) ∙ puts.places e.key
           ∙ ap (λ b. cond b (Some next) (row_in old.places e.key)) (same_key_refl e.key) ∙ ap Some (sym (tied one_number n next t))
       placed n x false t is = puts.places x.key ∙ other n x is (same_key x.key e.key) refl
@@ -362,7 +364,8 @@ pub entry_there : (b : Index) (next : ℕ) → IsIndexed b next → (key : Key) 
     (e : BlockedEvaluation) × ((entry_at b n ≡ Some e) × (e.key ≡ key))
 entry_there b next h key n is = by (entry_at b n) refl (h.there key n is)
   where
-    by : (r : Option BlockedEvaluation) → entry_at b n ≡ r → option_map (λ e. e.key) r ≡ Some key → (e : BlockedEvaluation) × ((entry_at b n ≡ Some e) × (e.key ≡ key))
+    by : (r : Option BlockedEvaluation) → entry_at b n ≡ r → option_map (λ e. e.key) r ≡ Some key →
+        (e : BlockedEvaluation) × ((entry_at b n ≡ Some e) × (e.key ≡ key))
     by None at same = absurd (not_Some key same)
     by (Some e) at same = (e, (at, same_Some e.key key same))
 

@@ -24,7 +24,8 @@ room_from old new keeps n [] h = tt
 room_from old new keeps n (e ∷ es) h = (h.0, room_at old new keeps n e h.1, room_from old new keeps (n + 1) es h.2)
 
 -- room at the places behind the one that is given up
-pub room_behind : (old new : Index) (k : ℕ) → KeepsRoomBut k old new → (n : ℕ) (es : List BlockedEvaluation) → k < n → HasRoomFrom n es old → HasRoomFrom n es new
+pub room_behind : (old new : Index) (k : ℕ) → KeepsRoomBut k old new → (n : ℕ) (es : List BlockedEvaluation) →
+    k < n → HasRoomFrom n es old → HasRoomFrom n es new
 room_behind old new k keeps n [] lt h = tt
 room_behind old new k keeps n (e ∷ es) lt h =
     let later : k < n + 1 = omega arith in (
@@ -33,14 +34,16 @@ room_behind old new k keeps n (e ∷ es) lt h =
       room_behind old new k keeps (n + 1) es later h.2,
     )
 
-room_next : (index : Index) (n m : ℕ) (xs : List BlockedEvaluation) (x : BlockedEvaluation) → m ≡ n + length xs → HasRoomFrom n xs index → m + 1 < 2 ^ 64 → HasRoomAt m x index →
+room_next : (index : Index) (n m : ℕ) (xs : List BlockedEvaluation) (x : BlockedEvaluation) → m ≡ n + length xs →
+    HasRoomFrom n xs index → m + 1 < 2 ^ 64 → HasRoomAt m x index →
     HasRoomFrom n (xs ++ x ∷ []) index
 room_next index n m [] x is h lt r =
     let same : m ≡ n = omega arith in (subst (λ (k : ℕ). k + 1 < 2 ^ 64) same lt, subst (λ (k : ℕ). HasRoomAt k x index) same r, tt)
 room_next index n m (e ∷ xs) x is h lt r =
     let next : m ≡ (n + 1) + length xs = omega arith in (h.0, h.1, room_next index (n + 1) m xs x next h.2 lt r)
 
-pub reserved_next : (old new : Index) (n i m : ℕ) (es : List BlockedEvaluation) (x : BlockedEvaluation) → i < length es → x ≡ get_or es i x → m ≡ n + i → m + 1 < 2 ^ 64 →
+pub reserved_next : (old new : Index) (n i m : ℕ) (es : List BlockedEvaluation) (x : BlockedEvaluation) →
+    i < length es → x ≡ get_or es i x → m ≡ n + i → m + 1 < 2 ^ 64 →
     KeepsIndexRoom old new → HasRoomAt m x new → HasRoomFrom n (take i es) old → HasRoomFrom n (take (i + 1) es) new
 reserved_next old new n i m es x lt is at bound keeps r h =
     let here : m ≡ n + length (take i es) = omega (arith, length-take i es) in
@@ -111,6 +114,7 @@ pub taken_next : (keys : List Key) (i : ℕ) (key : Key) → i < length keys →
 taken_next keys i key lt is old new all made h = ap (filter (λ e. not (has_key (drop (i + 1) keys) e.key))) made
     ∙ taken_step key (drop (i + 1) keys) old ∙ ap (λ ks. filter (λ e. not (has_key ks e.key)) old) (sym (from_here keys i key lt is)) ∙ h
 
-pub all_taken : (keys : List Key) (i : ℕ) → length keys ≤ i → (now all : List BlockedEvaluation) → filter (λ e. not (has_key (drop i keys) e.key)) now ≡ all → now ≡ all
+pub all_taken : (keys : List Key) (i : ℕ) → length keys ≤ i → (now all : List BlockedEvaluation) →
+    filter (λ e. not (has_key (drop i keys) e.key)) now ≡ all → now ≡ all
 all_taken keys i le now all h = sym (ap (λ ks. filter (λ e. not (has_key ks e.key)) now) (drop_of_length-le keys le)
     ∙ filter_all (λ (e : BlockedEvaluation). true) now (each (λ _. true ≡ true) (λ _. refl) now)) ∙ h

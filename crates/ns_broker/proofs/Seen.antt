@@ -215,7 +215,9 @@ past_filtered : {X : Type 0} (last : Option ℕ) (m : ByNumber X) (es : List (�
 past_filtered last m [] = refl
 past_filtered {X = X} last m (e ∷ es) = by (is_past last e.0) (λ m. past_filtered last m es)
   where
-    by : (b : Bool) → ((m : ByNumber X) → fold (add_past last) m es ≡ fold add_seen m (filter (λ e. is_past last e.0) es)) → fold (add_past last) (cond b (add_seen m e) m) es
+    by : (b : Bool) → ((m : ByNumber X) →
+        fold (add_past last) m es ≡ fold add_seen m (filter (λ e. is_past last e.0) es)) →
+        fold (add_past last) (cond b (add_seen m e) m) es
         ≡ fold add_seen m (cond b (e ∷ filter (λ e. is_past last e.0) es) (filter (λ e. is_past last e.0) es))
     by true later = later (add_seen m e)
     by false later = later m
@@ -297,16 +299,18 @@ module _ (t : Tables) (last : Option ℕ) where
 
   numbers_filled : (ns : Name) (x : TenantRows) → row_at t.tenants ns ≡ Some x
       → (slots : List (ℕ × Option Unit)) (rest : List Key) (m : ByNumber LiveAllocation) →
-      fold (add_past last) (fold (add_number last ns x.allocations.slots) m slots) (map placed (found_at look rest)) ≡ fold (add_past last) m (map placed (found_at look
-      (keys_from ns slots ++ rest)))
+      fold (add_past last) (fold (add_number last ns x.allocations.slots) m slots) (map placed (found_at look rest))
+      ≡ fold (add_past last) m (map placed (found_at look (keys_from ns slots ++ rest)))
   numbers_filled ns x is [] rest m = refl
   numbers_filled ns x is ((n, None) ∷ slots) rest m = numbers_filled ns x is slots rest m
   numbers_filled ns x is ((n, Some key) ∷ slots) rest m = numbers_filled ns x is slots rest (add_number last ns x.allocations.slots m (n, Some key))
-      ∙ by (row_at x.allocations.slots n) ∙ ap (λ r. fold (add_past last) m (map placed (with_row (ns, n) r (found_at look (keys_from ns slots ++ rest))))) (sym
-      (looked ns x n is))
+      ∙ by (row_at x.allocations.slots n)
+      ∙ ap (λ r. fold (add_past last) m (map placed (with_row (ns, n) r (found_at look (keys_from ns slots ++ rest)))))
+      (sym (looked ns x n is))
     where
-      by : (r : Option Allocation) → fold (add_past last) (option_map_or (λ a. add_past last m (seen_row ns n a)) r m) (map placed (found_at look
-          (keys_from ns slots ++ rest)))
+      by : (r : Option Allocation) →
+          fold (add_past last) (option_map_or (λ a. add_past last m (seen_row ns n a)) r m)
+          (map placed (found_at look (keys_from ns slots ++ rest)))
           ≡ fold (add_past last) m (map placed (with_row (ns, n) r (found_at look (keys_from ns slots ++ rest))))
       by None = refl
       by (Some a) = refl
@@ -341,12 +345,13 @@ module _ (t : Tables) (last : Option ℕ) where
   namespaces_filled ((ns, Some held) ∷ slots) m = namespaces_filled slots (add_namespace last t.tenants m (ns, Some held)) ∙ by (row_at t.tenants ns) refl
     where
       by : (r : Option TenantRows) → row_at t.tenants ns ≡ r →
-          fold (add_past last) (option_map_or (λ x. fold (add_number last ns x.allocations.slots) m (entries held)) r m) (map placed (found_at look (flat_map keys_of
-          (row_list slots))))
+          fold (add_past last) (option_map_or (λ x. fold (add_number last ns x.allocations.slots) m (entries held)) r m)
+          (map placed (found_at look (flat_map keys_of (row_list slots))))
           ≡ fold (add_past last) m (map placed (found_at look (keys_of (ns, held) ++ flat_map keys_of (row_list slots))))
       by None is = ap (λ l. fold (add_past last) m (map placed l)) (sym (nowhere ns is (keys (rows held)) (flat_map keys_of (row_list slots))))
       by (Some x) is = numbers_filled ns x is (entries held) (flat_map keys_of (row_list slots)) m
-          ∙ ap (λ es. fold (add_past last) m (map placed (found_at look (map (λ n. (ns, n)) (map (λ (e : ℕ × Unit). e.0) es) ++ flat_map keys_of (row_list slots)))))
+          ∙ ap (λ es. fold (add_past last) m (map placed (found_at look
+          (map (λ n. (ns, n)) (map (λ (e : ℕ × Unit). e.0) es) ++ flat_map keys_of (row_list slots)))))
           (sym (entries-rows held))
 
   -- ---- how many are past
@@ -422,7 +427,8 @@ module _ (t : Tables) (last : Option ℕ) where
         let counted = keys_counted (entries held.numbers) ∙ ap (λ es. length (flat_map keys_of es)) (sym (entries-rows held.numbers)) in
         let both = length-filter_both (λ (f : Key × Allocation). is_past last f.1.place) (λ f. is_until last f.1.place) (λ f. refl) found in
         let short = found_short (keys_in held) in
-        let until = ap (λ xs. length (filter (λ (a : Name × (ℕ × Allocation)). is_until last a.1.1.place) xs)) (allocations_are (world_of t) pool node held right)
+        let until = ap (λ xs. length (filter (λ (a : Name × (ℕ × Allocation)). is_until last a.1.1.place) xs))
+        (allocations_are (world_of t) pool node held right)
         ∙ ap length (filter_map (λ (a : Name × (ℕ × Allocation)). is_until last a.1.1.place) shown found)
         ∙ length-map (filter (λ f. is_until last f.1.place) found) shown in
         let few = number_once (λ (a : Name × (ℕ × Allocation)). a.1.1.place)

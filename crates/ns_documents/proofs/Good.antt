@@ -28,7 +28,8 @@ use Rattle.ns_types.specs.State.Names
 use Rattle.ns_types.specs.State.Resources.{limits_in, unlimited}
 use Rattle.ns_types.proofs.Lists.{left_none, right_none}
 use Rattle.ns_types.proofs.Named.{same_name_is, first_of_both, second_of_both}
-use Rattle.ns_json.specs.Reading.{◌>>=◌, Read, Gives, same, top, present, demanded, or_else, or_refuse, some, an_object, a_text, a_name, has_name, unless, a_number}
+use Rattle.ns_json.specs.Reading.{◌>>=◌, Read, Gives, same, top, present, demanded, or_else, or_refuse, some, an_object}
+use Rattle.ns_json.specs.Reading.{a_text, a_name, has_name, unless, a_number}
 use Rattle.ns_json.specs.Reading.{a_list, each, unless_null}
 use Rattle.ns_json.specs.Registration.{name_if_any, max_quantity}
 use Rattle.ns_json.proofs.Distinct.{Distinct, distinct_more, distinct_is}

@@ -19,7 +19,8 @@ use Rattle.ns_types.specs.declared.job.TaskResources.{TaskResources}
 use Rattle.ns_types.specs.declared.name.NameKind.TheVariants as NameKind
 use Rattle.ns_types.specs.declared.refusal.Member.{Member}
 use Rattle.ns_types.specs.declared.refusal.Refusal.TheVariants.{BadField}
-use Rattle.ns_types.specs.State.Limits.{are_quantities, is_quantity, is_between, is_text, is_target, is_pool_name, is_good_constraint, is_good_task, is_good_group}
+use Rattle.ns_types.specs.State.Limits.{are_quantities, is_quantity, is_between, is_text, is_target, is_pool_name}
+use Rattle.ns_types.specs.State.Limits.{is_good_constraint, is_good_task, is_good_group}
 use Rattle.ns_types.specs.State.Limits.{is_good_registration}
 use Rattle.ns_types.specs.State.Name.{is_name}
 use Rattle.ns_types.specs.State.Names.{Name}

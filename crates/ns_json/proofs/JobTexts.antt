@@ -1,5 +1,7 @@
 -- The text of a job, part by part.
-use Rattle.std.proofs.Common.{◌≡◌, ℕ, ◌+◌, ◌<◌, Bool, true, false, List, [], ◌∷◌, ◌++◌, length, get_or, take, map, Result, Ok, Err, refl, sym, ap, ap₂, ◌==◌, ◌||◌, nat_lt, ◌∙◌, append_assoc, append-nil, codes}
+use Rattle.std.proofs.Common.{◌≡◌, ℕ, ◌+◌, ◌<◌, Bool, true, false, List, [], ◌∷◌, ◌++◌, length, get_or, take, map}
+use Rattle.std.proofs.Common.{Result, Ok, Err, refl, sym, ap, ap₂, ◌==◌, ◌||◌, nat_lt, ◌∙◌, append_assoc, append-nil}
+use Rattle.std.proofs.Common.{codes}
 use Rattle.std.proofs.lemmas.Bool.{and_parts, or_parts, not-true, eqb-false, ltb-false}
 use Rattle.std.proofs.lemmas.List.{take_more}
 use Rattle.std.proofs.lemmas.List.Concat.{flat_map-append}
@@ -70,7 +72,8 @@ items_joined json [] = refl
 items_joined json (x ∷ xs) = ap (λ t. compact_text (json x) ++ t) (later json xs) ∙ sym (append_assoc (compact_text (json x)) (flat_map (λ y. 44 ∷ compact_text (json y)) xs) (93 ∷ []))
 
 -- what a writer wrote of one text into an empty buffer
-pub written_alone : (text items : List ℕ) (old new : Written) → items ≡ new.before ++ print new.tokens → new.tokens ≡ old.tokens ++ string text ∷ [] → new.before ≡ old.before →
+pub written_alone : (text items : List ℕ) (old new : Written) → items ≡ new.before ++ print new.tokens →
+    new.tokens ≡ old.tokens ++ string text ∷ [] → new.before ≡ old.before →
     old.tokens ≡ [] → old.before ≡ [] → items ≡ quoted text
 unfolding print_from
 written_alone text items old new is added before none empty =
@@ -129,7 +132,8 @@ stop_then : (b : Bool) (rest : List ℕ) → stop_text b ++ rest ≡ codes ",\"S
 stop_then true rest = refl
 stop_then false rest = refl
 
-regroup_members : (a b c d e f g h r : List ℕ) → (((((((a ++ b) ++ c) ++ d) ++ e) ++ f) ++ g) ++ h) ++ r ≡ a ++ (b ++ (c ++ (d ++ (e ++ (f ++ (g ++ (h ++ r)))))))
+regroup_members : (a b c d e f g h r : List ℕ) →
+    (((((((a ++ b) ++ c) ++ d) ++ e) ++ f) ++ g) ++ h) ++ r ≡ a ++ (b ++ (c ++ (d ++ (e ++ (f ++ (g ++ (h ++ r)))))))
 regroup_members a b c d e f g h r = simp append_assoc
 
 regroup : (a b c d e f g : List ℕ) → (((((a ++ b) ++ c) ++ d) ++ e) ++ f) ++ g ≡ a ++ (b ++ (c ++ (d ++ (e ++ (f ++ g)))))

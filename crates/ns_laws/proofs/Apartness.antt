@@ -73,7 +73,8 @@ module _ (s : State) where
           by true is = absurd (not_Some _ is)
           by false is = is
 
-  administered : (secret : Option Name) (command : AdminCommand) → puts_namespace (Step.Admin secret command) ≡ false → Leads (IsOld s) (administer secret command s)
+  administered : (secret : Option Name) (command : AdminCommand) →
+      puts_namespace (Step.Admin secret command) ≡ false → Leads (IsOld s) (administer secret command s)
   unfolding administer put_quota delete_quota put_pool_record delete_pool
   administered secret AdminCommand.ListNamespaces other = still
   administered secret (AdminCommand.PutNamespace name namespace) other = not_both refl other
@@ -105,7 +106,8 @@ module _ (s : State) where
         y : State
         y = record x { world = settle s.world x.world }
 
-        by : (b : Bool) → cond b (said (Err Refusal.Full) s) (said (Ok (reply_of (Step.Admin secret command) content (settle s.world x.world))) y) ≡ said answer s' →
+        by : (b : Bool) → cond b (said (Err Refusal.Full) s) (said (Ok (reply_of (Step.Admin secret command) content
+            (settle s.world x.world))) y) ≡ said answer s' →
             IsOld s s'
         by true e = at_rest (ap (λ x. x.1) (same_Some _ _ e))
         by false e = subst (IsOld s) (ap (λ x. x.1) (same_Some _ _ e)) (λ k namespace is. h k namespace (sym (namespace_settled s.world x.world k) ∙ is))
@@ -114,7 +116,8 @@ module _ (s : State) where
     unfolding after act
     admin_old other e = by (is_allowed (Step.Admin secret command) s.acl) e
       where
-        by : (b : Bool) → cond b (concluded (Step.Admin secret command) s (administer secret command s)) (said (Err Refusal.Denied) s) ≡ said answer s' → IsOld s s'
+        by : (b : Bool) → cond b (concluded (Step.Admin secret command) s (administer secret command s)) (said
+            (Err Refusal.Denied) s) ≡ said answer s' → IsOld s s'
         by true e = concluded_old (administer secret command s) (administered secret command other) e
         by false e = at_rest (ap (λ x. x.1) (same_Some _ _ e))
 
@@ -195,7 +198,8 @@ module _ (ns : Name) (pools quotas : List Name) (s s' : State) (steady : IsStead
         by false dead = let q = holds ns x n a at row held dead in
             ap (has_name pools) (sym q.same) ∙ at_home s.world ns pools quotas apart ns q.tenant n q.row q.is_tenant q.is_row q.held (same_name_refl ns)
 
-    kept_home : (n : ℕ) (worker : Worker) → get x.workers n ≡ Some worker → option_map_or (λ (kept : Snapshot). not (has_name pools kept.pool)) worker.kept false ≡ false
+    kept_home : (n : ℕ) (worker : Worker) → get x.workers n ≡ Some worker →
+        option_map_or (λ (kept : Snapshot). not (has_name pools kept.pool)) worker.kept false ≡ false
     kept_home n worker row = by worker.kept refl
       where
         by : (kept : Option Snapshot) → worker.kept ≡ kept → option_map_or (λ (kept : Snapshot). not (has_name pools kept.pool)) kept false ≡ false

@@ -13,7 +13,8 @@ use Rattle.ns_audit.specs.Laws.{is_admin}
 use Rattle.ns_audit.proofs.Alone.Bordering.{fit_apart}
 use Rattle.ns_audit.proofs.Alone.Heading.{own_step, other_step}
 use Rattle.ns_audit.proofs.Alone.Stepping.{own_step_apart, other_step_apart}
-use Rattle.ns_laws.specs.Kinds.{AloneIsBeside, IsBeside, GoesAlike, LeavesIt, ReportsIts, ReportsAnother, OwnAsk, OtherAsk, OwnAdmin, OtherAdmin, OwnNode, OtherNode}
+use Rattle.ns_laws.specs.Kinds.{AloneIsBeside, IsBeside, GoesAlike, LeavesIt, ReportsIts, ReportsAnother, OwnAsk}
+use Rattle.ns_laws.specs.Kinds.{OtherAsk, OwnAdmin, OtherAdmin, OwnNode, OtherNode}
 use Rattle.ns_laws.specs.Kinds.{OwnDequeue, OtherDequeue, OwnSnap, OtherSnap, OwnSubmit, OtherSubmit, OwnApply, OtherApply, OwnFinish, OtherFinish}
 use Rattle.ns_laws.specs.Kinds.{OwnNack, OtherNack}
 

@@ -161,7 +161,9 @@ module _ (w : World) (pool node : Name) (held : KeySet)
   pub losses_are : losses pool node w ≡ flat_map (λ e. option_map_or (λ t. map (λ a. (e.0, a)) (losing_jobs pool node t)) (get w.tenants e.0) [])
       (entries (rows held.numbers))
   losses_are = flat_at_keys names one_name w.tenants (rows held.numbers) (λ ns t. map (λ a. (ns, a)) (losing_jobs pool node t))
-      (λ ns t at out. ap (λ es. map (λ (a : Allocation). (ns, a)) (values (from_entries {R = name_cmp} (map (λ a. (a.1.job, a.1)) es)))) (no_rows w (is_live_on pool node) held right ns t at out)
+      (λ ns t at out. ap (λ es. map (λ (a : Allocation). (ns, a))
+      (values (from_entries {R = name_cmp} (map (λ a. (a.1.job, a.1)) es))))
+      (no_rows w (is_live_on pool node) held right ns t at out)
       ∙ ap (map (λ (a : Allocation). (ns, a))) no_job)
     where
       no_job : values (from_entries {X = Allocation} {R = name_cmp} []) ≡ []

@@ -67,7 +67,9 @@ module _ {X : Type 0} where
   parted last [] sorted = refl
   parted last (e ∷ es) sorted = by (is_past last e.0) refl (parted last es (second _ _ sorted))
     where
-      by : (b : Bool) → is_past last e.0 ≡ b → filter (λ e. is_until last e.0) es ++ filter (λ e. is_past last e.0) es ≡ es → cond (not b) (e ∷ filter (λ e. is_until last e.0) es) (filter (λ e. is_until last e.0) es)
+      by : (b : Bool) → is_past last e.0 ≡ b →
+          filter (λ e. is_until last e.0) es ++ filter (λ e. is_past last e.0) es ≡ es →
+          cond (not b) (e ∷ filter (λ e. is_until last e.0) es) (filter (λ e. is_until last e.0) es)
           ++ cond b (e ∷ filter (λ e. is_past last e.0) es) (filter (λ e. is_past last e.0) es) ≡ e ∷ es
       by true past rest =
           let later = all_past last e.0 es (first _ _ sorted) past in
@@ -100,7 +102,9 @@ module _ {X : Type 0} where
   all_until last [] sorted = tt
   all_until last (e ∷ es) sorted = by (is_past last e.0) refl (all_until last es (second _ _ sorted))
     where
-      by : (b : Bool) → is_past last e.0 ≡ b → Each (λ e. is_until (last_number last (filter (λ e. is_past last e.0) es)) e.0 ≡ true) es → Each (λ x. is_until (last_number last (cond b (e ∷ filter (λ e. is_past last e.0) es)
+      by : (b : Bool) → is_past last e.0 ≡ b →
+          Each (λ e. is_until (last_number last (filter (λ e. is_past last e.0) es)) e.0 ≡ true) es →
+          Each (λ x. is_until (last_number last (cond b (e ∷ filter (λ e. is_past last e.0) es)
           (filter (λ e. is_past last e.0) es))) x.0 ≡ true) (e ∷ es)
       by true past rest = subst_list (sym (filter_all (λ e. is_past last e.0) es (all_past last e.0 es (first _ _ sorted) past)))
           (rises e.0 es (first _ _ sorted) (second _ _ sorted))

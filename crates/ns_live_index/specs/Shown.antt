@@ -108,14 +108,15 @@ pub record ShowsUnmoved (before after : Key → Option Allocation) (old new : Li
   pub bases : (pool name : Name) (seen : SeenNode) → base_at new pool name ≡ Some seen →
       (base_at old pool name ≡ Some seen) × SameUntil pool name seen.last before after
 
--- what is still shown was shown before, and the row is not live on its node; of what is still kept not up to its last place
+-- A node that is still shown was shown before, and the row is not live on it. A node that is still kept was kept before, and the
+-- row is not one of its live allocations up to its last place.
 pub record ForgetsRow (row : Option Allocation) (old new : ShownNodes) : Type 0 where
   pub nodes : (pool name : Name) (node : PoolNode) → shown_in new pool name ≡ Some node →
       (shown_in old pool name ≡ Some node) × (live_row pool name row ≡ None)
   pub bases : (pool name : Name) (seen : SeenNode) → base_in new pool name ≡ Some seen →
       (base_in old pool name ≡ Some seen) × (row_until pool name seen.last row ≡ None)
 
--- no node is shown on which the row is live, and of none that is kept up to its last place
+-- The row is live on no node that is shown, and is up to its last place on none that is kept.
 pub record HidesRow (row : Option Allocation) (shown : ShownNodes) : Type 0 where
   pub nodes : (pool name : Name) (node : PoolNode) → shown_in shown pool name ≡ Some node →
       live_row pool name row ≡ None

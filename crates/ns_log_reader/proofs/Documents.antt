@@ -22,7 +22,8 @@ use Rattle.ns_types.specs.declared.resources.Limit.{Limit}
 use Rattle.ns_types.specs.declared.resources.Limits.{Limits}
 use Rattle.ns_types.specs.declared.step.NewToken.{NewToken}
 use Rattle.ns_types.specs.Asking.Policies.{token_of}
-use Rattle.ns_types.specs.State.Limits.{is_amount, is_between, is_distinct, is_text, is_pool_name, is_pool_list, is_good_namespace, is_limit, is_good_quota, are_limits, is_quantity}
+use Rattle.ns_types.specs.State.Limits.{is_amount, is_between, is_distinct, is_text, is_pool_name, is_pool_list}
+use Rattle.ns_types.specs.State.Limits.{is_good_namespace, is_limit, is_good_quota, are_limits, is_quantity}
 use Rattle.ns_types.specs.State.Limits.{is_good_policy, is_good_token, is_good_offer}
 use Rattle.ns_types.specs.State.Lists.{is_empty}
 use Rattle.ns_types.specs.State.Name.{is_name}

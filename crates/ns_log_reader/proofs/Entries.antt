@@ -30,7 +30,8 @@ use Rattle.ns_types.specs.declared.step.NodeCommand.{NodeCommand}
 use Rattle.ns_types.specs.declared.step.Step.{Step}
 use Rattle.ns_types.specs.declared.name.NameKind.TheVariants as NameKind
 use Rattle.ns_types.specs.Asking.Good.{IsGoodNodeCommand, is_good_admin, is_good_ask}
-use Rattle.ns_types.specs.State.Limits.{is_amount, is_between, is_good_constraint, is_good_task, is_good_group, is_good_registration, is_good_offer, are_limits, are_quantities, is_quantity}
+use Rattle.ns_types.specs.State.Limits.{is_amount, is_between, is_good_constraint, is_good_task, is_good_group}
+use Rattle.ns_types.specs.State.Limits.{is_good_registration, is_good_offer, are_limits, are_quantities, is_quantity}
 use Rattle.ns_types.specs.State.Limits.{is_limit, is_good_quota, is_text, IsInOrder}
 use Rattle.ns_types.specs.State.Name.{is_name}
 use Rattle.ns_types.specs.State.Names.{Name, name_cmp}

@@ -107,7 +107,8 @@ module _ (w : World) (kept : Snapshot) (stops : List ℕ) (place : ℕ) where
   nothing false r e = e
 
   -- its row takes nothing
-  pub of_none : (row : Option Allocation) → row ≡ allocation_at w (kept.namespace, number) → IsTaken kept (parts row) None → IsTaken kept (taken w kept stops place) None
+  pub of_none : (row : Option Allocation) → row ≡ allocation_at w (kept.namespace, number) →
+      IsTaken kept (parts row) None → IsTaken kept (taken w kept stops place) None
   of_none row is takes k inside = nothing stood (parts (allocation_at w (kept.namespace, number)) k) (ap (λ r. parts r k) (sym is) ∙ takes k inside)
 
   -- its number stood earlier

@@ -126,11 +126,13 @@ first v n d ts l = (one v l.0, l.1, l.2, ap (λ us. tree_tokens v ++ us) l.3 ∙
 first_list : (n d : ℕ) (ts : List RulesToken) → Firsts (suc n) d ts → Firsts n d (begin_list ∷ ts)
 first_list n d ts f = subst (λ us. Firsts n d (begin_list ∷ us)) (sym f.3) (first (list f.0 f.1) n d f.2 f.4)
 
-after_comma : (n d : ℕ) (ts us : List RulesToken) (vs : Trees) (trailing : Bool) → ts ≡ list_tokens vs trailing ++ us → Lists n d us → Lists (suc n) d (comma ∷ ts)
+after_comma : (n d : ℕ) (ts us : List RulesToken) (vs : Trees) (trailing : Bool) →
+    ts ≡ list_tokens vs trailing ++ us → Lists n d us → Lists (suc n) d (comma ∷ ts)
 after_comma n d ts us none trailing e l = (none, true, us, ap (λ x. comma ∷ x) e, l)
 after_comma n d ts us (one v vs) trailing e l = (one v vs, trailing, us, ap (λ x. comma ∷ x) e, l)
 
-closed : (role : ItemRole) (n d : ℕ) (ts : List RulesToken) → Left (if nat_lt 1 (suc n) then Place.After role (suc n - 1) else Place.Item) d ts → Narrow role n →
+closed : (role : ItemRole) (n d : ℕ) (ts : List RulesToken) →
+    Left (if nat_lt 1 (suc n) then Place.After role (suc n - 1) else Place.Item) d ts → Narrow role n →
     Lists n d ts
 closed role zero d ts l narrow = l
 closed role (suc n) d ts l narrow =
@@ -206,7 +208,8 @@ in_list_back s (ItemRole.Block kind) p X ts h = h
 in_list_back s ItemRole.Policy p X ts h = h
 in_list_back s ItemRole.Other p X ts h = h
 
-end_back : (role : ItemRole) (n d : ℕ) (ts : List RulesToken) → Left (if nat_lt 1 (suc n) then Place.After role (suc n - 1) else Place.Item) d ts → Narrow role n →
+end_back : (role : ItemRole) (n d : ℕ) (ts : List RulesToken) →
+    Left (if nat_lt 1 (suc n) then Place.After role (suc n - 1) else Place.Item) d ts → Narrow role n →
     Firsts n d (end_list ∷ ts)
 end_back role n d ts l narrow = (none, false, ts, refl, closed role n d ts l narrow)
 
@@ -234,7 +237,8 @@ back_before s role n (word w) ts = post_if_is (is_flag w) _ _ _
     (λ h. in_list_back s role (Place.After role (suc n)) _ ts (λ l narrow. word_first w n s.depth ts h (l narrow))) (λ h. tt)
 back_before s role n _ ts = tt
 
-back_after : (s : State) (role : ItemRole) (n : ℕ) (t : RulesToken) (ts : List RulesToken) → Post (step_after s role (suc n) t) (Back (Place.After role (suc n)) s.depth t ts)
+back_after : (s : State) (role : ItemRole) (n : ℕ) (t : RulesToken) (ts : List RulesToken) →
+    Post (step_after s role (suc n) t) (Back (Place.After role (suc n)) s.depth t ts)
 unfolding step_after
 back_after s role n comma ts = λ l narrow. let f = l narrow in after_comma n s.depth ts f.2 f.0 f.1 f.3 f.4
 back_after s role n end_list ts = λ l narrow. (none, false, ts, refl, closed role n s.depth ts l narrow)

@@ -5,7 +5,8 @@ use Rattle.std.specs.List.{prefix_len, list_all}
 use Rattle.std.proofs.lemmas.List.{take-append-drop}
 use Rattle.std.proofs.lemmas.Bool.{and_parts, eqb-true}
 use Rattle.ns_policy.specs.declared.parser.State.{State}
-use Rattle.ns_policy.specs.Lex.{RulesToken, word, number, is_blank, is_letter, is_digit, begins_word, is_word_byte, is_string_byte, begins_with, has_template, skip}
+use Rattle.ns_policy.specs.Lex.{RulesToken, word, number, is_blank, is_letter, is_digit, begins_word, is_word_byte}
+use Rattle.ns_policy.specs.Lex.{is_string_byte, begins_with, has_template, skip}
 use Rattle.ns_policy.specs.Lex.{front, after, string_at, token_at}
 use Rattle.ns_policy.specs.Rules.{Read, ◌>>=◌}
 use Rattle.ns_policy.specs.Grammar.{step, next, or_syntax, read_on}

@@ -16,7 +16,8 @@ turn n i s (x ∷ xs) lt some =
     let k : n - i ≡ suc (n - (i + 1)) = omega arith in
     rw k refl
 
-pub goes_on : (n i : ℕ) (s after : State) (rest : List ℕ) (t : RulesToken × List ℕ) (total : Read State) → i < n → eqb (length rest) 0 ≡ false → next rest ≡ Ok t →
+pub goes_on : (n i : ℕ) (s after : State) (rest : List ℕ) (t : RulesToken × List ℕ) (total : Read State) → i < n →
+    eqb (length rest) 0 ≡ false → next rest ≡ Ok t →
     step s t.0 ≡ Ok after
     → read_on (n - i) s rest ≡ total → read_on (n - (i + 1)) after (skip false t.1) ≡ total
 goes_on n i s after rest t total lt some one two so_far =

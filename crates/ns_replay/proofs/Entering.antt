@@ -30,7 +30,8 @@ module _ (own : Bool) (entry : Entry) (t : State) where
 -- ---- the whole server
 
 module _ (ns : Name) (pools quotas : List Name) (entry : Entry) (s t : State) (place : ℕ) where
-  pub breach_at : (step : Step) → step ≡ entry.0 → (fault : ReplayFault) → IsBreach ns pools quotas step s place fault → IsFaultAt ns pools quotas entry s t place fault
+  pub breach_at : (step : Step) → step ≡ entry.0 → (fault : ReplayFault) →
+      IsBreach ns pools quotas step s place fault → IsFaultAt ns pools quotas entry s t place fault
   breach_at step same (Premise i) b = (b.0, subst (λ x. Breaks ns pools quotas x s) same b.1)
   breach_at step same (Differs i) b = absurd b
   breach_at step same (NotARun i) b = absurd b

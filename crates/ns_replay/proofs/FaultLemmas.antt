@@ -50,7 +50,8 @@ record GoesOn (ns : Name) (pools quotas : List Name) (entry : Entry) (s : State)
   uncrowded : is_crowded_out (part_of ns pools quotas) entry.0 s fits.answer ≡ false
   apart : is_apart next.world ns pools quotas ≡ true
 
-goes_on_at : (ns : Name) (pools quotas : List Name) (log : List Entry) (place : ℕ) (entry : Entry) (s s1 : State) (answers : List Answer) → IsIsolated ns pools quotas s (steps_of log) answers s1 →
+goes_on_at : (ns : Name) (pools quotas : List Name) (log : List Entry) (place : ℕ) (entry : Entry) (s s1 : State)
+    (answers : List Answer) → IsIsolated ns pools quotas s (steps_of log) answers s1 →
     map rendered answers ≡ replies_of log → slice_get log place ≡ Some entry →
     (mid : State) × (before : List Answer) × Run s (steps_of (take place log)) before mid × GoesOn ns pools quotas entry mid
 goes_on_at ns pools quotas [] place entry s s1 answers i logged at = absurd (not_Some entry at)

@@ -89,7 +89,8 @@ module _ (ns : Name) (pools quotas : List Name) (base : State) where
       (beside_first ns pools quotas base (valid_is_steady base valid) (first_apart ns pools quotas base s (steps_of log) r.answers r.isolated)) r.isolated r.run
 
   -- what the struck run does beside an entry that fits
-  strikes_run : (entry : Entry) (s t s' t' : State) (reply : Option Rendered) (f : Fits entry s s') → is_crowded_out (part_of ns pools quotas) entry.0 s f.answer ≡ false →
+  strikes_run : (entry : Entry) (s t s' t' : State) (reply : Option Rendered) (f : Fits entry s s') →
+      is_crowded_out (part_of ns pools quotas) entry.0 s f.answer ≡ false →
       StandsBeside ns pools quotas s t →
       Strikes (is_own (part_of ns pools quotas) entry.0) entry t t' reply →
       Run t (cond (is_own (part_of ns pools quotas) entry.0) (entry.0 ∷ []) []) (cond (is_own (part_of ns pools quotas) entry.0) (f.answer ∷ []) []) t'
@@ -132,7 +133,8 @@ module _ (ns : Name) (pools quotas : List Name) (base : State) where
 -- ---- replies
 
 module _ (ns : Name) (pools quotas : List Name) (base : State) (log : List Entry) where
-  pub reply_then : (entry : Entry) (t t' : State) (reply : Option Rendered) (replies : List Rendered) → replies ≡ replies_of (own_entries (part_of ns pools quotas) log) →
+  pub reply_then : (entry : Entry) (t t' : State) (reply : Option Rendered) (replies : List Rendered) →
+      replies ≡ replies_of (own_entries (part_of ns pools quotas) log) →
       Strikes (is_own (part_of ns pools quotas) entry.0) entry t t' reply → with_reply replies reply ≡ replies_of (own_entries (part_of ns pools quotas) (log ++ entry ∷ []))
   reply_then entry t t' reply replies told strikes =
       elim (is_own (part_of ns pools quotas) entry.0) as (λ b. Strikes b entry t t' reply →
@@ -144,11 +146,14 @@ module _ (ns : Name) (pools quotas : List Name) (base : State) (log : List Entry
       ∙ ap replies_of (sym (filter-append (λ (e : Entry). is_own (part_of ns pools quotas) e.0) log (entry ∷ [])))
 
   -- all of the log was replayed
-  pub replies_alone : (s t : State) (replies : List Rendered) → IsReplayed ns pools quotas base log s t → replies ≡ replies_of (own_entries (part_of ns pools quotas) log) →
+  pub replies_alone : (s t : State) (replies : List Rendered) → IsReplayed ns pools quotas base log s t →
+      replies ≡ replies_of (own_entries (part_of ns pools quotas) log) →
       RepliesAlone ns pools quotas base log replies
   replies_alone s t replies r told = by log r told
     where
-      by : (log : List Entry) → IsReplayed ns pools quotas base log s t → replies ≡ replies_of (own_entries (part_of ns pools quotas) log) → RepliesAlone ns pools quotas base log replies
+      by : (log : List Entry) → IsReplayed ns pools quotas base log s t →
+          replies ≡ replies_of (own_entries (part_of ns pools quotas) log) →
+          RepliesAlone ns pools quotas base log replies
       by [] r told = told
       by (entry ∷ log) r told = record {
         state = s;
@@ -168,7 +173,8 @@ module _ (ns : Name) (pools quotas : List Name) (base : State) (log : List Entry
       subst (λ p. IsFault ns pools quotas base log (NotARun p)) (sym (f.0 ∙ same)) (IsFault.no_step place entry s t reached f.1)
   fault_at place at entry s t Memory reached f same = IsFault.no_memory
 
-pub no_memory : {A : Type 0} (ns : Name) (pools quotas : List Name) (base : State) (log : List Entry) (r : Result A ReplayFault) → IsErrAnd r (λ fault. fault ≡ Memory) →
+pub no_memory : {A : Type 0} (ns : Name) (pools quotas : List Name) (base : State) (log : List Entry)
+    (r : Result A ReplayFault) → IsErrAnd r (λ fault. fault ≡ Memory) →
     IfErr r (IsFault ns pools quotas base log)
 no_memory ns pools quotas base log (Ok x) is = tt
 no_memory ns pools quotas base log (Err fault) is = subst (IsFault ns pools quotas base log) (sym is) IsFault.no_memory

@@ -10,7 +10,8 @@ use Rattle.std.proofs.lemmas.Bool.{cases_eq, cond-false, cond-true, eq-eqb, le-l
 use Rattle.std.proofs.lemmas.Cmp.{nat_cmp_total, on_total, then_total}
 use Rattle.std.proofs.Math.Nat.{mod-eq_of_lt, suc-mul}
 use Rattle.ns_types.specs.declared.resources.Resources.{Resources}
-use Rattle.ns_types.specs.State.Resources.{Resource, Cpu, Memory, Disk, InEach, IsCounted, by_each, each_resource, in_each, is_within, minus, none, plus, quantity}
+use Rattle.ns_types.specs.State.Resources.{Resource, Cpu, Memory, Disk, InEach, IsCounted, by_each, each_resource}
+use Rattle.ns_types.specs.State.Resources.{in_each, is_within, minus, none, plus, quantity}
 use Rattle.ns_types.specs.State.Resources.{IsAlike, IsTotal, Moves, added, amount_of, capped, each_amount, is_counted, times}
 use Rattle.ns_types.proofs.Named.{first_of_both, second_of_both}
 

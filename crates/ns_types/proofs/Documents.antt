@@ -10,7 +10,8 @@ use Rattle.ns_types.specs.declared.job.Job.{Job}
 use Rattle.ns_types.specs.declared.name.NameKind.TheVariants as NameKind
 use Rattle.ns_types.specs.declared.snapshot.OwnAllocation.{OwnAllocation}
 use Rattle.ns_types.specs.Placing.Wanted.{missing}
-use Rattle.ns_types.specs.State.Limits.{is_between, is_good_constraint, is_good_document, is_good_group, is_good_task, is_pool_name, is_quantity, are_quantities}
+use Rattle.ns_types.specs.State.Limits.{is_between, is_good_constraint, is_good_document, is_good_group, is_good_task}
+use Rattle.ns_types.specs.State.Limits.{is_pool_name, is_quantity, are_quantities}
 use Rattle.ns_types.specs.State.Name.{is_name}
 use Rattle.ns_types.proofs.Named.{first_of_both, second_of_both}
 

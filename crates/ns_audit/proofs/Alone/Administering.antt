@@ -242,7 +242,8 @@ module _ (part : Part) (w : World) where
       change : Option QuotaRows → World → World
       change old x = record x { quotas = insert x.quotas name (with_quota quota old) }
 
-      done : Follows part (Done Content.Written (change (get w.quotas name) w)) (Done Content.Written (change (get (alone_in part w).quotas name) (alone_in part w)))
+      done : Follows part (Done Content.Written (change (get w.quotas name) w)) (Done Content.Written (change (get
+          (alone_in part w).quotas name) (alone_in part w)))
       done = subst (λ q. Follows part (Done Content.Written (change (get w.quotas name) w)) (Done Content.Written (change q (alone_in part w))))
           (sym (quota_alone part w name own)) (follows_by (change (get w.quotas name)) (goes_quota part true name _ own))
 

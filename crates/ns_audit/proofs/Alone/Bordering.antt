@@ -114,17 +114,20 @@ module _ (w : World) (ns : Name) (pools quotas : List Name) (apart : is_apart w 
   within k x at same = second_of_both (is_confined x.namespace) _
       (first_of_both (is_confined x.namespace && names_within part.pools part.quotas x.namespace) _ (stays k x at same))
 
-  pub record_within : (k : Name) (namespace : Namespace) → same_name ns k ≡ true → namespace_at w k ≡ Some namespace → names_within part.pools part.quotas namespace ≡ true
+  pub record_within : (k : Name) (namespace : Namespace) → same_name ns k ≡ true →
+      namespace_at w k ≡ Some namespace → names_within part.pools part.quotas namespace ≡ true
   record_within k namespace same is = by (get w.tenants k) refl is
     where
-      by : (x : Option Tenant) → get w.tenants k ≡ x → option_map (λ (t : Tenant). t.namespace) x ≡ Some namespace → names_within part.pools part.quotas namespace ≡ true
+      by : (x : Option Tenant) → get w.tenants k ≡ x → option_map (λ (t : Tenant). t.namespace) x ≡ Some namespace →
+          names_within part.pools part.quotas namespace ≡ true
       by None at is = absurd (not_Some _ is)
       by (Some x) at is = ap (names_within part.pools part.quotas) (sym (same_Some _ _ is)) ∙ within k x at same
 
   pub home : (k : Name) (x : Tenant) → get w.tenants k ≡ Some x → same_name ns k ≡ true → strays_from pools x ≡ false
   home k x at same = is_no _ (second_of_both (is_confined x.namespace && names_within part.pools part.quotas x.namespace) _ (stays k x at same))
 
-  pub foreign_permits : (k : Name) (x : Tenant) (p : Name) → get w.tenants k ≡ Some x → same_name ns k ≡ false → has_name pools p ≡ true → permits x.namespace p ≡ false
+  pub foreign_permits : (k : Name) (x : Tenant) (p : Name) → get w.tenants k ≡ Some x → same_name ns k ≡ false →
+      has_name pools p ≡ true → permits x.namespace p ≡ false
   foreign_permits k x p at differs has = among (permits x.namespace) p pools has
       (left_none (list_any (permits x.namespace) pools) _
       (left_none (list_any (permits x.namespace) pools || has_name pools x.namespace.default_pool) _ (foreign k x at differs)))

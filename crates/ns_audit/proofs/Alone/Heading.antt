@@ -141,7 +141,8 @@ module _ (part : Part) (s s' : State) (secret : Option Name) (answer : Answer) (
     (within : (name : Name) (namespace : Namespace) → part.spaces name ≡ true → namespace_at s'.world name ≡ Some namespace →
     names_within part.pools part.quotas namespace ≡ true) where
   -- a put of the namespace's record that names another pool or quota is refused, since it is apart afterwards
-  foreign_put : (command : AdminCommand) (name : Name) (namespace : Namespace) → part.spaces name ≡ true → names_within part.pools part.quotas namespace ≡ false → (o : Outcome World)
+  foreign_put : (command : AdminCommand) (name : Name) (namespace : Namespace) → part.spaces name ≡ true →
+      names_within part.pools part.quotas namespace ≡ false → (o : Outcome World)
       → Leads (λ x. namespace_at x name ≡ Some namespace) o → concluded (Step.Admin secret command) s (lift (with_world s.acl) o) ≡ said answer s' →
       alone part s' ≡ alone part s
   foreign_put command name namespace mine without NotEnabled put e = absurd (not_Some _ e)

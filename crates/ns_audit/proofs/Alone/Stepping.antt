@@ -57,7 +57,8 @@ module _ (part : Part) (s s' : State) (step : Step) (answer : Answer) (fit : IsF
       replied : reply_of step content t'.world ≡ reply_of step content y.world
       replied = ap (reply_of step content) settled_alike ∙ reply_alike part step content y.world own
 
-      by : (b : Bool) → is_past_bound (settle s.world w) ≡ b → cond b (said (Err Refusal.Full) s) (said (Ok (reply_of step content y.world)) y) ≡ said answer s' →
+      by : (b : Bool) → is_past_bound (settle s.world w) ≡ b →
+          cond b (said (Err Refusal.Full) s) (said (Ok (reply_of step content y.world)) y) ≡ said answer s' →
           Alike part step s answer s' (Done content (with_world s.acl (alone_in part w)))
       by true is e = subst (λ b. cond b (said (Err Refusal.Full) (alone part s)) (said (Ok (reply_of step content t'.world)) t') ≡ said answer (alone part s'))
           (sym is ∙ over) (refused_alike Refusal.Full e)

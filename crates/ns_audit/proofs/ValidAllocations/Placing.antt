@@ -29,7 +29,8 @@ use Rattle.ns_types.proofs.Tests.{not_Some, same_Some}
 use Rattle.ns_types.proofs.TableRows.{row_of_insert}
 use Rattle.ns_audit.proofs.ValidAllocations.Statement.{IsAllocated}
 use Rattle.ns_audit.proofs.Steady.Keeping.{above, at_inserted}
-use Rattle.ns_audit.proofs.ValidAllocations.Sound.{IsBelow, itself, by_le, le_same, le_then, within_less, allocation_row, row_allocation, node_row, node_pool, ComesFrom}
+use Rattle.ns_audit.proofs.ValidAllocations.Sound.{IsBelow, itself, by_le, le_same, le_then, within_less}
+use Rattle.ns_audit.proofs.ValidAllocations.Sound.{allocation_row, row_allocation, node_row, node_pool, ComesFrom}
 use Rattle.ns_audit.proofs.ValidAllocations.Sound.{IsBelow, NodesStay, sound_from}
 use Rattle.ns_audit.proofs.ValidAllocations.Going.{comes_same, Onward, onward_same, onward_change, onward_each, Lasts, lasts_still, lasts_then}
 use Rattle.ns_audit.proofs.ValidAllocations.Nodes.{still_at, put_here}

@@ -78,7 +78,8 @@ module _ (j : Job) (own : List OwnAllocation) (running : j.stop ≡ false) where
     least = every (λ r. 1 ≤ asked r g) least;
   }
     where
-      with_tasks : (is_name NameKind.Group g.name && nat_le g.count 1000 && is_quantity g.disk && is_between 1 16 (length g.tasks) && list_all is_good_task g.tasks) ≡ true
+      with_tasks : (is_name NameKind.Group g.name && nat_le g.count 1000 && is_quantity g.disk && is_between 1 16
+          (length g.tasks) && list_all is_good_task g.tasks) ≡ true
       with_tasks = first_of_both (is_name NameKind.Group g.name && nat_le g.count 1000 && is_quantity g.disk && is_between 1 16 (length g.tasks) && list_all is_good_task g.tasks)
           _ good
 

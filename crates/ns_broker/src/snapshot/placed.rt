@@ -151,8 +151,8 @@ fn past_at(last: Option<u64>, allocations: &NumberTable<Allocation>, slot: &Numb
     }
 }
 
-/// A slot before which no row is placed after the last one, where so many rows at most are left that are. It looks from the
-/// end on until it has found as many: the rows that came last have the highest numbers.
+/// A slot before which no row is placed after the last one. It looks from the end on until it has found `left` rows that are,
+/// and lowers `left` by each: the rows that came last have the highest numbers.
 fn start_of(
     last: Option<u64>,
     allocations: &NumberTable<Allocation>,
@@ -172,7 +172,8 @@ fn start_of(
     start
 }
 
-/// At most so many are left that are placed after the last one. The name is shared by the rows that are added.
+/// Adds the rows of the slots that are placed after the last one: at most `left`, which is lowered by each. The rows that are
+/// added share one copy of the namespace's name.
 fn add_from(
     seen: &mut ByPlace,
     left: &mut usize,
@@ -196,7 +197,7 @@ fn add_from(
     add_numbers(seen, last, &namespace, allocations, &slots[start..])
 }
 
-/// The same for a namespace.
+/// Adds the rows of a namespace that are placed after the last one, and lowers `left` by each.
 fn add_namespace(
     seen: &mut ByPlace,
     left: &mut usize,
@@ -227,7 +228,7 @@ fn add_namespace(
     )
 }
 
-/// So many at most are placed after the last one.
+/// Adds the rows of all these namespaces that are placed after the last one: `most` of them at most.
 fn add_namespaces(
     seen: &mut ByPlace,
     most: usize,

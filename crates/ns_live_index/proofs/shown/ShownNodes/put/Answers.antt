@@ -20,4 +20,5 @@ pub returns-in_ok-reserve-clause-ok : goal.returns-in_ok-reserve-clause-ok
 returns-in_ok-reserve-clause-ok c = then_there c.args.self.now c.open.new.self _ c.args.pool.now c.args.name.now (shown_so c.args.seen) c.open.ensures.same
     (put_there c.args.pool.now c.open.new.self _ c.in-Some.nodes.now (sym c.get_mut.ensures.value ∙ ap option_copied_mut c.in-Some.is)
     c.set.new.self refl c.args.name.now (shown_so c.args.seen)
-    (node_written c.in-Some.nodes.now c.reserve.new.self c.set.new.self c.args.name.now (record { seen = c.args.seen; is_behind = false }) c.in_ok-reserve.ensures.ok c.set.ensures))
+    (node_written c.in-Some.nodes.now c.reserve.new.self c.set.new.self c.args.name.now
+    (record { seen = c.args.seen; is_behind = false }) c.in_ok-reserve.ensures.ok c.set.ensures))
