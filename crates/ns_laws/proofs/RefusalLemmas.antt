@@ -272,34 +272,18 @@ steps_refuse_so step s t refusal e = by (is_allowed step s.acl) refl
     by true is = later_of_steps refusal (concluded_so later step s t (act step s) refusal refl (acts step s) (sym (after_allowed step s is) ∙ e))
     by false is = ap law.is_of_steps (sym (same_refusal Refusal.Denied refusal s t (sym (denied_without step s is) ∙ e)))
 
-is_full : Refusal → Bool
-is_full Refusal.Full = true
-is_full _ = false
-
-full_is : (refusal : Refusal) → is_full refusal ≡ true → refusal ≡ Refusal.Full
-unfolding is_full
-full_is Refusal.Full e = refl
-full_is Refusal.NotFound e = not_both e refl
-full_is Refusal.PoolNotPermitted e = not_both e refl
-full_is (Refusal.BadField member) e = not_both e refl
-full_is Refusal.Conflict e = not_both e refl
-full_is Refusal.InUse e = not_both e refl
-full_is Refusal.Denied e = not_both e refl
-full_is Refusal.BadHead e = not_both e refl
-full_is Refusal.BadJson e = not_both e refl
-full_is Refusal.BadMethod e = not_both e refl
-full_is Refusal.NeedLength e = not_both e refl
-full_is Refusal.TooLarge e = not_both e refl
-full_is Refusal.NotServed e = not_both e refl
-full_is Refusal.Memory e = not_both e refl
-full_is Refusal.LogFull e = not_both e refl
-full_is Refusal.NotEnabled e = not_both e refl
-full_is Refusal.Foreign e = not_both e refl
-
-none_or_full : (o : Outcome State) → only never o ≡ true → only is_full o ≡ true
-none_or_full NotEnabled e = refl
-none_or_full (Refused refusal) e = not_both e refl
-none_or_full (Done content s) e = refl
+-- an outcome without refusals is refused only where a counter would pass its bound
+concluded_full : (step : Step) (s t : State) (o : Outcome State) (refusal : Refusal) → only never o ≡ true →
+    concluded step s o ≡ said (Err refusal) t → (refusal ≡ Refusal.Full) × (law.is_past_after s o ≡ true)
+concluded_full step s t NotEnabled refusal e f = not_said (Err refusal) t f
+concluded_full step s t (Refused r) refusal e f = not_both e refl
+concluded_full step s t (Done content s') refusal e f = by (is_past_bound (settled s s').world) refl f
+  where
+    by : (b : Bool) → is_past_bound (settled s s').world ≡ b →
+        cond b (said (Err Refusal.Full) s) (said (Ok (reply_of step content (settled s s').world)) (settled s s')) ≡ said (Err refusal) t →
+        (refusal ≡ Refusal.Full) × (law.is_past_after s (Done content s') ≡ true)
+    by true is f = (sym (same_refusal Refusal.Full refusal s t f), is)
+    by false is f = not_refused (reply_of step content (settled s s').world) refusal (same_answer _ _ (settled s s') t f)
 
 allowed_worker : (step : Step) (s : State) → law.is_of_worker step ≡ true → is_allowed step s.acl ≡ true
 allowed_worker (Step.Ask ns secret command) s e = not_both e refl
@@ -313,7 +297,5 @@ allowed_worker (Step.Finish worker ns) s e = refl
 allowed_worker (Step.Nack worker ns) s e = refl
 
 pub workers_are_full_only : law.WorkersAreFullOnly
-unfolding is_full
 workers_are_full_only step s t refusal own e =
-    full_is refusal (concluded_so is_full step s t (act step s) refusal refl (none_or_full (act step s) (worker_acts step s own))
-    (sym (after_allowed step s (allowed_worker step s own)) ∙ e))
+    concluded_full step s t (act step s) refusal (worker_acts step s own) (sym (after_allowed step s (allowed_worker step s own)) ∙ e)

@@ -142,20 +142,20 @@ module _ (s : State) (secret : Option Name) (ns : Name) (r : Registration) where
   -- ---- and no other
 
   abbrev IsWhy : Refusal → Type 0
-  IsWhy refusal = SpeaksAgainst s secret ns r refusal ⊎ (refusal ≡ Refusal.Full)
+  IsWhy refusal = SpeaksAgainst s secret ns r refusal ⊎ ((refusal ≡ Refusal.Full) × (law.would_pass_bound step s ≡ true))
 
   by_known : (known refusal : Refusal) (t : State) → SpeaksAgainst s secret ns r known → after step s ≡ said (Err known) s →
       after step s ≡ said (Err refusal) t → IsWhy refusal
   by_known known refusal t why is e = inl (subst (SpeaksAgainst s secret ns r) (same_refusal known refusal s t (sym is ∙ e)) why)
 
-  by_done : (refusal : Refusal) (t : State) (content : Content) (w : World) → concluded step s (Done content (with_world s.acl w)) ≡ said (Err refusal) t →
-      IsWhy refusal
-  by_done refusal t content w e = by (is_past_bound (settled s (with_world s.acl w)).world) e
+  by_done : (refusal : Refusal) (t : State) (content : Content) (w : World) → act step s ≡ Done content (with_world s.acl w) →
+      concluded step s (Done content (with_world s.acl w)) ≡ said (Err refusal) t → IsWhy refusal
+  by_done refusal t content w acts e = by (is_past_bound (settled s (with_world s.acl w)).world) refl e
     where
-      by : (b : Bool) → cond b (said (Err Refusal.Full) s)
+      by : (b : Bool) → is_past_bound (settled s (with_world s.acl w)).world ≡ b → cond b (said (Err Refusal.Full) s)
           (said (Ok (reply_of step content (settled s (with_world s.acl w)).world)) (settled s (with_world s.acl w))) ≡ said (Err refusal) t → IsWhy refusal
-      by true e = inr (sym (same_refusal Refusal.Full refusal s t e))
-      by false e = not_refused (reply_of step content (settled s (with_world s.acl w)).world) refusal (same_answer _ _ (settled s (with_world s.acl w)) t e)
+      by true is e = inr (sym (same_refusal Refusal.Full refusal s t e), ap (law.is_past_after s) acts ∙ is)
+      by false is e = not_refused (reply_of step content (settled s (with_world s.acl w)).world) refusal (same_answer _ _ (settled s (with_world s.acl w)) t e)
 
   why_in : (refusal : Refusal) (end : State) (t : Tenant) → has_right ≡ true → get s.world.tenants ns ≡ Some t → after step s ≡ said (Err refusal) end →
       IsWhy refusal
@@ -163,7 +163,8 @@ module _ (s : State) (secret : Option Name) (ns : Name) (r : Registration) where
     where
       full : is_permitted t ≡ true → is_there t ≡ true → is_outdated r t ≡ false → (b : Bool) → has_no_room r t ≡ b → IsWhy refusal
       full f g h true k = by_known Refusal.Full refusal end (room_against t is k) (refused_so Refusal.Full may (tested t is f g h k)) e
-      full f g h false k = by_done refusal end _ _ (sym (after_allowed step s may ∙ ap (concluded step s) (tested t is f g h k)) ∙ e)
+      full f g h false k = by_done refusal end _ _ (tested t is f g h k)
+          (sym (after_allowed step s may ∙ ap (concluded step s) (tested t is f g h k)) ∙ e)
 
       other : is_permitted t ≡ true → is_there t ≡ true → (b : Bool) → is_outdated r t ≡ b → IsWhy refusal
       other f g true h = by_known Refusal.Conflict refusal end (other_against t is h) (refused_so Refusal.Conflict may (tested t is f g h refl)) e

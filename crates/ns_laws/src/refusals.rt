@@ -10,37 +10,40 @@ ghost use Rattle.ns_laws.specs.Refusals.{
   RegisterRefusesSo,
 };
 
-/// A step is denied exactly where the secret has no right to it, whatever else would refuse it.
+/// A step is refused `denied` exactly where its secret has no right to it, whatever else would refuse it.
 pub fn denied_without_right()
     ensures { DeniedWithoutRight }
 {}
 
-/// So nothing of the state but the access lists decides it.
+/// So the access lists alone decide it: a step that is denied in one state is denied in every state with the same access lists.
 pub fn denied_alike()
     ensures { DeniedAlike }
 {}
 
-/// A step answers no other refusal than those of steps.
+/// The refusals of steps are `denied`, not found, pool not permitted, bad field, conflict, in use and full. A step is refused
+/// with no other.
 pub fn steps_refuse_so()
     ensures { StepsRefuseSo }
 {}
 
-/// A worker's step is refused only where a counter would pass its bound.
+/// A worker's step is refused with no other refusal than `full`, and only where a counter would pass its bound.
 pub fn workers_are_full_only()
     ensures { WorkersAreFullOnly }
 {}
 
-/// Zero demands that there is no such job, and any other number a job with that index.
+/// A registration may enforce an index. Zero demands that there is no such job; any other number demands a job with that modify
+/// index.
 pub fn index_is_demanded()
     ensures { IndexIsDemanded }
 {}
 
-/// Where something speaks against a registration, it is answered with what of it comes first.
+/// If there is a reason to refuse a registration (`SpeaksAgainst`), it is refused with such a reason, and no other one that
+/// holds comes before it.
 pub fn first_refusal_of_register()
     ensures { FirstRefusalOfRegister }
 {}
 
-/// Where nothing does, it is refused only where a counter would pass its bound.
+/// If a registration is refused, it is for one of these reasons; or with `full`, where a counter would pass its bound.
 pub fn register_refuses_so()
     ensures { RegisterRefusesSo }
 {}
