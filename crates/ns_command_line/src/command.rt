@@ -25,7 +25,7 @@ const STATUSES: &str = "Exit statuses:
 
 const ALONE: &str = "\
 Standard input is a log, as `serve` and `pipe --print log` print it. The first COUNT entries set up the
-server; from there on the namespace's own steps are repeated by a server that holds nobody else.
+server; from there on the namespace's own steps are repeated by a server that holds no other.
 
 --pool and --quota name the pools and quotas that the namespace has to itself. Its own steps are the
 requests in the namespace or for its pools, with any token; what workers did for it; and requests of

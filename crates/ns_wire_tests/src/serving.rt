@@ -1,4 +1,4 @@
-// What bad words of `serve` are answered, and its help.
+// The texts for bad words of `serve`, and its help.
 use crate::texts::are_bad;
 use std::alloc::Global;
 use std::rt::HostRuntime;
@@ -78,7 +78,7 @@ Usage: nsd <COMMAND>
 For more information, try '--help'.
 ";
 
-/// Words of `serve` after a good address, and what is answered.
+/// A bad word of `serve` after a good address, and the text that it gets.
 static BAD_WORDS: [(&str, &str); 23] = [
     ("--bootstrap=a b", BAD_SECRET),
     ("--workers=0", BAD_WORKERS),
@@ -114,7 +114,7 @@ static BAD_ADDRESSES: [&str; 6] = [
     "::1:4646",
 ];
 
-/// Bad beside `--rotate=1`.
+/// Words that are bad beside `--rotate=1`.
 static BAD_BYTES: [&str; 2] = ["--rotate-bytes=0", "--rotate-bytes=18446744073709551616"];
 
 #[test]
@@ -186,9 +186,9 @@ Example:
 Standard error:
   listening ADDR    the address, once the server listens
   bootstrap SECRET  the secret of the first management token, if it was drawn
-  log limit N       without --rotate and --accept: a log of N entries stops the server
+  log limit N       without --rotate and --accept: after N entries each request is answered 503
   settled K         with --accept: the log has K entries, which are what the threads were answered
-  mismatch          with --accept: the log is not what the threads were answered
+  mismatch          with --accept: the log is not what the threads were answered, or is no run
 Standard output: the log, in the format of `pipe --print log`. With --rotate it comes piece by piece;
 with --accept the rest comes at the end.
 

@@ -1,4 +1,4 @@
-// What words that ask for nothing are answered, and the lines of faults.
+// The texts for bad words and for requests for help, and the lines of faults.
 use crate::same_bits::SameBits;
 use crate::serving;
 use ns_command_line::{RunEnd, run_words};
@@ -40,7 +40,7 @@ fn run_with(alloc: Global, words: &[&str]) -> RunText {
     }
 }
 
-/// Whether the words are bad, for this reason.
+/// Whether the words are refused as bad, with this text.
 pub(crate) fn are_bad(alloc: Global, words: &[&str], text: &str) -> bool {
     let ran = run_with(alloc, words);
     ran.status == 2 && ran.output.is_empty() && ran.errors.as_slice() == text.as_bytes()
@@ -142,7 +142,7 @@ fn bad_words(rt: HostRuntime) {
     assert!(rt; are_bad(alloc, &["nsd", "help", "agent"], OTHER_COMMAND));
 }
 
-/// Whether `pipe` with these words after a good secret is bad, for this reason.
+/// Whether `pipe` with this word after a good secret is refused as bad, with this text.
 fn is_bad_pipe(alloc: Global, word: &str, text: &str) -> bool {
     are_bad(alloc, &["nsd", "pipe", "--bootstrap", "root", word], text)
 }
@@ -157,7 +157,7 @@ fn bad_words_of_pipe(rt: HostRuntime) {
     assert!(rt; is_bad_pipe(alloc, "--print=", BAD_PRINT));
 }
 
-/// Whether `alone` with this word after a good name is bad, for this reason.
+/// Whether `alone` with this word after a good name is refused as bad, with this text.
 fn is_bad_alone(alloc: Global, word: &str, text: &str) -> bool {
     are_bad(alloc, &["nsd", "alone", "ta", word], text)
 }
@@ -226,7 +226,7 @@ Options:
   -h, --help          Print help
 
 Standard input is a log, as `serve` and `pipe --print log` print it. The first COUNT entries set up the
-server; from there on the namespace's own steps are repeated by a server that holds nobody else.
+server; from there on the namespace's own steps are repeated by a server that holds no other.
 
 --pool and --quota name the pools and quotas that the namespace has to itself. Its own steps are the
 requests in the namespace or for its pools, with any token; what workers did for it; and requests of
@@ -258,7 +258,7 @@ Exit statuses:
   5  out of memory
 ";
 
-/// Whether the words are answered by this help, on the output.
+/// Whether the words get this help, on the output.
 fn is_helped(alloc: Global, words: &[&str], help: &str) -> bool {
     let ran = run_with(alloc, words);
     ran.status == 0 && ran.errors.is_empty() && ran.output.as_slice() == help.as_bytes()

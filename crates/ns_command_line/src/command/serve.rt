@@ -26,9 +26,9 @@ Example:
 Standard error:
   listening ADDR    the address, once the server listens
   bootstrap SECRET  the secret of the first management token, if it was drawn
-  log limit N       without --rotate and --accept: a log of N entries stops the server
+  log limit N       without --rotate and --accept: after N entries each request is answered 503
   settled K         with --accept: the log has K entries, which are what the threads were answered
-  mismatch          with --accept: the log is not what the threads were answered
+  mismatch          with --accept: the log is not what the threads were answered, or is no run
 Standard output: the log, in the format of `pipe --print log`. With --rotate it comes piece by piece;
 with --accept the rest comes at the end.
 
