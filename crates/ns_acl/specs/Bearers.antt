@@ -1,4 +1,4 @@
--- Whom a secret stands for, as the program keeps it.
+-- The bearer of a secret, as the program keeps it.
 use Rattle.ns_types.specs.Access.Rights as rights
 use Rattle.ns_acl.specs.declared.bearer.TokenBearer.{TokenBearer}
 

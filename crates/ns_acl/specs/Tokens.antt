@@ -1,4 +1,4 @@
--- Tokens by secret, what is found of them by accessor, and what is shown of policies.
+-- Tokens by secret, how they are found by accessor, and what is shown of policies.
 use Rattle.std.specs.Prelude.{◌||◌, Bool, [], List, Option, find, option_map}
 use Rattle.std.specs.FinMap.{contains_key, insert}
 use Rattle.keyed.specs.Table.{at_slot}
@@ -15,7 +15,7 @@ use Rattle.ns_types.specs.State.Rows.{Acl}
 abbrev pub bootstrap_token : Token
 bootstrap_token = record { accessor = bootstrap_accessor; name = []; kind = TokenKind.Management; policies = [] }
 
--- the secret or the accessor of a new token is another's
+-- another token has the secret or the accessor of the new one
 abbrev pub is_taken : NewToken → Acl → Bool
 is_taken new acl = contains_key acl.tokens new.secret || has_accessor acl new.accessor
 
@@ -27,7 +27,7 @@ with_token new tokens = insert tokens new.secret (token_of new)
 abbrev pub is_of : Name → Name × Option Token → Bool
 is_of accessor = at_slot (λ e. same_name accessor e.1.accessor)
 
--- of the first token with that accessor
+-- the secret of the first token with that accessor
 abbrev pub secret_in : Name → List (Name × Option Token) → Option Name
 secret_in accessor slots = option_map (λ e. e.0) (find (is_of accessor) slots)
 

@@ -24,7 +24,7 @@ use ns_types::text::Text;
 use std::alloc::{AllocError, Global};
 use std::marker::Model;
 
-/// The policy that counts where there is no secret.
+/// The policy of a request without a secret.
 const ANONYMOUS: &str = "anonymous";
 
 const NO_RIGHTS: Rights = Rights {
@@ -46,7 +46,7 @@ pub struct Acl {
     policies: NameTable<Policy>,
     /// By secret.
     pub(crate) tokens: NameTable<Token>,
-    /// The names of the policies that count where there is no secret.
+    /// The names of the policies of a request without a secret: `anonymous` alone.
     anonymous: Rows<Text>,
 }
 
@@ -88,7 +88,7 @@ fn rights_in(grants: Grants) -> Rights
 }
 
 impl Acl {
-    /// No policies, and one token, a manager's, with that secret.
+    /// Access lists without a policy and with one token, a management token with that secret. Want of memory is the only error.
     pub fn new(alloc: Global, bootstrap: &Text) -> Result<Acl, AllocError>
         ensures { IfOk result (λ acl. acl ≡ opening_acl bootstrap.now) }
     {
@@ -114,7 +114,7 @@ impl Acl {
         })
     }
 
-    /// Whom the secret stands for. Without one it is the policy `anonymous`.
+    /// The bearer of the secret. A request without a secret has the policy `anonymous`.
     fn bearer<'a>(&'a self, secret: Option<&Text>) -> TokenBearer<'a>
         ensures { bearer_of result ≡ bearer self.now (option_copied secret.entry) }
     {
@@ -127,7 +127,7 @@ impl Acl {
         }
     }
 
-    /// What the policies with these names give for a name, of those that exist.
+    /// The rights that the policies with these names give for the name `target`. A policy that does not exist gives none.
     fn granted(&self, kind: RuleKind, policies: &[Text], target: &Text) -> Grants
         ensures { result ≡ granted self.now kind policies.now target.now }
     {
@@ -196,7 +196,7 @@ impl Acl {
         }
     }
 
-    /// The policy, with its name. `NotFound` where there is none.
+    /// The policy, with its name. `NotFound`: there is none. Else want of memory is the only error.
     pub fn read_policy(&self, name: &Text) -> Result<Content, Refusal>
         ensures { Changes (read_policy name.now self.now) self.now result self.now }
     {
@@ -207,7 +207,8 @@ impl Acl {
         Ok(content)
     }
 
-    /// Writes the policy, over the one that is there. `Full` where it is new and has no room.
+    /// Writes the policy, over the one with that name if there is one. `Full`: it is new, and there are 10,000. Else want of
+    /// memory is the only error.
     pub fn put_policy(&mut self, name: &Text, policy: &Policy) -> Result<Content, Refusal>
         ensures { Changes (put_policy name.now policy.now self.old) self.old result self.new }
     {
@@ -218,7 +219,7 @@ impl Acl {
         Ok(Content::Written)
     }
 
-    /// Takes the policy out. `NotFound` where there is none.
+    /// Deletes the policy. `NotFound`: there is none.
     pub fn delete_policy(&mut self, name: &Text) -> Result<Content, Refusal>
         ensures { Changes (delete_policy name.now self.old) self.old result self.new }
     {
@@ -249,7 +250,8 @@ impl Acl {
         has_row(&self.tokens, &new.secret) || self.has_accessor(&new.accessor)
     }
 
-    /// Makes the token. `Conflict` where its secret or its accessor is taken, and `Full` where it has no room.
+    /// Adds the token. `Conflict`: a token has its secret or its accessor. Then `Full`: there are 10,000. Else want of memory
+    /// is the only error.
     pub fn create_token(&mut self, new: &NewToken) -> Result<Content, Refusal>
         ensures { Changes (create_token new.now self.old) self.old result self.new }
     {
@@ -263,7 +265,8 @@ impl Acl {
         Ok(Content::Token(shown))
     }
 
-    /// Takes the token out. `NotFound` where no token has that accessor, and `InUse` for the bootstrap token.
+    /// Deletes the token with that accessor. `NotFound`: there is none. `InUse`: it is the bootstrap token. Else want of memory
+    /// is the only error.
     pub fn delete_token(&mut self, accessor: &Text) -> Result<Content, Refusal>
         ensures { Changes (delete_token accessor.now self.old) self.old result self.new }
     {

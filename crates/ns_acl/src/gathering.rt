@@ -1,4 +1,4 @@
-//! What the rules of policies give for one name.
+//! The rights that the rules of policies give for one name.
 
 ghost use Rattle.std.specs.Prelude.{◌≡◌, ◌∷◌, [], filter};
 ghost use Rattle.ns_types.specs.State.Names.{Name};
@@ -8,14 +8,14 @@ ghost use Rattle.ns_acl.specs.Gathered.{Adds, Counts, gathered};
 use ns_types::acl::{Grants, NO_GRANTS, Rule, RuleKind};
 use ns_types::text::{Text, same_text};
 
-/// What the rules that were seen give for a name.
+/// The rights that the rules seen so far give for a name.
 #[derive(Clone, Copy)]
 pub(crate) struct Gathered {
-    /// Of the rules of the exact name, once there is one.
+    /// The rights of the rules with the exact name, once there is one.
     exact: Option<Grants>,
     /// The length of the longest pattern with a star that matches, in bytes.
     longest: usize,
-    /// Of the rules whose pattern matches and is that long.
+    /// The rights of the rules whose pattern with a star matches and has that length.
     matching: Grants,
 }
 
@@ -62,7 +62,7 @@ fn is_match(target: &Text, rule: &Rule) -> bool
 }
 
 impl Gathered {
-    /// Of no rules.
+    /// The rights of no rules.
     pub(crate) fn new() -> Gathered
         ensures { (target : Name) → result ≡ gathered target [] }
     {
@@ -103,7 +103,7 @@ impl Gathered {
         }
     }
 
-    /// With the rules of that kind.
+    /// The rights with those of `rules` that are of that kind added.
     pub(crate) fn with_rules(self, kind: RuleKind, target: &Text, rules: &[Rule]) -> Gathered
         ensures { Adds target.now (filter (is_of_kind kind) rules.now) self result }
     {
@@ -116,7 +116,7 @@ impl Gathered {
         all
     }
 
-    /// What counts of it.
+    /// The rights that count: those of the exact name if there are any, else those of the longest match; none if one denies.
     pub(crate) fn grants(self) -> Grants
         ensures { Counts self result }
     {

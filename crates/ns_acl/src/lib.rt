@@ -1,4 +1,4 @@
-//! Keeps policies and tokens, and finds whom a secret stands for and what it may do.
+//! Keeps policies and tokens, and finds what the bearer of a secret may do.
 #![tactic(auto)]
 
 mod acl;

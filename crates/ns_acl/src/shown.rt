@@ -1,4 +1,4 @@
-//! What is answered of policies and tokens, and the token that is stored.
+//! What replies show of policies and tokens, and the row of a new token.
 
 ghost use Rattle.std.specs.Prelude.{◌≡◌, IfOk};
 ghost use Rattle.ns_types.specs.Asking.Policies.{made_token, token_of};
@@ -19,7 +19,7 @@ pub(crate) fn policy_content(name: &Text, policy: &Policy) -> Result<Content, Al
     }))
 }
 
-/// What is answered of a new token: all of it, with its secret.
+/// What the reply shows of a new token: all of it, with its secret.
 pub(crate) fn made_token(new: &NewToken) -> Result<TokenShown, AllocError>
     ensures { IfOk result (λ shown. shown ≡ made_token new.now) }
 {

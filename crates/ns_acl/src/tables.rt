@@ -26,7 +26,7 @@ pub(crate) fn has_no_room<V: Drop>(table: &NameTable<V>) -> bool
     table.len() >= MOST_ROWS
 }
 
-/// Whether there is no room for a row at `key`.
+/// Whether `key` is new and there is no room for a new row.
 pub(crate) fn is_full<V: Drop>(table: &NameTable<V>, key: &Text) -> bool
     ensures { result ≡ is_full (rows table.now) key.now }
 {

@@ -20,7 +20,7 @@ use std::alloc::{AllocError, Global};
 /// The accessor of the bootstrap token.
 const BOOTSTRAP_ACCESSOR: &str = "00000000-0000-0000-0000-000000000000";
 
-/// The bootstrap token: a manager's.
+/// The bootstrap token, a management token.
 pub(crate) fn bootstrap_token(alloc: Global) -> Result<Token, AllocError>
     ensures { IfOk result (λ token. token ≡ bootstrap_token) }
 {
@@ -65,7 +65,8 @@ pub(crate) fn secret_of<'a>(slots: &'a [NameSlot<Token>], accessor: &Text) -> Op
         .map(|slot| &slot.0)
 }
 
-/// Writes the row of a new token, and answers what is shown of it, or leaves the rows as they are.
+/// Adds the row of a new token, and returns what is shown of it. Want of memory is the only error, and leaves the rows as they
+/// are.
 pub(crate) fn add_token(
     tokens: &mut NameTable<Token>,
     new: &NewToken,

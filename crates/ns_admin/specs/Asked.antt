@@ -1,4 +1,4 @@
--- The pools that are asked for.
+-- The pools that a test looks for.
 use Rattle.std.specs.Prelude.{Bool}
 use Rattle.ns_types.specs.Asking.Admins.{is_withdrawn}
 use Rattle.ns_types.specs.State.Names.{Name, same_name}

@@ -1,4 +1,4 @@
--- What lists of those whose names pass hold.
+-- The lists of rows whose names pass.
 use Rattle.std.specs.Prelude.{◌≡◌, Bool, List, map, filter, IfOk, Option, Result}
 use Rattle.std.specs.Borrow.{Bor}
 use Rattle.std.specs.Fn.{FnReturnsAt, Shared}
@@ -14,13 +14,13 @@ use Rattle.ns_tables.specs.World.{world_of}
 abbrev pub Tests : {F : Type 0} → Shared F (Bor Name × Unit {0}) Bool → F → (Name → Bool) → Type 0
 Tests call shows passes = (name : Name) (b : Bool) → FnReturnsAt call shows name b → b ≡ passes name
 
--- the rows that pass, as they are shown
+-- the rows whose names pass, as lists show them
 abbrev pub ShowsPassing : {F V S : Type 0} → Shared F (Bor Name × Unit {0}) Bool → F → (Name × V → S)
     → List (Name × Option V) → Result (List S) AllocError → Type 0
 ShowsPassing call shows show slots result = (passes : Name → Bool) → Tests call shows passes →
     IfOk result (λ shown. shown ≡ map show (filter (λ e. passes e.0) (row_list slots)))
 
--- the list of those that pass
+-- the content that lists the rows whose names pass
 abbrev pub ListsPassing : {F : Type 0} → Shared F (Bor Name × Unit {0}) Bool → F → ((Name → Bool) → World → Content)
     → Tables → Result Content AllocError → Type 0
 ListsPassing call shows list tables result = (passes : Name → Bool) → Tests call shows passes →

@@ -1,5 +1,4 @@
--- What administrators' steps lead to in every world: all but a put of a quota with other limits than it has settle as
--- they are.
+-- What administrators' steps lead to in every world: all but a put of a quota with other limits settle as they are.
 use Rattle.std.specs.Prelude.{◌≡◌, Bool, true, false, Option, None, Result, Ok, Err}
 use Rattle.ns_types.specs.declared.refusal.Refusal.{Refusal}
 use Rattle.ns_types.specs.declared.reply.Content.{Content}
@@ -18,23 +17,23 @@ abbrev pub relimits : AdminCommand → World → Bool
 relimits (AdminCommand.PutQuota name quota) w = is_relimited name quota w
 relimits _ w = false
 
--- the answer to a step that shows no index
+-- the reply to a step that shows no index
 abbrev pub plain : Result Content Refusal → Answer
 plain (Ok content) = Ok (record { index = None; content = content })
 plain (Err refusal) = Err refusal
 
--- it releases nothing, wakes nothing, and no row gets an index
+-- a step that puts no quota with other limits releases nothing, wakes nothing, and gives no row an index
 abbrev pub AdministrationSettles : Type 0
 AdministrationSettles = (secret : Option Name) (command : AdminCommand) (s s' : State) (content : Content)
     → relimits command s.world ≡ false → administer secret command s ≡ Done content s'
     → settle s.world s'.world ≡ s'.world
 
--- before the step settles, and then of every command
+-- no counter passes its bound by the step, whatever its command, before it settles
 abbrev pub AdministrationStaysWithin : Type 0
 AdministrationStaysWithin = (secret : Option Name) (command : AdminCommand) (s s' : State) (content : Content)
     → is_past_bound s.world ≡ false → administer secret command s ≡ Done content s' → is_past_bound s'.world ≡ false
 
--- so the step answers what its change says, and leaves what it leaves
+-- a step that puts no quota with other limits replies what its change says, and leaves the state that its change leaves
 abbrev pub AdministrationMakes : Type 0
 AdministrationMakes = (s s' : State) (secret : Option Name) (command : AdminCommand) (result : Result Content Refusal)
     → may_administer s.acl secret command ≡ true → is_past_bound s.world ≡ false →

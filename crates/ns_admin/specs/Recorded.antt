@@ -1,4 +1,4 @@
--- What administrators' commands on namespaces, quotas and pools come to, and what is then written.
+-- What administrators' commands on namespaces, quotas and pools write.
 use Rattle.std.specs.Prelude.{◌≡◌, true, OnOk, Result, Ok, Err}
 use Rattle.std.specs.FinMap.{remove}
 use Rattle.std.specs.declared.alloc.AllocError.{AllocError}
@@ -11,7 +11,7 @@ use Rattle.ns_tables.specs.World.{world_of}
 use Rattle.ns_admin.specs.declared.record.RecordChange.{RecordChange}
 use Rattle.ns_admin.specs.Viewed.{with_namespace_put, with_pool_put, with_quota_put, without_namespace}
 
--- the record of one owner, and nothing else; an owner goes with all that it has
+-- the record of one owner is written, or the owner is removed with all that it has; nothing else changes
 abbrev pub recorded : RecordChange → World → World
 recorded (RecordChange.Namespace name namespace) w = with_namespace_put name namespace w
 recorded (RecordChange.NoNamespace name) w = without_namespace name w
@@ -20,12 +20,13 @@ recorded (RecordChange.NoQuota name) w = record w { quotas = remove w.quotas nam
 recorded (RecordChange.Pool name pool) w = with_pool_put name pool w
 recorded (RecordChange.NoPool name) w = record w { pools = remove w.pools name }
 
--- What a command comes to. The tables are as they were. Want of memory comes last, where the command would have been made.
+-- What a command writes, or its refusal. The tables are as they were. Want of memory comes last, where the command would have
+-- been made.
 abbrev pub PreparesRecord : (World → Outcome World) → Tables → Result RecordChange Refusal → Type 0
 PreparesRecord command t (Ok change) = command (world_of t) ≡ Done Content.Written (recorded change (world_of t))
 PreparesRecord command t (Err Refusal.Memory) = is_done (command (world_of t)) ≡ true
 PreparesRecord command t (Err refusal) = command (world_of t) ≡ Refused refusal
 
--- the world is changed so, unless memory was refused
+-- the world is changed by `change`, unless memory was refused
 abbrev pub Writes : (World → World) → Tables → Result (Unit {0}) AllocError → Tables → Type 0
 Writes change old result new = OnOk result (world_of new ≡ change (world_of old))

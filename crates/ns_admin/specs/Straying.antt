@@ -1,4 +1,4 @@
--- What of a namespace names another pool than those of a list, and who intrudes on them.
+-- Whether something of a namespace names a pool that is not in a list, and whether another namespace intrudes on the pools.
 use Rattle.std.specs.Prelude.{ℕ, Bool, true, false, not, ◌&&◌, List}
 use Rattle.std.specs.FinMap.{get}
 use Rattle.std.specs.Option.{option_map_or}
@@ -13,20 +13,20 @@ use Rattle.ns_tables.specs.declared.tables.TenantRows.{TenantRows}
 
 -- ---- in a namespace
 
--- an open evaluation
+-- an open evaluation names a pool that is not in the list
 abbrev pub has_evaluation_astray : List Name → Tenant → Bool
 has_evaluation_astray pools t = any_row (λ _ e. is_open e.status && not (has_name pools e.pool)) t.evaluations
 
--- a kept snapshot
+-- a kept snapshot names a pool that is not in the list
 abbrev pub has_worker_astray : List Name → Tenant → Bool
 has_worker_astray pools t =
     any_row (λ _ worker. option_map_or (λ kept. not (has_name pools kept.pool)) worker.kept false) t.workers
 
--- an allocation that the client has not ended
+-- an allocation that the client has not ended names a pool that is not in the list
 abbrev pub has_allocation_astray : List Name → Tenant → Bool
 has_allocation_astray pools t = any_row (λ _ a. is_held a.client && not (has_name pools a.pool)) t.allocations
 
--- a namespace that is there stays within these pools and quotas
+-- the namespace, if it is there, stays within these pools and quotas
 abbrev pub stays_there : List Name → List Name → Name → World → Bool
 stays_there pools quotas ns w = option_map_or (stays_within pools quotas) (get w.tenants ns) true
 

@@ -1,4 +1,4 @@
--- What administrators' commands change in the world, and what they ask of it.
+-- What administrators' commands change in the world, and what they test in it.
 use Rattle.std.specs.Prelude.{ℕ, Bool, true, false, not, ◌&&◌, ◌||◌}
 use Rattle.std.specs.FinMap.{get, insert, remove}
 use Rattle.std.specs.Option.{option_map_or}
@@ -31,7 +31,7 @@ use Rattle.ns_tables.specs.World.{tenant_of}
 abbrev pub with_namespace_put : Name → Namespace → World → World
 with_namespace_put name namespace w = put_tenant name (with_namespace namespace (get w.tenants name)) w
 
--- it goes with all that it has
+-- the namespace is removed with all that it has
 abbrev pub without_namespace : Name → World → World
 without_namespace name w = record w { tenants = remove w.tenants name }
 
@@ -41,7 +41,7 @@ with_pool_put name pool w = put_pool name (with_pool pool (get w.pools name)) w
 abbrev pub with_quota_written : Name → QuotaRows → World → World
 with_quota_written name q w = record w { quotas = insert w.quotas name q }
 
--- its release number stays
+-- the quota's record is written, and its release number stays
 abbrev pub with_quota_put : Name → Quota → World → World
 with_quota_put name quota w = with_quota_written name (with_quota quota (get w.quotas name)) w
 
@@ -53,33 +53,33 @@ permits_in name pool w = option_map_or (λ t. permits t.namespace pool) (get w.t
 abbrev pub is_confined_in : Name → World → Bool
 is_confined_in name w = option_map_or (λ t. is_confined t.namespace) (get w.tenants name) false
 
--- what the namespace has forbids the record
+-- the namespace is there, and what it has forbids the record
 abbrev pub forbids_in : Name → Namespace → World → Bool
 forbids_in name namespace w = option_map_or (forbids_put namespace) (get w.tenants name) false
 
--- the other names the quota of the namespace
+-- the other namespace names the quota of the namespace
 abbrev pub shares_quota : Namespace → Namespace → Bool
 shares_quota namespace other = option_map_or (λ quota. names_quota quota other) namespace.quota false
 
 -- ---- what a namespace has
 
--- a job of it is of a pool that passes
+-- the namespace has a job of a pool that passes
 abbrev pub has_job_in : (Name → Bool) → Tenant → Bool
 has_job_in passes t = any_row (λ _ job. passes job.document.pool) t.jobs
 
--- an open evaluation
+-- the namespace has an open evaluation of a pool that passes
 abbrev pub has_open_in : (Name → Bool) → Tenant → Bool
 has_open_in passes t = any_row (λ _ e. is_open e.status && passes e.pool) t.evaluations
 
--- a kept snapshot
+-- the namespace has a kept snapshot of a pool that passes
 abbrev pub has_kept_in : (Name → Bool) → Tenant → Bool
 has_kept_in passes t = any_row (λ _ worker. option_map_or (λ kept. passes kept.pool) worker.kept false) t.workers
 
--- a live allocation
+-- the namespace has a live allocation on a pool that passes
 abbrev pub has_live_in : (Name → Bool) → Tenant → Bool
 has_live_in passes t = any_row (λ _ a. is_live a && passes a.pool) t.allocations
 
--- a job, an open evaluation or a live allocation
+-- the namespace has a job, an open evaluation or a live allocation
 abbrev pub has_work : Tenant → Bool
 has_work t = any_row (λ _ job. true) t.jobs || has_open t || has_live t
 
@@ -103,7 +103,7 @@ lives e = is_live e.1
 abbrev pub live_in : (Name → Bool) → ℕ × Allocation → Bool
 live_in passes e = is_live e.1 && passes e.1.pool
 
--- its record, a job, an open evaluation or a kept snapshot names the pool
+-- the namespace's record, a job, an open evaluation or a kept snapshot names the pool
 abbrev pub tenant_uses_pool : Name → Name × TenantRows → Bool
 tenant_uses_pool pool e = names_pool pool e.1.namespace || looks_to_pool (same_name pool) (tenant_of e.1)
 

@@ -48,7 +48,7 @@ fn single<V: Bounded + Drop>(alloc: Global, key: &Text, row: V) -> Result<OwnerT
     Ok(table)
 }
 
-/// The namespace and the pool `default`, and nothing else.
+/// The tables with the namespace and the pool `default`, and nothing else. Want of memory is the only error.
 pub fn opening(alloc: Global) -> Result<Tables, AllocError>
     ensures { IfOk result (λ tables. world_of tables ≡ opening_world) }
 {

@@ -38,8 +38,8 @@ pub fn namespace_at<'a>(tables: &'a Tables, name: &Text) -> Option<&'a Namespace
     }
 }
 
-/// Whether something of the namespace names another pool: an open evaluation, a kept snapshot, or an allocation that the client
-/// has not ended, whatever is desired.
+/// Whether something of the namespace names a pool that is not in the list: an open evaluation, a kept snapshot, or an
+/// allocation that the client has not ended, whatever its desired status.
 pub fn strays(tenant: &TenantRows, pools: &[Text]) -> bool
     ensures { result ≡ strays_from pools.now (tenant_of tenant.now) }
 {
@@ -48,7 +48,7 @@ pub fn strays(tenant: &TenantRows, pools: &[Text]) -> bool
         || has_allocation_astray(tenant, pools)
 }
 
-/// Whether the namespace is confined to these pools, has no other quota, and nothing elsewhere.
+/// Whether the namespace is confined to these pools, names no other quota, and has nothing in another pool.
 fn stays_within(tenant: &TenantRows, pools: &[Text], quotas: &[Text]) -> bool
     ensures { result ≡ stays_within pools.now quotas.now (tenant_of tenant.now) }
 {
@@ -57,7 +57,7 @@ fn stays_within(tenant: &TenantRows, pools: &[Text], quotas: &[Text]) -> bool
         && !strays(tenant, pools)
 }
 
-/// Whether the namespace, if it is there, stays within them.
+/// Whether the namespace, if it is there, stays within these pools and quotas.
 fn stays_there(tables: &Tables, namespace: &Text, pools: &[Text], quotas: &[Text]) -> bool
     ensures { result ≡ stays_there pools.now quotas.now namespace.now (world_of tables.now) }
 {
@@ -76,7 +76,7 @@ pub fn apart(tables: &Tables, namespace: &Text, pools: &[Text], quotas: &[Text])
     !any_intrudes(tables, namespace, pools, quotas) && stays_there(tables, namespace, pools, quotas)
 }
 
-/// Whether the step puts a namespace, a quota or a pool of a new name, whose table has no room.
+/// Whether the step puts a namespace, a quota or a pool of a new name, and the table is full.
 pub fn lacks_room(tables: &Tables, step: &Step) -> bool
     ensures { result ≡ lacks_room step.now (world_of tables.now) }
 {

@@ -24,11 +24,11 @@ use ns_types::records::Namespace;
 use ns_types::text::Text;
 use ns_types::worker::Worker;
 
-/// The pools that are asked for.
+/// The pools that a test looks for.
 #[derive(Clone, Copy)]
 pub(crate) enum AskedPools<'a> {
     Named(&'a Text),
-    /// Those that the first record permits, and the second does not.
+    /// The pools that the first record permits and the second does not.
     Withdrawn(&'a Namespace, &'a Namespace),
 }
 
@@ -205,14 +205,14 @@ fn has_live_in(tenant: &TenantRows, asked: &AskedPools) -> bool
 
 // ---- in a namespace
 
-/// Whether a job, an open evaluation or a kept snapshot of the namespace names a pool that is asked for.
+/// Whether a job, an open evaluation or a kept snapshot of the namespace names one of the pools.
 pub(crate) fn looks_to_pool(tenant: &TenantRows, asked: &AskedPools) -> bool
     ensures { result ≡ looks_to_pool (passes asked.now) (tenant_of tenant.now) }
 {
     has_job_in(tenant, asked) || has_open_in(tenant, asked) || has_kept_in(tenant, asked)
 }
 
-/// Whether one of these or a live allocation of the namespace names a pool that is asked for.
+/// Whether a job, an open evaluation, a kept snapshot or a live allocation of the namespace names one of the pools.
 fn uses_pool(tenant: &TenantRows, asked: &AskedPools) -> bool
     ensures { result ≡ uses_pool (passes asked.now) (tenant_of tenant.now) }
 {

@@ -2,17 +2,18 @@
 
 ghost use Rattle.ns_admin.specs.Laws.{AdministrationMakes, AdministrationSettles, AdministrationStaysWithin};
 
-/// All but a put of a quota with other limits than it has settles as it is, in every world.
+/// A step of an administrator, unless it puts a quota with other limits, settles as it is, in every world.
 pub fn administration_settles()
     ensures { AdministrationSettles }
 {}
 
-/// No counter passes its bound before such a step, or such a put, settles.
+/// No counter passes its bound by a step of an administrator, of whatever kind, before the step settles.
 pub fn administration_stays_within()
     ensures { AdministrationStaysWithin }
 {}
 
-/// All but such a put answers what its change says and leaves what it leaves, where no counter is past its bound.
+/// If no counter is past its bound, a step of an administrator, unless it puts a quota with other limits, replies what its
+/// change says, and leaves the world that its change leaves.
 pub fn administration_makes()
     ensures { AdministrationMakes }
 {}

@@ -14,7 +14,7 @@ use ns_types::rows::Rows;
 use ns_types::text::Text;
 use std::alloc::{AllocError, Global};
 
-/// A row that lists by name show.
+/// A row that is listed by name.
 trait ListedByName {
     ghost use Rattle.ns_types.specs.State.Names.{Name};
 
@@ -69,7 +69,7 @@ fn show_quotas(alloc: Global, slots: &[NameSlot<QuotaRows>]) -> Result<Rows<Quot
     Ok(shown)
 }
 
-/// What lists show of the rows whose names pass, by name.
+/// The rows whose names pass, as lists show them, by name.
 fn show_passing<V: ListedByName, F: Fn(&Text) -> bool>(
     alloc: Global,
     slots: &[NameSlot<V>],

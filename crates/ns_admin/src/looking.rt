@@ -1,4 +1,4 @@
-//! Look-ups by name that commands judge by.
+//! Look-ups by name, by which commands are decided.
 
 ghost use Rattle.std.specs.Prelude.{◌≡◌};
 ghost use Rattle.std.specs.FinMap.{contains_key};
@@ -20,10 +20,10 @@ use ns_types::text::Text;
 /// The name of the namespace and of the pool that are there from the start.
 pub(crate) const DEFAULT: &str = "default";
 
-/// How many namespaces, pools and quotas there may be, of each.
+/// The greatest number of namespaces, of pools and of quotas.
 const MOST_ROWS: usize = 10000;
 
-/// Whether it is the name of what is there from the start, and is not deleted.
+/// Whether the name is `default`: what has this name is there from the start and is not deleted.
 #[tactic(auto, using(ns_types::proofs::Named::text_ties))]
 pub(crate) fn is_default(name: &Text) -> bool
     ensures { result ≡ same_name name.now default_name }
@@ -87,7 +87,8 @@ fn overlaps_any(slots: &[NameSlot<TenantRows>], name: &Text, namespace: &Namespa
         .any(|slot| overlaps_slot(slot, name, namespace))
 }
 
-/// Whether others may use a pool or the quota of the namespace: it is not there or not confined, or they overlap.
+/// Whether others may use a pool or the quota of the namespace: the namespace is not there, is not confined, or overlaps
+/// another one.
 pub fn shares(tables: &Tables, name: &Text) -> bool
     ensures { result ≡ shares (world_of tables.now) name.now }
 {

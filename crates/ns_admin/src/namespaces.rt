@@ -1,4 +1,4 @@
-//! What administrators ask of namespaces.
+//! Administrators' commands on namespaces.
 
 ghost use Rattle.std.specs.Prelude.{◌≡◌, IfOk};
 ghost use Rattle.std.specs.List.{list_all};
@@ -73,9 +73,9 @@ pub(crate) fn new_tenant(alloc: Global, namespace: Namespace) -> Result<TenantRo
     })
 }
 
-/// A namespace is to be made, or its record to be written in place of the old one.
-/// The first refusal is `BadField` for a quota, a default pool or an allowed pool that is not there, then `InUse`
-/// where what the namespace has forbids the new record, then `Full`. Want of memory comes last.
+/// Prepares a put of a namespace, which makes it or replaces its record. The first refusal is `BadField` if a quota, a default
+/// pool or an allowed pool is not there, then `InUse` if what the namespace has forbids the new record, then `Full`. Want of
+/// memory comes last.
 pub fn put_namespace(
     tables: &Tables,
     name: &Text,
@@ -101,8 +101,8 @@ pub fn put_namespace(
     Ok(RecordChange::Namespace(name.clone()?, namespace.clone()?))
 }
 
-/// The namespace is to go with all that it owns. One that is not there is `NotFound`, and `default` and one that has a
-/// job, an open evaluation or a live allocation are `InUse`. Want of memory comes last.
+/// Prepares the removal of the namespace with all that it owns. `NotFound`: it is not there. `InUse`: it is `default`, or it
+/// has a job, an open evaluation or a live allocation. Want of memory comes last.
 pub fn delete_namespace(tables: &Tables, name: &Text) -> Result<RecordChange, Refusal>
     ensures { PreparesRecord (delete_namespace name.now) tables.now result }
 {

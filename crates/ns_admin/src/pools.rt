@@ -1,4 +1,4 @@
-//! What administrators ask of pools.
+//! Administrators' commands on pools.
 
 ghost use Rattle.std.specs.Prelude.{◌≡◌, ◌||◌, true, None};
 ghost use Rattle.std.specs.List.{list_any};
@@ -44,7 +44,7 @@ fn is_pool_in_use(tables: &Tables, name: &Text) -> bool
     any_uses_pool(tables.tenants.as_slice(), name)
 }
 
-/// Whether the pool has a node, or is named.
+/// Whether the pool has a node, or something names it.
 fn is_occupied(tables: &Tables, name: &Text, pool: &PoolRows) -> bool
     ensures { result ≡ (any_row (λ _ node. true) (pool_of pool.now).nodes
         || is_pool_in_use name.now (world_of tables.now)) }
@@ -64,8 +64,8 @@ pub(crate) fn new_pool(alloc: Global, pool: Pool) -> PoolRows
     }
 }
 
-/// A pool is to be made, or its record to be written in place of the old one: its nodes and the numbers of its releases
-/// stay. `Full` is the only refusal beside want of memory, which comes last.
+/// Prepares a put of a pool, which makes it or replaces its record: the nodes and release numbers stay. `Full` is the only
+/// refusal except want of memory, which comes last.
 pub fn put_pool(tables: &Tables, name: &Text, pool: &Pool) -> Result<RecordChange, Refusal>
     ensures { PreparesRecord (put_pool_record name.now pool.now) tables.now result }
 {
@@ -75,8 +75,8 @@ pub fn put_pool(tables: &Tables, name: &Text, pool: &Pool) -> Result<RecordChang
     Ok(RecordChange::Pool(name.clone()?, pool.clone()?))
 }
 
-/// The pool is to go. One that is not there is `NotFound`, and `default`, one that has a node and one that is named are
-/// `InUse`. Want of memory comes last.
+/// Prepares the removal of the pool. `NotFound`: it is not there. `InUse`: it is `default`, it has a node, or something names
+/// it. Want of memory comes last.
 pub fn delete_pool(tables: &Tables, name: &Text) -> Result<RecordChange, Refusal>
     ensures { PreparesRecord (delete_pool name.now) tables.now result }
 {

@@ -1,4 +1,4 @@
-//! What administrators ask of quotas.
+//! Administrators' commands on quotas.
 
 ghost use Rattle.std.specs.Prelude.{◌≡◌, IfOk, false, true};
 ghost use Rattle.ns_types.specs.declared.reply.Content.TheVariants as Content;
@@ -34,8 +34,8 @@ fn content_of_quota(name: &Text, quota: &Quota) -> Result<Content, AllocError>
     }))
 }
 
-/// A quota is to be made, or its record to be written in place of the old one. Its release number stays.
-/// `Full` is the only refusal beside want of memory, which comes last.
+/// Prepares a put of a quota, which makes it or replaces its record: the release number stays. `Full` is the only refusal
+/// except want of memory, which comes last.
 pub fn put_quota(tables: &Tables, name: &Text, quota: &Quota) -> Result<RecordChange, Refusal>
     ensures { PreparesRecord (put_quota name.now quota.now) tables.now result }
 {
@@ -45,7 +45,7 @@ pub fn put_quota(tables: &Tables, name: &Text, quota: &Quota) -> Result<RecordCh
     Ok(RecordChange::Quota(name.clone()?, quota.clone()?))
 }
 
-/// The quota is to go. One that is not there is `NotFound`, and one that a namespace names is `InUse`: the index tells. Want of
+/// Prepares the removal of the quota. `NotFound`: it is not there. `InUse`: the index has a namespace that names it. Want of
 /// memory comes last.
 pub fn delete_quota(tables: &Tables, live: &Live, name: &Text) -> Result<RecordChange, Refusal>
     requires { AreNamed (world_of tables.now) live.now }
@@ -60,7 +60,7 @@ pub fn delete_quota(tables: &Tables, live: &Live, name: &Text) -> Result<RecordC
     Ok(RecordChange::NoQuota(name.clone()?))
 }
 
-/// The quota's record. One that is not there is `NotFound`.
+/// Reads the quota's record. `NotFound`: there is no such quota.
 pub fn read_quota(tables: &Tables, name: &Text) -> Result<Content, Refusal>
     ensures { let w = world_of tables.now in Changes (read_quota name.now w) w result w }
 {
@@ -71,7 +71,7 @@ pub fn read_quota(tables: &Tables, name: &Text) -> Result<Content, Refusal>
     Ok(content)
 }
 
-/// Whether a put of the quota would change the limits of the one that is there.
+/// Whether a put of this record would change the limits of the quota that is there.
 pub fn is_relimited(tables: &Tables, name: &Text, quota: &Quota) -> bool
     ensures { result ≡ is_relimited name.now quota.now (world_of tables.now) }
 {
@@ -81,7 +81,7 @@ pub fn is_relimited(tables: &Tables, name: &Text, quota: &Quota) -> bool
     }
 }
 
-/// The record is put over that of the quota, where it is there, and nothing else changes.
+/// Prepares the replacement of the quota's record, if the quota is there. Nothing else changes.
 fn put_alone(tables: &Tables, name: &Text, quota: &Quota) -> Result<Prepared, Refusal>
     ensures { let left = with_record name.now quota.now (world_of tables.now) in
         Prepares (Done Content.Written left) tables.now result }
@@ -91,8 +91,8 @@ fn put_alone(tables: &Tables, name: &Text, quota: &Quota) -> Result<Prepared, Re
     prepare(Content::Written, change, made)
 }
 
-/// What it comes to that a quota gets other limits. Its release, and whom that wakes, come with the end of the step.
-/// `Full`: a counter would pass its bound by that.
+/// Prepares a put that changes the limits of a quota. The quota's release, and the evaluations that it wakes, come with the
+/// end of the step. `Full`: a counter would pass its bound by that. Want of memory comes last.
 pub fn change_limits(tables: &Tables, name: &Text, quota: &Quota) -> Result<Prepared, Refusal>
     requires other { is_relimited name.now quota.now (world_of tables.now) ≡ true }
     requires bounds { is_past_bound (world_of tables.now) ≡ false }

@@ -77,7 +77,7 @@ fn permits_any(namespace: &Namespace, pools: &[Text]) -> bool
     pools.iter().any(|pool| permits(namespace, pool))
 }
 
-/// Whether the other may use a pool of the namespace, if that is confined.
+/// Whether the other namespace may use a pool of this namespace, if this one is confined.
 fn shares_pool(namespace: &Namespace, other: &Namespace) -> bool
     ensures { result ≡ list_any (permits other.now) (pools_of namespace.now) }
 {
@@ -98,7 +98,7 @@ fn shares_quota(namespace: &Namespace, other: &Namespace) -> bool
     }
 }
 
-/// Whether a pool or the quota of the confined namespace is the other's too.
+/// Whether the other namespace may use a pool of the confined namespace, or names its quota.
 pub fn overlaps(namespace: &Namespace, other: &Namespace) -> bool
     ensures { result ≡ overlaps namespace.now other.now }
 {

@@ -1,4 +1,4 @@
-//! The one place that writes what administrators' commands come to.
+//! The one place that writes what administrators' commands change.
 
 ghost use Rattle.std.specs.Prelude.{◌≡◌, IsTrue, OnErr, is_some};
 ghost use Rattle.keyed.specs.Table.{row_at};
@@ -19,7 +19,7 @@ use ns_types::resources::{Resources, none};
 use ns_types::text::Text;
 use std::alloc::AllocError;
 
-/// Writes the record over what the namespace has, and holds the namespace at its quota. It takes no memory.
+/// Replaces the namespace's record, and files the namespace under its quota in the index. It takes no memory.
 fn replace_namespace(tables: &mut Tables, live: &mut Live, name: &Text, namespace: Namespace)
     requires there { IsTrue (is_some (row_at tables.old.tenants name.now)) }
     requires room { HasNameRoom live.old.quotas name.now namespace.quota }
@@ -44,7 +44,7 @@ fn replace_namespace(tables: &mut Tables, live: &mut Live, name: &Text, namespac
     }
 }
 
-/// Writes the record, over what the namespace of that name has, or over nothing, and holds the namespace at its quota.
+/// Writes the record of the namespace, new or in place of the old one, and files the namespace under its quota in the index.
 fn write_namespace(
     tables: &mut Tables,
     live: &mut Live,
@@ -79,7 +79,7 @@ fn use_total(tables: &Tables, name: &Text) -> Resources
     }
 }
 
-/// Takes the namespace out with all that it has, and holds it at no quota. It takes no memory.
+/// Removes the namespace with all that it has, and files it under no quota in the index. It takes no memory.
 fn remove_namespace(tables: &mut Tables, live: &mut Live, name: &Text)
     ensures written { world_of tables.new ≡ without_namespace name.now (world_of tables.old) }
     ensures nodes { KeepsNodes live.old live.new }
@@ -91,7 +91,7 @@ fn remove_namespace(tables: &mut Tables, live: &mut Live, name: &Text)
     tables.tenants.remove(name);
 }
 
-/// Writes the record, over that of the quota of that name, or over nothing.
+/// Writes the record of the quota, new or in place of the old one.
 fn write_quota(tables: &mut Tables, name: &Text, quota: Quota) -> Result<(), AllocError>
     ensures written { Writes (with_quota_put name.now quota) tables.old result tables.new }
     ensures refused { OnErr result (tables.new ≡ tables.old) }
@@ -105,7 +105,7 @@ fn write_quota(tables: &mut Tables, name: &Text, quota: Quota) -> Result<(), All
     Ok(())
 }
 
-/// Writes the record over what the pool has. It takes no memory.
+/// Replaces the record of the pool. It takes no memory.
 fn replace_pool(tables: &mut Tables, name: &Text, pool: Pool)
     requires { IsTrue (is_some (row_at tables.old.pools name.now)) }
     ensures { world_of tables.new ≡ with_pool_put name.now pool (world_of tables.old) }
@@ -119,7 +119,7 @@ fn replace_pool(tables: &mut Tables, name: &Text, pool: Pool)
     }
 }
 
-/// Writes the record, over what the pool of that name has, or over nothing.
+/// Writes the record of the pool, new or in place of the old one.
 fn write_pool(tables: &mut Tables, name: &Text, pool: Pool) -> Result<(), AllocError>
     ensures written { Writes (with_pool_put name.now pool) tables.old result tables.new }
     ensures refused { OnErr result (tables.new ≡ tables.old) }
@@ -133,9 +133,9 @@ fn write_pool(tables: &mut Tables, name: &Text, pool: Pool) -> Result<(), AllocE
     Ok(())
 }
 
-/// Writes what a command comes to, and which namespaces name which quota, and what they use, stays right in the index. The
-/// room of a new owner, and of a namespace at its quota, comes first, and where memory for it is refused, the tables are as
-/// they were, slots and room too. All else takes no memory.
+/// Writes what a command changes. The index stays right about which namespaces name which quota, and what they use. Room for a
+/// new owner, and for a namespace under its quota, is made first. If memory for it is refused, the tables are as they were,
+/// slots and room too. All else takes no memory. Want of memory is the only error.
 pub fn write(tables: &mut Tables, live: &mut Live, change: RecordChange) -> Result<(), AllocError>
     ensures written { Writes (recorded change) tables.old result tables.new }
     ensures refused { OnErr result (tables.new ≡ tables.old) }

@@ -1,4 +1,4 @@
--- What a request is answered, what follows it, and the steps that a connection with a server makes.
+-- The reply to a request, what follows it, and the steps that a connection with a server makes.
 use Rattle.std.specs.Prelude.{◌≡◌, ◌⊎◌, ℕ, List, [], ◌∷◌, ◌++◌, Result, Ok, Err}
 use Rattle.ns_types.specs.declared.refusal.Refusal.{Refusal}
 use Rattle.ns_types.specs.declared.refusal.Refusal.TheVariants.{Memory}
@@ -15,7 +15,7 @@ use Rattle.ns_endpoints.specs.Asking.{asked}
 use Rattle.ns_endpoints.specs.Drawing.{DrawsFor}
 use Rattle.ns_api.specs.Following.{FollowsInChain}
 
--- what takes the steps, what draws random bits, and what is done after each request
+-- what takes the steps, the source of random bits, and the follower, which acts after each request
 pub record Holding (S D F : Type 0) : Type 0 where
   pub taker : S
   pub draws : D
@@ -27,7 +27,7 @@ pub record Holding (S D F : Type 0) : Type 0 where
 abbrev pub AnswersRefused : {S : Type 0} → Refusal → S → Rendered → S → Type 0
 AnswersRefused refusal old reply new = (reply ≡ refused refusal) × (new ≡ old)
 
--- by what a call for a step does, and what is drawn
+-- `takes` is what a call for a step does, and `draws` relates a draw to the source before and after it
 module _ {S D : Type 0} (takes : Step → S → Rendered → S → Type 0) (draws : D → List ℕ → D → Type 0) where
   -- the refusal that needs no state; or what a call for the step that is asked for does, with what is drawn for it; or
   -- want of memory for that step
@@ -49,17 +49,17 @@ module _ {S D : Type 0} (takes : Step → S → Rendered → S → Type 0) (draw
 
 -- ---- a server, which makes steps of the model
 
--- what a call for a step may want: memory, or what the server lacks besides
+-- why a call makes no step: memory is wanting, or something else that the server lacks
 abbrev pub IsWanting : {S : Type 0} → (S → Refusal → Type 0) → S → Refusal → Type 0
 IsWanting lacks s refusal = (refusal ≡ Memory) ⊎ lacks s refusal
 
--- by the state for which a server stands, what a step notes besides, and what the server may lack
+-- for the state that a server stands for, what a step notes besides, and what the server may lack
 module _ {S : Type 0} (state : S → State) (notes : S → Step → Answer → S → Type 0) (lacks : S → Refusal → Type 0) where
-  -- the answer of the step, which was made
+  -- the step was made, and the reply is its answer
   abbrev pub AnswersStep : Step → S → Rendered → S → Type 0
   AnswersStep step s reply s' = (answer : Answer) × IsMade state notes s step answer s' × (reply ≡ rendered answer)
 
-  -- the step was not made, for want of something, which changes nothing
+  -- the step was not made, because something was wanting, and nothing changed
   abbrev pub AnswersWant : S → Rendered → S → Type 0
   AnswersWant s reply s' = (refusal : Refusal) × IsWanting lacks s refusal × AnswersRefused refusal s reply s'
 
@@ -111,8 +111,8 @@ module _ {S : Type 0} (state : S → State) (notes : S → Step → Answer → S
         pub are_steps : steps ≡ own ++ following ++ steps'
         pub are_answers : answers ≡ told ++ answered ++ answers'
 
-      -- The requests, in their order, made these steps, in their order, each with what followed it, and no others, and
-      -- drew for them in this order. A request that was refused by its head is followed by nothing.
+      -- The requests, in their order, made exactly these steps, in their order, each with the steps that followed it, and drew
+      -- random bits in this order. Nothing follows a request whose head was refused.
       abbrev pub Made : Holding S D F → List Exchange → List Step → List Answer → Holding S D F → Type 0
       Made old [] steps answers new = (steps ≡ []) × (answers ≡ []) × (new ≡ old)
       Made old ((Refused fault, reply) ∷ exchanges) steps answers new =
@@ -122,7 +122,8 @@ module _ {S : Type 0} (state : S → State) (notes : S → Step → Answer → S
           MakesFirst (asked (asked_by m)) old reply next steps answers steps' answers' ×
           Made next exchanges steps' answers' new
 
-      -- what the requests of a connection made, with all that followed them, is one chain, and so one run of the model
+      -- the steps that the requests of a connection made, with all that followed them, are one chain, and so one run of the
+      -- model
       pub record RunsAs (old : Holding S D F) (exchanges : List Exchange) (new : Holding S D F) : Type 0 where
         pub steps : List Step
         pub answers : List Answer

@@ -1,4 +1,4 @@
--- What connections with a server are served, where it keeps no log and where it keeps one.
+-- How a server without a log, and one with a log, serves connections.
 use Rattle.std.specs.Prelude.{ℕ, List, []}
 use Rattle.ns_types.specs.declared.reply.Rendered.{Rendered}
 use Rattle.ns_types.specs.declared.step.Step.{Step}
@@ -34,7 +34,7 @@ module _ {D : Type 0} (draws : D → List ℕ → D → Type 0) where
   abbrev pub AnswersByCore : Holding State D Driver → Asked → Rendered → Holding State D Driver → Type 0
   AnswersByCore = AnswersByServer itself NotesNothing LacksNothing draws (FollowsBy itself NotesNothing CoreLacks)
 
-  -- the run that all of a connection made
+  -- the run that all requests of a connection made
   abbrev pub RunsByCore : Holding State D Driver → List Exchange → Holding State D Driver → Type 0
   RunsByCore = RunsAs itself NotesNothing LacksNothing draws (FollowsBy itself NotesNothing CoreLacks)
 

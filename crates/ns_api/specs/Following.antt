@@ -22,11 +22,11 @@ abbrev pub FollowsInChain : {S F : Type 0} → (S → State) → (S → Step →
 FollowsInChain state notes follows old s s' new = (steps : List Step) × (answers : List Answer) ×
     follows old s steps answers s' new × Chain state notes s steps answers s'
 
--- no step, and the server stays
+-- no step follows, and the server stays
 abbrev pub FollowsNothing : {S : Type 0} → S → List Step → List Answer → S → Type 0
 FollowsNothing s steps answers s' = (steps ≡ []) × (answers ≡ []) × (s' ≡ s)
 
--- nothing, where nobody is driven; else the steps of the driven worker, until it stops
+-- nothing follows if no worker is driven; otherwise the steps of the driven worker follow, until it stops
 abbrev pub FollowsBy : {S : Type 0} → (S → State) → (S → Step → Answer → S → Type 0) → (S → Step → Refusal → Type 0) →
     Driver → S → List Step → List Answer → S → Driver → Type 0
 FollowsBy state notes lacks Driver.Nobody s steps answers s' driver' =
@@ -35,7 +35,7 @@ FollowsBy state notes lacks (Driver.Worker kept) s steps answers s' (Driver.Work
     (stop : Stop) × Drives state notes lacks s (seen_of kept) steps answers s' (seen_of kept') stop
 FollowsBy state notes lacks (Driver.Worker kept) s steps answers s' Driver.Nobody = ⊥
 
--- at first the driven worker has seen nothing
+-- the driver at first: a driven worker keeps nothing yet
 abbrev pub driver_of : Driven → Driver
 driver_of Driven.Nobody = Driver.Nobody
 driver_of Driven.Worker = Driver.Worker Kept.Nothing

@@ -7,6 +7,6 @@ use Rattle.ns_work_log.specs.Logs.{History, IsFull}
 abbrev pub LacksNothing : {S : Type 0} → S → Refusal → Type 0
 LacksNothing s refusal = ⊥
 
--- a place in its log
+-- a server with a log lacks a place in it if the log is full
 abbrev pub LacksRoom : History → Refusal → Type 0
 LacksRoom h refusal = (refusal ≡ LogFull) × IsFull h

@@ -11,12 +11,12 @@ use Rattle.ns_types.specs.Steps.{Answer}
 use Rattle.ns_types.specs.Wire.Refused.{refused}
 use Rattle.ns_json.specs.Replies.{body_of, rendered}
 
--- the body that answers a new token is known before its step
+-- the body of the reply to a new token, which is known before the step
 abbrev pub room_of : Step → Option Name
 room_of (Step.Admin secret (AdminCommand.CreateToken new)) = Some (body_of (Content.Token (made_token new)))
 room_of _ = None
 
--- the rendering of an answer, where that of a reply may be refused for want of memory
+-- the answer as bytes; a reply may be refused instead for want of memory
 abbrev pub ShowsOrWants : Answer → Rendered → Type 0
 ShowsOrWants (Ok told) reply = (reply ≡ rendered (Ok told)) ⊎ (reply ≡ refused Memory)
 ShowsOrWants (Err refusal) reply = reply ≡ refused refusal

@@ -22,7 +22,7 @@ pub trait Takes {
     // A call for that step, with that reply, leads from the first value to the second.
     ghost takes: { AStep → Self → Rendered → Self → Type 0 };
 
-    /// Takes the step, and responds with its answer, or with what there was too little of.
+    /// Makes the step, and responds with its answer, or with the refusal that says what was wanting.
     fn respond(&mut self, alloc: Global, step: Step) -> Response
         requires { IsServed step }
         ensures { takes step self.old (rendered_of result) self.new };
@@ -38,7 +38,7 @@ pub struct Api<T, D, F> {
 }
 
 impl<T: Takes, D: Draws, F> Api<T, D, F> {
-    /// The table of the paths is made here, and no later.
+    /// Makes the table of the paths, once. Want of memory is the only error.
     pub fn new(alloc: Global, taker: T, draws: D, follower: F) -> Result<Api<T, D, F>, AllocError>
     where
         T: Drop,
@@ -64,7 +64,7 @@ impl<T: Takes, D: Draws, F> Api<T, D, F> {
         &self.taker
     }
 
-    /// What took the steps.
+    /// Returns what took the steps, and drops the rest.
     pub fn into_taker(self) -> T
     where
         D: Drop,
@@ -80,7 +80,7 @@ impl<T: Takes, D: Draws, F> Api<T, D, F> {
         taker
     }
 
-    /// Answers a request, and does nothing that follows it.
+    /// Answers a request, without what follows it.
     fn request(&mut self, request: &Request<'_>) -> Response
         ensures answered { AnswersRequest T.takes D.draws (held self.old)
             (Head.asked request.now) (rendered_of result) (held self.new) }

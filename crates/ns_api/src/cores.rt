@@ -1,4 +1,4 @@
-//! Servers take steps themselves, without a log and with one.
+//! Lets servers take steps, without a log and with one.
 
 ghost use Rattle.std.specs.Prelude.{◌≡◌, IfOk};
 ghost use Rattle.ns_types.specs.Steps.{opening};
@@ -52,7 +52,7 @@ impl Takes for Held {
     }
 }
 
-/// A new server, which answers requests and drives the worker that `driven` names.
+/// A new server, which answers requests and drives the worker that `driven` names. Want of memory is the only error.
 pub fn open<D: Draws + Drop>(
     alloc: Global,
     bootstrap: &Secret,
@@ -67,12 +67,13 @@ pub fn open<D: Draws + Drop>(
     Api::new(alloc, core, draws, Driver::new(driven))
 }
 
-/// Lets a server go. Its value is large, so its end is proved here and not by each caller.
+/// Drops a server. Its value is large, so its end is proved here and not by each caller.
 pub fn close<D: Draws + Drop>(api: Api<Core, D, Driver>) {
     drop(api);
 }
 
-/// The same, with a log that has at most so many entries.
+/// A new server with a log of at most `limit` entries, which drives the worker that `driven` names. Want of memory is the only
+/// error.
 pub fn open_held<D: Draws + Drop>(
     alloc: Global,
     bootstrap: &Secret,
@@ -88,7 +89,7 @@ pub fn open_held<D: Draws + Drop>(
     Api::new(alloc, held, draws, Driver::new(driven))
 }
 
-/// Lets a server with its log go.
+/// Drops a server with its log.
 pub fn close_held<D: Draws + Drop>(api: Api<Held, D, Driver>) {
     drop(api);
 }

@@ -1,4 +1,4 @@
-//! What a server does of itself after each request.
+//! What a server does by itself after each request.
 
 ghost use Rattle.std.specs.Prelude.{◌≡◌};
 ghost use Rattle.ns_api.specs.Following.{driver_of};
@@ -32,11 +32,11 @@ impl<T> Follows<T> for NoFollower {
 #[derive(Clone, Copy, PartialEq, Eq)]
 pub enum Driven {
     Nobody,
-    /// Worker 0: it takes what is ready, places it, has its plans applied and finishes, at most 10,000 steps at a time.
+    /// Worker 0: it dequeues evaluations, plans them, has its plans applied and finishes, at most 10,000 steps at a time.
     Worker,
 }
 
-/// Drives the worker that a server drives.
+/// The driver of a server's worker.
 #[derive(Drop)]
 pub enum Driver {
     Nobody,

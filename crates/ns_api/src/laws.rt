@@ -10,9 +10,9 @@ ghost use Rattle.ns_api.specs.Cores.{AnswersByCore, AnswersByHeld, RunsByCore, R
 
 use ns_endpoints::Draws;
 
-/// What a connection with a server was answered, one request after the other, is a chain of steps, and so a run of the model: the
-/// steps that its requests ask for, in their order, but for those that were refused without a step, and after each those that
-/// followed it. What is drawn is drawn in this order.
+/// The answers to a connection with a server are those of a chain of steps, and so of a run of the model: the steps that its
+/// requests ask for, in their order, without the requests that made no step, and after each request the steps that followed it.
+/// Random bits are drawn in this order.
 pub fn answers_are_a_run<D: Draws>()
     ensures without_log { (old new : Holding State D Driver) (exchanges : List Exchange) →
         Responses.Answers (AnswersByCore D.draws) old exchanges new →

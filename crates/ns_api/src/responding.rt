@@ -19,7 +19,7 @@ use ns_types::reply::{Reply, Response};
 use ns_types::step::{AdminCommand, Step};
 use std::alloc::{AllocError, Global};
 
-/// Room for the reply to a write.
+/// Room for the reply to a write. Want of memory is the only error.
 fn room_for(alloc: Global, step: &Step) -> Result<Room, AllocError>
     ensures { IfOk result (λ room. room ≡ room_of step.now) }
 {
@@ -58,7 +58,7 @@ fn shown_in(room: Room, answer: &Result<Reply, Refusal>) -> Response
     }
 }
 
-/// The room of the reply is taken before the step, so a write that was made is answered.
+/// Makes a write. The room of the reply is taken before the step, so a write that was made is answered.
 fn write(alloc: Global, core: &mut Core, step: Step) -> Response
     requires served { IsServed step }
     requires writes { may_change step ≡ true }
@@ -76,7 +76,7 @@ fn write(alloc: Global, core: &mut Core, step: Step) -> Response
     response
 }
 
-/// A read leaves the state as it is. Where there is no memory for its reply it was not made.
+/// Makes a read, which leaves the state as it is. If there is no memory for its reply, it counts as not made.
 fn read(alloc: Global, core: &mut Core, step: Step) -> Response
     requires served { IsServed step }
     requires reads { may_change step ≡ false }
@@ -90,7 +90,7 @@ fn read(alloc: Global, core: &mut Core, step: Step) -> Response
     response
 }
 
-/// Makes the step, and says what it is answered, as the response. For want of memory it is not made.
+/// Makes the step, and returns its answer as the response. If no memory is left, it is not made, and the response says so.
 pub fn respond(alloc: Global, core: &mut Core, step: Step) -> Response
     requires { IsServed step }
     ensures { AnswersOrWants itself NotesNothing LacksNothing step

@@ -1,4 +1,4 @@
-//! One connection, answered over what takes the steps.
+//! Answers one connection, over what takes the steps.
 
 ghost use Rattle.std.specs.Prelude.{◌≡◌, ◌+◌, ◌≤◌, min, length, IfOk, IsErrOf, IsTrue, false, Err};
 ghost use Rattle.ns_types.specs.Wire.Http.{End};
@@ -14,8 +14,8 @@ use ns_http::{ConnFault, Counted, READ_LIMIT, READ_ROOM};
 use std::alloc::Allocator;
 use std::io::{Read, Write};
 
-/// Answers the requests of a connection, one after the other, each with what follows it, and says how many there were. Over a
-/// server what they made is a chain of steps, and so a run.
+/// Answers the requests of a connection, one after the other, each with what follows it, and returns how many it answered. Over
+/// a server the steps that they made are a chain, and so a run. The errors are those of `ns_http::serve`.
 pub fn serve<A: Allocator + Copy, R: Read, W: Write, T: Takes, D: Draws, F: Follows<T>>(
     alloc: A,
     reader: &mut Counted<R>,
@@ -41,13 +41,13 @@ pub fn serve<A: Allocator + Copy, R: Read, W: Write, T: Takes, D: Draws, F: Foll
     // no write one that failed so.
     ensures stops { IsOpen reader.old.counts → reader.new.counts.went_on ≡ false }
     ensures write_stops { IsOpen writer.old.counts → writer.new.counts.went_on ≡ false }
-    // And such a failure is the fault that is named.
+    // After such a failure the error is that fault.
     ensures broken { IsOpen reader.old.counts → IsTrue reader.new.counts.broken
         → result ≡ Err ConnFault.Read }
     ensures write_broken { IsOpen writer.old.counts → IsTrue writer.new.counts.broken
         → result ≡ Err ConnFault.Write }
     ensures reads { reader.new.counts.calls ≤ reader.old.counts.calls + READ_LIMIT }
-    // Each read has room for so many bytes.
+    // Each read has room for at least `READ_ROOM` bytes.
     ensures room { min reader.old.counts.least_room READ_ROOM ≤ reader.new.counts.least_room }
 {
     ns_http::serve(alloc, reader, writer, api)

@@ -1,4 +1,4 @@
--- What the plan of a worker in turn comes to. Here t is the snapshot's namespace.
+-- The outcome of an Apply of the plan that is next. Here t is the snapshot's namespace.
 use Rattle.std.specs.Prelude.{ℕ, not, ◌&&◌, if◌then◌else◌}
 use Rattle.ns_types.specs.declared.evaluation.Evaluation.{Evaluation}
 use Rattle.ns_types.specs.declared.plan.Plan.{Plan}
@@ -11,7 +11,7 @@ use Rattle.ns_types.specs.Working.Worker.{Worker}
 use Rattle.ns_applier.specs.HeadroomApplying.{apply_passes}
 use Rattle.ns_applier.specs.Judging.{doing}
 
--- that is done of it; or it is refused, where a counter would pass its bound
+-- what the Apply does of the plan; or it is refused, because a counter would pass its bound
 abbrev pub comes_as : ℕ → World → Worker → Evaluation → Snapshot → Plan → Applied → Outcome World
 comes_as number w worker e kept p a =
     if not a.checked.is_refused && apply_passes w kept (doing w kept p a.checked.committed) then Refused Refusal.Full

@@ -21,21 +21,21 @@ use Rattle.ns_applier.specs.HeadroomApplying.{Doing, apply_passes, losing_in}
 use Rattle.ns_applier.specs.Judging.{doing}
 use Rattle.ns_applier.specs.Parts.{applied_world}
 
--- a worker of a valid state that is busy for the namespace, and the snapshot that it keeps
+-- in a valid state the worker is busy for the namespace, and keeps this snapshot
 pub record IsAtWork (w : World) (number : ℕ) (ns : Name) (t : Tenant) (worker : Worker) (kept : Snapshot) : Type 0 where
   pub sound : IsSound w
   pub tenant : get w.tenants ns ≡ Some t
   pub worker_row : get t.workers number ≡ Some worker
   pub keeps : worker.kept ≡ Some kept
 
--- a plan that stands passes a bound by what is done of it
+-- an Apply of a plan that stands passes a bound exactly if what is done of the plan does
 abbrev pub ApplyPasses : Type 0
 ApplyPasses = (w : World) (number : ℕ) (ns : Name) (t : Tenant) (worker : Worker) (e : Evaluation) (kept : Snapshot)
     → IsAtWork w number ns t worker kept → still_stands kept.job (get t.jobs kept.evaluation.job) ≡ true
     → let a = commit kept (plan kept) w t in is_past_bound (settle w (applied_world number ns worker e a))
     ≡ apply_passes w kept (doing w kept (plan kept) a.checked.committed)
 
--- a plan that does not stand passes none
+-- an Apply of a plan that no longer stands passes no bound
 abbrev pub RefusedPassesNothing : Type 0
 RefusedPassesNothing = (w : World) (number : ℕ) (ns : Name) (t : Tenant) (worker : Worker) (e : Evaluation)
     (kept : Snapshot)
@@ -56,9 +56,9 @@ ApplyIsJudged = (w : World) (number : ℕ) (ns : Name) (t : Tenant) (worker : Wo
     → IsAtWork w number ns t worker kept → get t.evaluations worker.evaluation ≡ Some e
     → bounded w (apply number ns w) ≡ judged number ns w t worker e kept
 
--- ---- what is left
+-- ---- the room that is left
 
--- there are numbers and places for all that is new
+-- there are numbers and places for all new allocations and evaluations
 pub record HasRoom (w : World) (kept : Snapshot) (d : Doing) : Type 0 where
   pub allocations : (t : Tenant) → get w.tenants kept.namespace ≡ Some t → t.allocation_number + length d.placed < 2 ^ 64
   pub evaluations : (ns : Name) (t : Tenant) → get w.tenants ns ≡ Some t →
@@ -66,7 +66,7 @@ pub record HasRoom (w : World) (kept : Snapshot) (d : Doing) : Type 0 where
   pub places : (name : Name) (node : Node) → node_at w kept.pool name ≡ Some node →
       node.places + length (filter (λ q. same_name (node_name kept q.node) name) d.placed) < 2 ^ 64
 
--- where no bound is passed there are
+-- where no bound is passed, there are numbers and places for all that is new
 abbrev pub RoomIsLeft : Type 0
 RoomIsLeft = (w : World) (kept : Snapshot) (d : Doing) → is_past_bound w ≡ false → apply_passes w kept d ≡ false →
     HasRoom w kept d

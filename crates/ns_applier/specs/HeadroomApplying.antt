@@ -20,8 +20,8 @@ use Rattle.ns_applier.specs.Passing.{end_passes}
 use Rattle.ns_applier.specs.Raising.{Raise, Raises}
 use Rattle.ns_applier.specs.Releasing.{EndsAlone}
 
--- what of a plan is done: the stops of allocations that are live, the placements of the nodes that do their part, and
--- what these evict, with the rows that were live
+-- the part of a plan that is done: the stops of live allocations, the placements on committed nodes, and the live allocations
+-- that these evict, with their rows
 pub record Doing : Type 0 where
   pub stops : List ℕ
   pub placed : List Placement
@@ -31,7 +31,7 @@ pub record Doing : Type 0 where
 abbrev pub does_something : Doing → Bool
 does_something d = not (is_empty d.stops) || not (is_empty d.placed)
 
--- ---- what it ends and gives
+-- ---- the allocations that end, and the numbers that are given
 
 abbrev pub victim_key : Victim → Key
 victim_key v = (v.0, v.1.0)
@@ -43,7 +43,8 @@ ended_keys kept d = map (λ n. (kept.namespace, n)) d.stops ++ map victim_key d.
 abbrev pub losing_in : Name → List Victim → ℕ
 losing_in ns victims = length (filter (λ v. same_name ns v.0) (first_each same_victim_job victims))
 
--- a row of a namespace changes where it is the plan's own, or where it loses an allocation
+-- what a namespace gets; its rows change if it is the plan's own namespace and the plan does something, or if it loses an
+-- allocation
 abbrev pub apply_raise : Snapshot → Doing → Name → Raise
 apply_raise kept d ns = record {
   evaluations = losing_in ns d.victims;
@@ -56,18 +57,18 @@ places_on kept placed pool name = length (filter (goes_to kept pool name) placed
 
 -- ---- counters
 
--- the number of the last evaluation that some namespace gets
+-- the number of the last evaluation that some namespace gets passes its bound
 abbrev pub evaluations_pass : World → List Victim → Bool
 evaluations_pass w victims = any_row (λ ns t. nat_lt greatest (t.evaluation_number + losing_in ns victims)) w.tenants
 
--- the number of the plan's last allocation, or the index of its namespace
+-- the number of the plan's last allocation, or the index of its namespace, passes its bound
 abbrev pub own_passes_in : Doing → Tenant → Bool
 own_passes_in d t = nat_lt greatest (t.allocation_number + length d.placed) || (is_at_bound t.index && does_something d)
 
 abbrev pub own_passes : World → Name → Doing → Bool
 own_passes w ns d = option_map_or (own_passes_in d) (get w.tenants ns) false
 
--- the number of places of the node
+-- the number of places of the node passes its bound
 abbrev pub place_passes_on : Snapshot → List Placement → Name → Node → Bool
 place_passes_on kept placed name node = nat_lt greatest (node.places + places_on kept placed kept.pool name)
 
@@ -75,11 +76,11 @@ abbrev pub place_passes : World → Snapshot → List Placement → Placement �
 place_passes w kept placed p = option_map_or (place_passes_on kept placed (node_name kept p.node))
     (node_at w kept.pool (node_name kept p.node)) false
 
--- what a stop releases
+-- a counter passes its bound by what the stop releases
 abbrev pub stop_passes : World → Name → ℕ → Bool
 stop_passes w ns n = end_passes w w (ns, n)
 
--- what an eviction does, or the index of its namespace
+-- a counter passes its bound by what the eviction releases, or the index of the victim's namespace does
 abbrev pub victim_passes : World → Victim → Bool
 victim_passes w v = is_last_index w v.0 || end_passes w w (victim_key v)
 
@@ -88,7 +89,7 @@ apply_passes w kept d = evaluations_pass w d.victims || own_passes w kept.namesp
     || list_any (place_passes w kept d.placed) d.placed
     || list_any (stop_passes w kept.namespace) d.stops || list_any (victim_passes w) d.victims
 
--- the law: whatever does that of a plan passes a bound by these, and by nothing else
+-- the law: a step that does this part of a plan passes a bound exactly if one of these counters does
 abbrev pub PassesByApply : Type 0
 PassesByApply = (w x : World) (kept : Snapshot) (d : Doing) → is_past_bound w ≡ false
     → EndsAlone w x (ended_keys kept d) → Raises w x (apply_raise kept d) (places_on kept d.placed)

@@ -18,7 +18,7 @@ use Rattle.ns_applier.specs.Passing.{end_passes}
 use Rattle.ns_types.specs.Working.Parts.{lives_at}
 pub use Rattle.ns_types.specs.Working.Parts.{placed_on}
 
--- the number of the last of so many more allocations passes its bound, and of so many more places
+-- with `count` more, the number of the namespace's last allocation, or of the node's last place, passes its bound
 abbrev pub allocations_pass : World → Name → ℕ → Bool
 allocations_pass w ns count =
     option_map_or (λ t. nat_lt greatest (t.allocation_number + count)) (get w.tenants ns) false
@@ -27,7 +27,7 @@ abbrev pub node_passes : World → Name → Name → ℕ → Bool
 node_passes w pool name count =
     option_map_or (λ node. nat_lt greatest (node.places + count)) (node_at w pool name) false
 
--- ---- what is done of a plan, where the nodes at those places do their part
+-- ---- the part of a plan that is done, where the nodes at the places in `committed` are the committed ones
 
 abbrev pub live_numbers : World → Name → List ℕ → List ℕ
 live_numbers w ns numbers = filter (λ n. lives_at w (ns, n)) numbers
@@ -42,25 +42,25 @@ doing w kept p committed =
       victims = evicted_rows (stop_all kept.namespace stops w) kept placed;
     }
 
--- the number of places of the node at that place passes
+-- the number of places of the node at place `k` passes its bound
 abbrev pub committed_passes : World → Snapshot → List Placement → ℕ → Bool
 committed_passes w kept placed k = option_map_or (place_passes_on kept placed (node_name kept k))
     (node_at w kept.pool (node_name kept k)) false
 
--- an eviction that counts passes, or the index of its namespace
+-- a counter passes its bound by what the eviction releases, or the index of its namespace does
 abbrev pub eviction_passes : World → Eviction → Bool
 eviction_passes w e = is_last_index w e.namespace || end_passes w w (e.namespace, e.number)
 
--- some eviction counts on the node at that place of the snapshot after the stops, and passes
+-- some eviction counts on the node at place `k` of the snapshot, after the stops, and passes a bound
 abbrev pub evictions_pass_at : World → World → Snapshot → ℕ → List Eviction → Bool
 evictions_pass_at w stopped kept k evictions =
     list_any (λ e. eviction_passes w e && counts stopped kept.pool (node_name kept k) e) evictions
 
--- what it evicts passes a bound, be it that of the index of the namespace that loses the allocation
+-- what the plan evicts passes a bound, be it that of the index of a namespace that loses an allocation
 abbrev pub lost_part_passes : World → Snapshot → Plan → List ℕ → Bool
 lost_part_passes w kept p committed = list_any (victim_passes w) (doing w kept p committed).victims
 
--- what it places and stops passes a bound, be it that of its own namespace's index
+-- what the plan places and stops passes a bound, be it that of its own namespace's index
 abbrev pub own_part_passes : World → Snapshot → Plan → List ℕ → Bool
 own_part_passes w kept p committed =
     let d = doing w kept p committed in

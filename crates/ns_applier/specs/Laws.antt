@@ -1,4 +1,4 @@
--- What an Apply of a plan that stands leaves, row by row. Here t is the snapshot's namespace, as the state has it.
+-- The state after an Apply of a plan that stands, row by row. Here t is the snapshot's namespace, as the state has it.
 use Rattle.std.specs.Prelude.{◌≡◌, ℕ, ◌+◌, true, if◌then◌else◌, false, List, ◌++◌, Some, is_some, length, option_map}
 use Rattle.std.specs.Prelude.{slice_get, take}
 use Rattle.std.specs.FinMap.{get}
@@ -30,18 +30,19 @@ use Rattle.ns_applier.specs.Parts.{placed_in, standing, stops, victims}
 
 -- ---- plans
 
--- the plan of a snapshot places nothing where there is no job
+-- the plan of a snapshot without a job places nothing
 abbrev pub PlanIsForJob : Type 0
 PlanIsForJob = (kept : Snapshot) → IsForJob kept (plan kept)
 
 -- ---- namespaces
 
--- the same namespaces, and of each the same record, index, jobs, workers and events
+-- the namespaces stay, and each keeps its record, index, jobs, workers and events
 abbrev pub NamespacesStay : Type 0
 NamespacesStay = (kept : Snapshot) (p : Plan) (w : World) (t : Tenant) (ns : Name) →
     option_map standing (get (done kept p w t).world.tenants ns) ≡ option_map standing (get w.tenants ns)
 
--- one number more for each placement, and one for each job of the namespace that loses an allocation
+-- each placement takes one number for an allocation, and each job of the namespace that loses one takes a number for an
+-- evaluation
 abbrev pub NumbersGoOn : Type 0
 NumbersGoOn = (kept : Snapshot) (p : Plan) (w : World) (t : Tenant) → IsForJob kept p →
     (ns : Name) (u v : Tenant) → get w.tenants ns ≡ Some u → get (done kept p w t).world.tenants ns ≡ Some v →
@@ -50,7 +51,7 @@ NumbersGoOn = (kept : Snapshot) (p : Plan) (w : World) (t : Tenant) → IsForJob
 
 -- ---- allocations
 
--- one that was there is stopped or evicted, or as it was
+-- an allocation that was there is stopped or evicted, or stays as it was
 abbrev pub AllocationsStay : Type 0
 AllocationsStay = (kept : Snapshot) (p : Plan) (w : World) (t : Tenant) → IsForJob kept p →
     (ns : Name) (u : Tenant) → get w.tenants ns ≡ Some u →
@@ -58,7 +59,7 @@ AllocationsStay = (kept : Snapshot) (p : Plan) (w : World) (t : Tenant) → IsFo
     allocation_at (done kept p w t).world (ns, n)
     ≡ option_map (left_row (stops kept p w t) (victims kept p w t) (ns, n)) (allocation_at w (ns, n))
 
--- one is new for each placement, in the order of the plan, with the next place of its node
+-- each placement makes a new allocation, in the order of the plan, with the next place of its node
 abbrev pub AllocationsMade : Type 0
 AllocationsMade = (kept : Snapshot) (p : Plan) (w : World) (t : Tenant) → get w.tenants kept.namespace ≡ Some t →
     (job : Job) → kept.job ≡ Some job → (i : ℕ) (q : Placement) → slice_get (placed kept p w t) i ≡ Some q →
@@ -67,21 +68,21 @@ AllocationsMade = (kept : Snapshot) (p : Plan) (w : World) (t : Tenant) → get 
     ≡ Some (new_allocation kept job q
     (with_places (places_on kept (take i (placed kept p w t)) kept.pool (node_name kept q.node)) node))
 
--- ---- those that end
+-- ---- allocations that end
 
 -- the stops and the victims were live
 abbrev pub EndedWereLive : Type 0
 EndedWereLive = (kept : Snapshot) (p : Plan) (w : World) (t : Tenant) → get w.tenants kept.namespace ≡ Some t →
     (key : Key) → has_key (ended kept p w t) key ≡ true → lives_at w key ≡ true
 
--- of the allocations that were there they are live no more, and no other
+-- of the allocations that were there, the stops and the victims end, and no other
 abbrev pub AllocationsEnd : Type 0
 AllocationsEnd = (kept : Snapshot) (p : Plan) (w : World) (t : Tenant) → get w.tenants kept.namespace ≡ Some t →
     IsForJob kept p → (ns : Name) (u : Tenant) → get w.tenants ns ≡ Some u →
     (n : ℕ) → IsOutside u.allocation_number (placed_in kept p w t ns) n →
     has_key (ended kept p w t) (ns, n) ≡ ends_at w (done kept p w t).world (ns, n)
 
--- no victim is a stop
+-- no allocation is both stopped and evicted
 abbrev pub NoVictimIsStopped : Type 0
 NoVictimIsStopped = (kept : Snapshot) (p : Plan) (w : World) (t : Tenant) (key : Key) →
     has_key (victims kept p w t) key ≡ true → has_key (stops kept p w t) key ≡ false
@@ -93,27 +94,27 @@ VictimsApart = (w : World) (pool a b : Name) (e f : Eviction) → same_name a b 
 
 -- ---- evaluations
 
--- one that was there is as it was
+-- an evaluation that was there stays as it was
 abbrev pub EvaluationsStay : Type 0
 EvaluationsStay = (kept : Snapshot) (p : Plan) (w : World) (t : Tenant) (ns : Name) (u : Tenant) →
     get w.tenants ns ≡ Some u → (n : ℕ) → IsOutside u.evaluation_number (length (losers_in kept p w t ns)) n →
     evaluation_at (done kept p w t).world (ns, n) ≡ evaluation_at w (ns, n)
 
--- one is new for each job that loses an allocation, in the order of the plan
+-- each job that loses an allocation gets a new evaluation, in the order of the plan
 abbrev pub EvaluationsMade : Type 0
 EvaluationsMade = (kept : Snapshot) (p : Plan) (w : World) (t : Tenant) (ns : Name) (u : Tenant) →
     get w.tenants ns ≡ Some u → (i : ℕ) (v : Victim) → slice_get (losers_in kept p w t ns) i ≡ Some v →
     evaluation_at (done kept p w t).world (ns, u.evaluation_number + (i + 1))
     ≡ Some (evaluation_for u (least_of_job (evicted kept p w t) v) triggers.Preemption)
 
--- it is pending, and has no index yet
+-- such an evaluation is pending, and has no index yet
 abbrev pub MadeIsPending : Type 0
 MadeIsPending = (t : Tenant) (a : Allocation) (trigger : Trigger) → let e = evaluation_for t a trigger in
     (e.status ≡ Status.Pending) × (e.create_index ≡ 0) × (e.modify_index ≡ 0)
 
 -- ---- pools and lists
 
--- the nodes that do their part are there
+-- the committed nodes exist
 abbrev pub CommittedAreThere : Type 0
 CommittedAreThere = (kept : Snapshot) (p : Plan) (w : World) (t : Tenant) (k : ℕ) →
     has_number (done kept p w t).checked.committed k ≡ true → is_some (node_at w kept.pool (node_name kept k)) ≡ true
@@ -123,7 +124,7 @@ abbrev pub PlacesCounted : Type 0
 PlacesCounted = (kept : Snapshot) (p : Plan) (w : World) (t : Tenant) → IsForJob kept p →
     (done kept p w t).world.pools ≡ map_rows (counted_rows kept (placed kept p w t)) w.pools
 
--- the quotas and the lists stay, but that new evaluations may be ready behind the others
+-- the quotas and the lists stay, except that new evaluations may follow the others in the ready list
 pub record IsRestKept (count : Name → ℕ) (w x : World) : Type 0 where
   pub quotas : x.quotas ≡ w.quotas
   pub plans : x.plans ≡ w.plans
@@ -138,7 +139,7 @@ RestStays = (kept : Snapshot) (p : Plan) (w : World) (t : Tenant) →
 
 -- ---- the worker
 
--- of x nothing is otherwise than of y but one row of a worker, and a plan that is out of the list
+-- x is y, except that it has another row of the worker, and the worker's plan is out of the list
 pub record IsMarked (number : ℕ) (ns : Name) (worker row : Worker) (y x : World) : Type 0 where
   pub tenants : (q : Name) →
       get x.tenants q ≡ option_map (λ u. if same_name q ns then with_worker number row u else u) (get y.tenants q)
@@ -148,7 +149,7 @@ pub record IsMarked (number : ℕ) (ns : Name) (worker row : Worker) (y x : Worl
   pub plans : x.plans ≡ without_key (ns, worker.evaluation) y.plans
   pub blocked : x.blocked ≡ y.blocked
 
--- so the step ends
+-- at its end the step writes the worker's row, and takes its plan out of the list
 abbrev pub AppliedIsMarked : Type 0
 AppliedIsMarked = (number : ℕ) (ns : Name) (worker : Worker) (e : Evaluation) (a : Applied) →
     IsMarked number ns worker (applied_worker a worker e) a.world (applied_world number ns worker e a)

@@ -1,4 +1,4 @@
--- What an Apply does of a plan that stands, in words over the state before it. Here t is the snapshot's namespace.
+-- What an Apply does of a plan that stands, by the state before it. Here t is the snapshot's namespace.
 use Rattle.std.specs.Prelude.{◌≡◌, ◌≤◌, ◌<◌, ℕ, ◌+◌, ◌⊎◌, if◌then◌else◌, List, [], ◌++◌, Option, Some, None}
 use Rattle.std.specs.Prelude.{filter, length}
 use Rattle.ns_types.specs.declared.allocation.Allocation.{Allocation}
@@ -39,11 +39,11 @@ victims kept p w t = (done kept p w t).checked.victims
 abbrev pub ended : Snapshot → Plan → World → Tenant → List Key
 ended kept p w t = stops kept p w t ++ victims kept p w t
 
--- the placements of the nodes that do their part, in the order of the plan
+-- the placements on committed nodes, in the order of the plan
 abbrev pub placed : Snapshot → Plan → World → Tenant → List Placement
 placed kept p w t = placed_on (done kept p w t).checked.committed p.placing.placements
 
--- the victims with their rows, and of each job the first of them
+-- the victims with their rows, and the first victim of each job
 abbrev pub evicted : Snapshot → Plan → World → Tenant → List Victim
 evicted kept p w t = evicted_rows (stopped kept p w t) kept (placed kept p w t)
 
@@ -55,11 +55,11 @@ losers_in kept p w t ns = filter (λ v. same_name ns v.0) (losers kept p w t)
 
 -- ---- rows
 
--- none of as many numbers as follow the last one
+-- the number is none of the `count` numbers after `last`
 abbrev pub IsOutside : ℕ → ℕ → ℕ → Type 0
 IsOutside last count n = (n ≤ last) ⊎ (last + count < n)
 
--- one of as many numbers as follow the last evaluation of a namespace that is there
+-- the namespace exists, and the number is one of the `count` numbers after its last evaluation
 abbrev pub IsNew : ℕ → Option Tenant → ℕ → Type 0
 IsNew count found n = (u : Tenant) × (found ≡ Some u) × (u.evaluation_number < n) × (n ≤ u.evaluation_number + count)
 
@@ -67,7 +67,7 @@ IsNew count found n = (u : Tenant) × (found ≡ Some u) × (u.evaluation_number
 abbrev pub placed_in : Snapshot → Plan → World → Tenant → Name → ℕ
 placed_in kept p w t ns = if same_name ns kept.namespace then length (placed kept p w t) else 0
 
--- a row that was there, as it is then
+-- the row of an allocation that was there, after the Apply
 abbrev pub left_row : List Key → List Key → Key → Allocation → Allocation
 left_row stops victims key a =
     if has_key victims key then record a { desired = DesiredStatus.Evict }
@@ -83,7 +83,7 @@ counted_rows kept placements pool rows =
 
 -- ---- namespaces
 
--- all of a namespace but its evaluations and its allocations
+-- a namespace without its evaluations, its allocations and its last numbers
 pub record Standing : Type 0 where
   pub namespace : Namespace
   pub index : ℕ
@@ -96,7 +96,7 @@ standing t = record { namespace = t.namespace; index = t.index; jobs = t.jobs; w
 
 -- ---- the worker
 
--- the state that the step leads to, with the worker's row and without its plan
+-- the state after the step, with the worker's new row, and without its plan in the list
 abbrev pub applied_world : ℕ → Name → Worker → Evaluation → Applied → World
 applied_world number ns worker e a =
     record (change_tenant ns (with_worker number (applied_worker a worker e)) a.world)

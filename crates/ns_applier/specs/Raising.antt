@@ -12,11 +12,11 @@ use Rattle.ns_counters.specs.Bounds.{is_at_bound}
 use Rattle.ns_applier.specs.Passing.{end_passes}
 use Rattle.ns_applier.specs.Releasing.{EndsAlone}
 
--- what a namespace gets
+-- what the step gives to a namespace
 pub record Raise : Type 0 where
   pub evaluations : ℕ
   pub allocations : ℕ
-  -- a row of it is new, or shown otherwise than before
+  -- a row of the namespace is new, or shown differently than before
   pub touched : Bool
 
 pub record IsRaised (raise : Raise) (old new : Tenant) : Type 0 where
@@ -27,7 +27,8 @@ pub record IsRaised (raise : Raise) (old new : Tenant) : Type 0 where
 abbrev pub with_places : ℕ → Node → Node
 with_places count node = record node { places = node.places + count }
 
--- the step led from w to x: each namespace got that, and each node so many places and nothing else
+-- the step leads from w to x: each namespace gets what `raise` says, and each node as many places as `places` says and nothing
+-- else
 pub record Raises (w x : World) (raise : Name → Raise) (places : Name → Name → ℕ) : Type 0 where
   pub tenants : (ns : Name) (t u : Tenant) → get w.tenants ns ≡ Some t → get x.tenants ns ≡ Some u →
       IsRaised (raise ns) t u
@@ -36,7 +37,7 @@ pub record Raises (w x : World) (raise : Name → Raise) (places : Name → Name
 
 -- ---- counters
 
--- the namespace's numbers or its index
+-- one of the namespace's numbers, or its index, passes its bound
 abbrev pub raise_passes : Raise → Tenant → Bool
 raise_passes raise t = nat_lt greatest (t.evaluation_number + raise.evaluations)
     || nat_lt greatest (t.allocation_number + raise.allocations) || (is_at_bound t.index && raise.touched)
@@ -48,12 +49,12 @@ abbrev pub places_pass : World → (Name → Name → ℕ) → Bool
 places_pass w places =
     any_row (λ pool p. any_row (λ name node. nat_lt greatest (node.places + places pool name)) p.nodes) w.pools
 
--- these, and what one of the allocations that end releases
+-- one of these counters passes its bound, or one does by what an allocation that ends releases
 abbrev pub counted_passes : World → List Key → (Name → Raise) → (Name → Name → ℕ) → Bool
 counted_passes w keys raise places =
     raises_pass w raise || places_pass w places || list_any (end_passes w w) keys
 
--- the law: a step that gives these, and ends the allocations at the keys, passes a bound by these, and by nothing else
+-- the law: a step that gives these, and ends the allocations at the keys, passes a bound exactly if one of these counters does
 abbrev pub PassesByCounts : Type 0
 PassesByCounts = (w x : World) (keys : List Key) (raise : Name → Raise) (places : Name → Name → ℕ)
     → is_past_bound w ≡ false → EndsAlone w x keys → Raises w x raise places

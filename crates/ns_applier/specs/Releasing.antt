@@ -1,4 +1,4 @@
--- A step that releases nothing but by the live allocations that it ends.
+-- A step that releases something only by the live allocations that it ends.
 use Rattle.std.specs.Prelude.{◌≡◌, ℕ, Bool, true, false, not, ◌&&◌, ◌||◌, List, Option, Some, option_map}
 use Rattle.std.specs.Option.{option_map_or}
 use Rattle.std.specs.FinMap.{get}
@@ -8,11 +8,11 @@ use Rattle.ns_types.specs.State.Names.{Name, Key, has_key}
 use Rattle.ns_types.specs.State.Rows.{World, evaluation_at, is_free, node_at}
 use Rattle.ns_types.specs.Working.Parts.{lives_at}
 
--- it was live before the step, and is not after it
+-- the allocation is live before the step, and not after it
 abbrev pub ends_at : World → World → Key → Bool
 ends_at w x key = lives_at w key && not (lives_at x key)
 
--- a free node that is new, became free or offers otherwise than before
+-- the node is free, and it is new, became free or offers something else than before
 abbrev pub opens : World → Name → Name → Node → Bool
 opens w pool name node = is_free node
     && option_map_or (λ old. not (is_free old) || not (same_offer old.offer node.offer)) (node_at w pool name) true
@@ -28,7 +28,7 @@ release_at w pool = option_map (λ p. p.release) (get w.pools pool)
 pub record EndsAlone (w x : World) (keys : List Key) : Type 0 where
   -- the allocations at the keys end, and no other
   pub ended : (key : Key) → has_key keys key ≡ ends_at w x key
-  -- the same namespaces and pools, each counter of theirs that settling raises as it was
+  -- the namespaces and the pools stay, and so do their counters that settling raises
   pub indexes : (ns : Name) → index_at x ns ≡ index_at w ns
   pub releases : (pool : Name) → release_at x pool ≡ release_at w pool
   -- no node gives room by itself, and no quota has other limits

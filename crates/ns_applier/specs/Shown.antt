@@ -1,4 +1,4 @@
--- Allocations that end are shown otherwise than before.
+-- An allocation that ends is shown differently than before.
 use Rattle.std.specs.Prelude.{◌≡◌, true, false}
 use Rattle.ns_types.specs.declared.allocation.Allocation.{Allocation}
 use Rattle.ns_types.specs.Settling.Same.{same_allocation}

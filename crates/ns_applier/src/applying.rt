@@ -1,4 +1,4 @@
-//! A worker's plan is applied.
+//! Applies a worker's plan.
 
 ghost use Rattle.std.specs.Prelude.{◌≡◌, Some, false};
 ghost use Rattle.keyed.specs.Table.{row_at};
@@ -26,8 +26,8 @@ use ns_types::refusal::Refusal;
 use ns_types::snapshot::Snapshot;
 use ns_types::text::Text;
 
-/// What the plan of a worker in turn comes to. It is checked, and whether a counter would pass its bound is judged,
-/// before anything takes memory.
+/// Applies the plan of the worker whose plan is next. Before anything takes memory, it checks the plan, and whether a
+/// counter would pass its bound.
 fn come_to(
     tables: &Tables,
     live: &Live,
@@ -62,8 +62,8 @@ fn come_to(
     apply_standing(&committed, tenant, turn, outcome.dropped())
 }
 
-/// Applies the plan that the worker handed in for its evaluation of the namespace. The answer has the numbers of the
-/// allocations that are placed, and the names of the nodes of which nothing is done.
+/// Applies the plan that the worker handed in for its evaluation of the namespace. The reply has the numbers of the
+/// placed allocations, and the names of the nodes whose part of the plan is not done.
 ///
 /// `NotEnabled`: the worker has no evaluation of the namespace, it has not handed in a plan, or another plan is next.
 /// Then `Full`: the number of an allocation, an evaluation, a place or a release, or an index, would pass its bound. Then

@@ -48,8 +48,8 @@ fn evaluations_pass(
     numbers_pass(tables, CountedEvictions::new(placements, evicting))
 }
 
-/// Whether a counter passes its bound once the plan is done on the nodes at those places of the snapshot, which do their
-/// part: the number of an allocation, an evaluation, a place or a release, or an index.
+/// Whether a counter passes its bound once the plan is done on the committed nodes, which `nodes` has by their places
+/// in the snapshot: the number of an allocation, an evaluation, a place or a release, or an index.
 pub(crate) fn passes(
     tables: &Tables,
     live: &Live,

@@ -1,4 +1,4 @@
-//! What an Apply leaves of the state, where its plan stands, and when it passes the bound of a counter. Each law is the
+//! The state after an Apply whose plan stands, and when an Apply passes the bound of a counter. Each law is the
 //! contract of a function that does nothing.
 
 ghost use Rattle.ns_applier.specs.Counters.{ApplyIsJudged, ApplyPasses, RefusedPassesNothing};
@@ -9,7 +9,7 @@ ghost use Rattle.ns_applier.specs.Laws.{EvaluationsMade, EvaluationsStay, MadeIs
 ghost use Rattle.ns_applier.specs.Laws.{NamespacesStay, NoVictimIsStopped, NumbersGoOn};
 ghost use Rattle.ns_applier.specs.Laws.{PlacesCounted, PlanIsForJob, RestStays, VictimsApart};
 
-/// The plan of a snapshot places nothing where there is no job.
+/// The plan of a snapshot without a job places nothing.
 pub fn plan_is_for_job()
     ensures { PlanIsForJob }
 {}
@@ -19,77 +19,77 @@ pub fn namespaces_stay()
     ensures { NamespacesStay }
 {}
 
-/// It gives a number for each placement, and one for each job that loses an allocation.
+/// An Apply gives a number for each placement, and one for each job that loses an allocation.
 pub fn numbers_go_on()
     ensures { NumbersGoOn }
 {}
 
-/// It stops and evicts allocations, each by its key, and leaves all others as they were.
+/// An Apply stops and evicts allocations, each by its key, and leaves all others as they were.
 pub fn allocations_stay()
     ensures { AllocationsStay }
 {}
 
-/// It makes a pending allocation for each placement, on its node and in the order of the plan.
+/// An Apply makes a pending allocation for each placement, on its node and in the order of the plan.
 pub fn allocations_made()
     ensures { AllocationsMade }
 {}
 
-/// Those that it stops or evicts were live.
+/// The allocations that an Apply stops or evicts were live.
 pub fn ended_were_live()
     ensures { EndedWereLive }
 {}
 
-/// And they are live no more, and no other allocation ends.
+/// The allocations that an Apply stops or evicts end, and no other allocation does.
 pub fn allocations_end()
     ensures { AllocationsEnd }
 {}
 
-/// None is both stopped and evicted.
+/// An Apply never both stops and evicts an allocation.
 pub fn no_victim_is_stopped()
     ensures { NoVictimIsStopped }
 {}
 
-/// What counts on one node counts on no other.
+/// Evictions that count on different nodes are of different allocations.
 pub fn victims_apart()
     ensures { VictimsApart }
 {}
 
-/// It leaves each evaluation as it was.
+/// An Apply leaves each evaluation as it was.
 pub fn evaluations_stay()
     ensures { EvaluationsStay }
 {}
 
-/// It makes a pending evaluation for each job that loses an allocation.
+/// An Apply makes a pending evaluation for each job that loses an allocation.
 pub fn evaluations_made()
     ensures { EvaluationsMade }
 {}
 
-/// Such an evaluation is pending, and has no index before the step settles.
+/// An evaluation that an Apply makes is pending, and has no index before the step settles.
 pub fn made_is_pending()
     ensures { MadeIsPending }
 {}
 
-/// The nodes that do their part are there.
+/// The committed nodes exist.
 pub fn committed_are_there()
     ensures { CommittedAreThere }
 {}
 
-/// It counts the placements on their nodes, and changes nothing else of a pool.
+/// An Apply counts the placements on their nodes, and changes nothing else of a pool.
 pub fn places_counted()
     ensures { PlacesCounted }
 {}
 
-/// It leaves the quotas and the lists, but that new evaluations may be ready behind the others.
+/// An Apply leaves the quotas and the lists, except that new evaluations may follow the others in the ready list.
 pub fn rest_stays()
     ensures { RestStays }
 {}
 
-/// Besides, the worker's row is written and its plan is out of the list.
+/// At its end an Apply writes the worker's row and takes its plan out of the list.
 pub fn applied_is_marked()
     ensures { AppliedIsMarked }
 {}
 
-/// An Apply passes the bound of a counter by what it ends and gives, said of the state before it.
+/// Whether an Apply passes the bound of a counter depends on what it ends and gives, by the state before it.
 pub fn apply_passes()
     ensures { ApplyPasses }
 {}
@@ -99,12 +99,12 @@ pub fn refused_passes_nothing()
     ensures { RefusedPassesNothing }
 {}
 
-/// So whether a worker's Apply is made or refused is known before anything is written.
+/// Whether a worker's Apply is made or refused is known before anything is written.
 pub fn apply_is_judged()
     ensures { ApplyIsJudged }
 {}
 
-/// Where it passes no bound there are numbers and places for all that is new.
+/// If an Apply passes no bound, there are numbers and places for all that is new.
 pub fn room_is_left()
     ensures { RoomIsLeft }
 {}

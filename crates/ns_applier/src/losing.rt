@@ -1,4 +1,4 @@
-//! Which evictions of a plan are those of victims. It takes no memory to ask.
+//! Decides which evictions of a plan have a victim. It takes no memory.
 
 use crate::view::Present;
 use ns_place::marking::{Marked, Places};
@@ -7,13 +7,13 @@ use ns_renewal::CountsEviction;
 use ns_types::plan::{Eviction, Placement};
 use ns_types::snapshot::Snapshot;
 
-/// The nodes that do their part of a plan, with what its evictions are looked up in.
+/// The committed nodes of a plan, with what its evictions are looked up in.
 #[derive(Clone, Copy)]
 pub(crate) struct Evicting<'a> {
     pub(crate) present: &'a Present<'a>,
     pub(crate) snapshot: &'a Snapshot,
     pub(crate) stops: &'a Marked<'a>,
-    /// The places in the snapshot of the nodes that do their part.
+    /// The places of the committed nodes in the snapshot.
     pub(crate) nodes: &'a Places<'a>,
 }
 

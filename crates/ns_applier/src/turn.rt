@@ -1,4 +1,4 @@
-//! Whose plan is applied next, and for which evaluation.
+//! Decides whether a worker's plan is the next one, and finds its evaluation.
 
 ghost use Rattle.std.specs.Prelude.{◌≡◌, ◌&&◌, option_copied};
 ghost use Rattle.ns_types.specs.State.Names.{same_key};

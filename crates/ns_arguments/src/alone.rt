@@ -1,4 +1,4 @@
-//! What is given to `alone`. None: a value is not what it has to be.
+//! Reads the values of the arguments of `alone`. None: the value is not allowed.
 
 ghost use Rattle.std.specs.Prelude.{◌≡◌, IfOk, map, option_map};
 ghost use Rattle.ns_arguments.specs.Values.{count_by, names_by};
@@ -9,14 +9,14 @@ use ns_types::rows::Rows;
 use ns_types::text::Text;
 use std::alloc::{AllocError, Global};
 
-/// How many entries of the log come before, by what is given for it.
+/// The number of entries at the front of the log that set up the server: 0 by default.
 pub fn count(given: Option<&str>) -> Option<u64>
     ensures { result ≡ count_by (option_map (λ s. s.now) given.entry) }
 {
     number_by(0, 0, u64::MAX, given)
 }
 
-/// The names of that kind, by the texts that are given for them. Want of memory is the only error.
+/// The given texts as names of that kind. Want of memory is the only error.
 pub fn names(
     alloc: Global,
     kind: NameKind,

@@ -1,4 +1,5 @@
--- A choice of owners over whose border nothing reaches, and what a step's own change may do to it.
+-- A choice of owners, which are namespaces, pools and quotas, such that no namespace reaches over its border; and what
+-- a step's own change may do to it.
 use Rattle.std.specs.Prelude.{◌≡◌, ℕ, true, not, Option, Some, option_map}
 use Rattle.std.specs.FinMap.{get}
 use Rattle.ns_types.specs.declared.allocation.Allocation.{Allocation}
@@ -22,17 +23,19 @@ rest part = record {
       λ quota. not (part.quotas quota);
 }
 
--- a pool, and a quota if there is one, that are chosen exactly where the namespace is
+-- the pool is chosen exactly if the namespace is, and so is the quota, if there is one
 pub record IsWith (part : Part) (ns pool : Name) (quota : Option Name) : Type 0 where
   pub pool_with : part.pools pool ≡ part.spaces ns
   pub quota_with : (q : Name) → quota ≡ Some q → part.quotas q ≡ part.spaces ns
 
--- a kept snapshot is of its namespace, and of a pool and a quota of its side
+-- a kept snapshot is of its namespace, and its pool and its quota are chosen exactly if the namespace is
 pub record IsKeptWith (part : Part) (ns : Name) (kept : Snapshot) : Type 0 where
   pub namespace : kept.namespace ≡ ns
   pub with : IsWith part ns kept.pool (option_map (λ q. q.name) kept.quota)
 
--- no namespace reaches over the border of the choice
+-- No namespace reaches over the border of the choice: a chosen namespace may use chosen pools alone and names a chosen
+-- quota or none; any other namespace may use no chosen pool and names no chosen quota. The same holds of the pools and
+-- quotas that their blocked evaluations, live allocations, jobs, workers' evaluations and kept snapshots name.
 pub record IsApart (part : Part) (w : World) : Type 0 where
   pub quota : (ns : Name) (t : Tenant) (q : Name) → get w.tenants ns ≡ Some t → t.namespace.quota ≡ Some q →
       part.quotas q ≡ part.spaces ns
@@ -52,7 +55,8 @@ pub record IsApart (part : Part) (w : World) : Type 0 where
       get t.workers n ≡ Some worker
       → worker.kept ≡ Some kept → IsKeptWith part ns kept
 
--- what a client has not ended of the chosen namespaces is on chosen pools, whatever is desired of it
+-- each allocation of a chosen namespace whose client status is `pending` or `running` is in a chosen pool, whatever its
+-- desired status
 abbrev pub IsAtHome : Part → World → Type 0
 IsAtHome part w = (ns : Name) (t : Tenant) (n : ℕ) (a : Allocation) → get w.tenants ns ≡ Some t →
     get t.allocations n ≡ Some a → is_held a.client ≡ true
@@ -60,13 +64,14 @@ IsAtHome part w = (ns : Name) (t : Tenant) (n : ℕ) (a : Allocation) → get w.
 
 -- ---- what a step's own change may do
 
--- nothing of the chosen owners is changed
+-- the step's own change leaves the chosen owners as they were
 unfoldable pub Leaves : Part → World → Outcome World → Type 0
 Leaves part w (NotEnabled) = Unit {0}
 Leaves part w (Refused refusal) = Unit {0}
 Leaves part w (Done content w') = alone_in part w' ≡ alone_in part w
 
--- the same step is answered alike among the chosen owners, wherever it is enabled among all
+-- wherever the step is enabled on the whole server, it does the same where the chosen owners are alone: it gets the
+-- same refusal, or the same content with the same change to them
 unfoldable pub Follows : Part → Outcome World → Outcome World → Type 0
 Follows part NotEnabled o = Unit {0}
 Follows part (Refused refusal) o = o ≡ Refused refusal

@@ -1,5 +1,5 @@
--- Of all that holds of a valid state, what isolation rests on: rows name pools and quotas of their namespace,
--- and what a worker has or a list names is open.
+-- What isolation rests on, of all that holds of a valid state: rows name pools that their namespace may use and its own
+-- quota, and evaluations that a worker has or that a list names are open.
 use Rattle.std.specs.Prelude.{◌≡◌, ◌≢◌, ℕ, ◌≤◌, true, false, Option, Some, option_map}
 use Rattle.std.specs.FinMap.{get}
 use Rattle.ns_types.specs.declared.allocation.Allocation.{Allocation}
@@ -24,7 +24,7 @@ pub record IsKeptBy (ns : Name) (t : Tenant) (kept : Snapshot) : Type 0 where
   pub namespace : kept.namespace ≡ ns
   pub allowed : IsAllowedTo t.namespace kept.pool (option_map (λ q. q.name) kept.quota)
 
--- an evaluation that is there, and pending
+-- the evaluation with the number n exists and is pending
 pub record IsPendingIn (t : Tenant) (n : ℕ) : Type 0 where
   pub row : Evaluation
   pub is_row : get t.evaluations n ≡ Some row
@@ -39,23 +39,23 @@ pub record IsOrderlyTenant (ns : Name) (t : Tenant) : Type 0 where
   pub snapshot : (n : ℕ) (worker : Worker) (kept : Snapshot) → get t.workers n ≡ Some worker → worker.kept ≡ Some kept →
       IsKeptBy ns t kept
   pub held : (n : ℕ) (worker : Worker) → get t.workers n ≡ Some worker → IsPendingIn t worker.evaluation
-  -- no two workers have one evaluation
+  -- no two workers have the same evaluation
   pub one_each : (m n : ℕ) (v x : Worker) → get t.workers m ≡ Some v → get t.workers n ≡ Some x →
       v.evaluation ≡ x.evaluation → m ≡ n
   pub numbers : (n : ℕ) (e : Evaluation) → get t.evaluations n ≡ Some e → n ≤ t.evaluation_number
 
--- what stands in `ready` is pending, and no worker has it
+-- an evaluation in `ready` is pending, and no worker has it
 pub record IsReadyIn (t : Tenant) (n : ℕ) : Type 0 where
   pub pending : IsPendingIn t n
   pub free : (m : ℕ) (worker : Worker) → get t.workers m ≡ Some worker → worker.evaluation ≢ n
 
--- what stands in `blocked` is blocked
+-- an evaluation in `blocked` has the status `Blocked`
 pub record IsBlockedIn (t : Tenant) (n : ℕ) : Type 0 where
   pub row : Evaluation
   pub is_row : get t.evaluations n ≡ Some row
   pub is_blocked : row.status ≡ Status.Blocked
 
--- an entry of a list names a namespace that is there, and so is its evaluation
+-- an entry of a list names a namespace that exists, and its evaluation is in the condition P there
 pub record IsListed (w : World) (P : Tenant → ℕ → Type 0) (ns : Name) (n : ℕ) : Type 0 where
   pub tenant : Tenant
   pub is_tenant : get w.tenants ns ≡ Some tenant

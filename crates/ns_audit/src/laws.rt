@@ -1,85 +1,96 @@
-//! A namespace that has its pools and its quotas to itself runs as if it were alone, administrators' steps on these names among
-//! its own. Every state that the server reaches is valid.
+//! What isolation promises: a namespace that has its pools and its quotas to itself runs as if it were alone on the server. Its
+//! own steps are the requests in it and about its pools, workers' steps for it, and administrators' requests about its record,
+//! its pools, its quotas and the access lists. Also: every state that the server reaches is valid.
 
 ghost use Rattle.ns_audit.specs.Headline.{ApartIsFit, OtherStep, OwnStep, ReachedIsSteady, SteadyStep, StruckRun, StruckSteadyRun, ValidIsSteady};
 ghost use Rattle.ns_audit.specs.Laws.{OwnStepApart, OtherStepApart, SettlesAlone, SettlesIdle};
 ghost use Rattle.ns_audit.specs.Valid.{OpeningValid, ReachedIsValid, ValidStep};
 
-/// What a step does at its end, it does to the chosen owners as if there were no others.
+/// At its end each step settles: blocked evaluations wake, releases are numbered, changed rows get an index, and events are
+/// added. Take a choice of namespaces, pools and quotas such that no namespace reaches over its border. Then settling does to
+/// the chosen owners what it would do if there were no others.
 pub fn settling_goes_alone()
     ensures { SettlesAlone }
 {}
 
-/// A step that changes nothing releases, wakes and stamps nothing.
+/// If a step changed nothing, settling changes nothing: there is no release, nothing wakes, and no row gets an index.
 pub fn settling_leaves_the_idle()
     ensures { SettlesIdle }
 {}
 
-/// A step of the chosen owners that no administrator asks for is answered alike by the server that holds them alone, and leads to
-/// the state that holds them alone.
+/// Take a choice of owners that is fit for isolation (`IsFit`). A step of their own that is no administrator's request gets the
+/// same answer from the server that holds them alone, and leads there to what they have in the new state.
 pub fn own_step_apart()
     ensures { OwnStepApart }
 {}
 
-/// Any other step that no administrator asks for changes nothing of the chosen owners.
+/// Take a choice of owners that is fit for isolation (`IsFit`). A step that is neither their own nor an administrator's request
+/// changes nothing that they have, and no access list.
 pub fn other_step_apart()
     ensures { OtherStepApart }
 {}
 
-/// A valid state has all that isolation rests on.
+/// A valid state has what isolation rests on (`IsSteady`): rows name pools that their namespace may use and its own quota,
+/// evaluations that a worker has or that are listed as ready or blocked are open, and no counter has passed its bound.
 pub fn valid_is_steady()
     ensures { ValidIsSteady }
 {}
 
-/// Each step keeps what isolation rests on.
+/// If a state has what isolation rests on, each step leads to a state that has it too.
 pub fn steady_step()
     ensures { SteadyStep }
 {}
 
-/// So each state that the server reaches from its opening has it.
+/// So each state that the server reaches from its opening state has what isolation rests on.
 pub fn reached_is_steady()
     ensures { ReachedIsSteady }
 {}
 
-/// A namespace that is apart, with its pools and its quotas, is a choice over whose border nothing reaches.
+/// In a state that has what isolation rests on, let a namespace have its pools and its quotas to itself. Then no namespace
+/// reaches over the border of the choice that consists of this namespace with these pools and quotas.
 pub fn apart_is_fit()
     ensures { ApartIsFit }
 {}
 
-/// A step of its own, an administrator's on its names or on the access lists among them, is answered alike by the server that
-/// holds it alone, index included, and the states agree again.
+/// In a state that has what isolation rests on, let a namespace have its pools and its quotas to itself. Each step of its own,
+/// administrators' among them, gets the same answer, index included, from the server that holds the namespace alone, and the
+/// states agree again. The exception is a put of a new name that is refused because its table is full on the whole server.
 pub fn own_step()
     ensures { OwnStep }
 {}
 
-/// Any other step that leaves it apart changes nothing that it has, and no access list.
+/// In a state that has what isolation rests on, let a namespace have its pools and its quotas to itself. A step that is not its
+/// own, and after which it still has them to itself, changes nothing that the namespace has, and no access list.
 pub fn other_step()
     ensures { OtherStep }
 {}
 
-/// From every valid state, in every run in which a namespace, with a list of pools and quotas, shares none of them: what remains
-/// once the steps that are neither its own nor an administrator's on those names or on the access lists are struck out is a run
-/// of the server that holds it alone, with the same answers, and what it has is the same in the end.
+/// Take a run from a valid state in which a namespace has its pools and its quotas to itself at every state, and no put of its
+/// own is refused because its table is full on the whole server. Strike out every step that is not the namespace's own. The
+/// rest is a run of the server that holds the namespace alone, with the same answers. In the end the namespace has the same,
+/// and the access lists are the same.
 pub fn struck_run()
     ensures { StruckRun }
 {}
 
-/// The same from every state that has what isolation rests on, as each that the server reaches has.
+/// The promise of `struck_run` holds for a run from every state that has what isolation rests on, as each state that the server
+/// reaches has.
 pub fn struck_steady_run()
     ensures { StruckSteadyRun }
 {}
 
-/// Each step whose names, members and lists are within the limits leads from a valid state to a valid one, whatever it is answered.
+/// Each step whose names, members and lists are within the limits leads from a valid state to a valid one, whatever its answer.
 pub fn valid_step()
     ensures { ValidStep }
 {}
 
-/// The state in which the server begins is valid, if its secret is one.
+/// The server's opening state is valid if its bootstrap secret is spelled as a secret must be.
 pub fn opening_is_valid()
     ensures { OpeningValid }
 {}
 
-/// So each state that the server reaches from its opening by such steps is valid.
+/// So each state that the server reaches from its opening state, with such a bootstrap secret and by steps within the limits,
+/// is valid.
 pub fn reached_is_valid()
     ensures { ReachedIsValid }
 {}

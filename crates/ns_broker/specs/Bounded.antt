@@ -1,4 +1,4 @@
--- What a counter's bound makes of a step.
+-- How the bound of a counter refuses a worker's step.
 use Rattle.std.specs.Prelude.{◌≡◌, ℕ, ◌+◌, Bool, true, false, not, ◌&&◌, nat_lt}
 use Rattle.std.specs.Option.{option_map_or}
 use Rattle.std.specs.FinMap.{get}
@@ -20,23 +20,23 @@ abbrev pub is_failed : Status → Bool
 is_failed Status.Failed = true
 is_failed _ = false
 
--- it fails now, which replies show, and the namespace has no index left for that
+-- the evaluation is not yet marked as failed, and the namespace has no index left to show that it fails
 abbrev pub cannot_fail : World → Name → Evaluation → Bool
 cannot_fail w ns e = not (is_failed e.status) && is_last_index w ns
 
--- what a worker does unseen passes no bound
+-- no counter passes its bound by the act
 abbrev pub PassesNothing : (World → Outcome World) → Type 0
 PassesNothing act = (w : World) (content : Content) (x : World) → is_past_bound w ≡ false → act w ≡ Done content x →
     is_past_bound (settle w x) ≡ false
 
--- a worker takes an evaluation
+-- no counter passes its bound by a dequeue
 abbrev pub DequeuePassesNothing : Type 0
 DequeuePassesNothing = (number : ℕ) (key : Key) → PassesNothing (dequeue number key)
 
--- it looks
+-- no counter passes its bound by the taking of a snapshot
 abbrev pub SnapPassesNothing : Type 0
 SnapPassesNothing = (number : ℕ) (ns : Name) → PassesNothing (snap number ns)
 
--- it hands in its plan
+-- no counter passes its bound by the submission of a plan
 abbrev pub SubmitPassesNothing : Type 0
 SubmitPassesNothing = (number : ℕ) (ns : Name) → PassesNothing (submit number ns)

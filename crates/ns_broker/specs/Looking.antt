@@ -11,7 +11,7 @@ use Rattle.ns_broker.specs.declared.looking.Busy.{Busy}
 abbrev pub busy_for : World → ℕ → Option Name
 busy_for w number = option_map (λ row. row.0) (row_of w number)
 
--- of a busy worker its namespace, its evaluation, how far it is, and its tries
+-- a busy worker's namespace, evaluation, phase and tries
 abbrev pub busy_of : Name × Worker → Name × ℕ × Phase × ℕ
 busy_of row = (row.0, row.1.evaluation, row.1.phase, row.1.tries)
 

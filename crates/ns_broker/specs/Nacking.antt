@@ -1,4 +1,4 @@
--- What a nack makes of the evaluation and of the world.
+-- What a nack does to the evaluation and to the world.
 use Rattle.std.specs.Prelude.{◌≡◌, ℕ, ◌+◌, ◌<◌, ◌^◌, Some}
 use Rattle.ns_types.specs.declared.evaluation.Evaluation.{Evaluation}
 use Rattle.ns_types.specs.declared.evaluation.Status.TheVariants as Status
@@ -12,12 +12,12 @@ use Rattle.ns_types.specs.Working.Queue.{promote}
 use Rattle.ns_types.specs.Working.Work.{without_worker}
 use Rattle.ns_change.specs.Changed.{put_evaluation, with_ready}
 
--- one nack more of the evaluation that the worker has can be counted
+-- the evaluation that the worker has can get one more nack
 abbrev pub HasNackLeft : World → ℕ → Name → Type 0
 HasNackLeft w number ns = (worker : Worker) → (e : Evaluation) → worker_at w number ns ≡ Some worker →
     evaluation_at w (ns, worker.evaluation) ≡ Some e → e.nacks + 1 < 2 ^ 64
 
--- in a valid world it can
+-- in a valid world, the evaluation that a worker has can get one more nack
 abbrev pub SoundHasNackLeft : Type 0
 SoundHasNackLeft = (w : World) → IsSound w → (number : ℕ) (ns : Name) → HasNackLeft w number ns
 
@@ -27,14 +27,14 @@ nacked e = record e { nacks = e.nacks + 1 }
 abbrev pub failed : Evaluation → Evaluation
 failed e = record e { nacks = e.nacks + 1; status = Status.Failed }
 
--- the evaluation has that row, and the worker is idle
+-- the evaluation has its new row, and the worker is idle
 abbrev pub left : ℕ → ℕ → Evaluation → Tenant → Tenant
 left number n row t = without_worker number (put_evaluation n row t)
 
--- the evaluation is ready again, behind the others
+-- the nack is counted, the worker is idle, and the evaluation is ready again, behind the others
 abbrev pub put_back : ℕ → Name → ℕ → Evaluation → World → World
 put_back number ns n e w = with_ready (ns, n) (change_tenant ns (left number n (nacked e)) w)
 
--- it has failed, and the next one of its job is ready
+-- the nack is counted, the worker is idle, the evaluation has failed, and the next evaluation of its job is promoted
 abbrev pub put_away : ℕ → Name → ℕ → Evaluation → World → World
 put_away number ns n e w = promote ns e.job (change_tenant ns (left number n (failed e)) w)

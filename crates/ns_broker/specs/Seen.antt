@@ -1,4 +1,4 @@
--- What a snapshot has of the slots of tables.
+-- What a snapshot has from the slots of tables.
 use Rattle.std.specs.Prelude.{◌≡◌, ◌≤◌, ◌+◌, ℕ, Bool, ◌&&◌, ◌||◌, ◌++◌, if◌then◌else◌, List, [], ◌∷◌, Option, Some, None, fold, length}
 use Rattle.std.specs.Option.{option_and_then, option_map_or}
 use Rattle.std.specs.FinMap.{contains_key, empty, entries, insert, len, values}
@@ -30,7 +30,7 @@ abbrev pub own_at : Name → Option Job → ℕ × Option Allocation → List Ow
 own_at id job (n, None) = []
 own_at id job (n, Some a) = if is_own id job a then record { number = n; row = a } ∷ [] else []
 
--- ---- the live allocations of a node, by place: of several that have one place the first counts
+-- ---- the live allocations of a node, by place: if several have one place, the first that is added is kept
 
 abbrev pub seen_row : Name → ℕ → Allocation → ℕ × LiveAllocation
 seen_row ns n a = (a.place, seen_live (ns, (n, a)))
@@ -38,31 +38,31 @@ seen_row ns n a = (a.place, seen_live (ns, (n, a)))
 abbrev pub add_seen : {X : Type 0} → ByNumber X → ℕ × X → ByNumber X
 add_seen seen e = if contains_key seen e.0 then seen else insert seen e.0 e.1
 
--- only a place after the last one counts
+-- an allocation is added only if its place is after the last one
 abbrev pub add_past : {X : Type 0} → Option ℕ → ByNumber X → ℕ × X → ByNumber X
 add_past last seen e = if is_past last e.0 then add_seen seen e else seen
 
--- the row at a number of the index
+-- the allocation at a number of the index is added
 abbrev pub add_number : Option ℕ → Name → ByNumber (Option Allocation) → ByNumber LiveAllocation → ℕ × Option Unit
     → ByNumber LiveAllocation
 add_number last ns allocations seen (n, None) = seen
 add_number last ns allocations seen (n, Some key) =
     option_map_or (λ a. add_past last seen (seen_row ns n a)) (row_at allocations n) seen
 
--- those at the numbers of a namespace
+-- the allocations at the numbers of a namespace are added
 abbrev pub add_namespace : Option ℕ → ByName (Option TenantRows) → ByNumber LiveAllocation →
     Name × Option (ByNumber (Option Unit)) → ByNumber LiveAllocation
 add_namespace last tenants seen (ns, None) = seen
 add_namespace last tenants seen (ns, Some numbers) =
     option_map_or (λ t. fold (add_number last ns t.allocations.slots) seen (entries numbers)) (row_at tenants ns) seen
 
--- those at the keys
+-- the allocations at the keys whose places are after the last one, by place
 abbrev pub placed_after : Option ℕ → ByName (Option TenantRows) → KeySet → ByNumber LiveAllocation
 placed_after last tenants keys = fold (add_namespace last tenants) empty (entries keys.numbers)
 
--- ---- how many of the keys have a row that is placed after the last one
+-- ---- how many of the keys have an allocation that is placed after the last one
 
--- one, if the row at a number of the index is
+-- one, if the allocation at a number of the index is placed after the last one, and otherwise zero
 abbrev pub past_at : Option ℕ → ByNumber (Option Allocation) → ℕ × Option Unit → ℕ
 past_at last allocations (n, None) = 0
 past_at last allocations (n, Some key) =
@@ -71,7 +71,7 @@ past_at last allocations (n, Some key) =
 abbrev pub past_in : Option ℕ → ByNumber (Option Allocation) → List (ℕ × Option Unit) → ℕ
 past_in last allocations slots = sum_by (past_at last allocations) slots
 
--- of those of a namespace
+-- how many of a namespace's keys have an allocation that is placed after the last one
 abbrev pub past_of : Option ℕ → ByName (Option TenantRows) → Name × Option (ByNumber (Option Unit)) → ℕ
 past_of last tenants (ns, None) = 0
 past_of last tenants (ns, Some numbers) =
@@ -96,18 +96,18 @@ base_rows base = option_map_or (λ b. b.node.live) base []
 abbrev pub base_last : Option SeenNode → Option ℕ
 base_last base = option_and_then (λ b. b.last) base
 
--- the base has no more than the keys that are not placed after its last
+-- the allocations of the base and those placed after its last one are together no more than the keys
 abbrev pub FitsKeys : ByName (Option TenantRows) → KeySet → Option SeenNode → Type 0
 FitsKeys tenants keys base = past_among (base_last base) tenants (entries keys.numbers) + length (base_rows base)
     ≤ keys_among (entries keys.numbers)
 
--- behind those of the base come those that are placed after its last
+-- behind the allocations of the base come those that are placed after its last one
 pub record FollowsBase (tenants : ByName (Option TenantRows)) (keys : KeySet) (base : Option SeenNode)
     (live : List LiveAllocation) (last : Option ℕ) : Type 0 where
   pub rows : live ≡ base_rows base ++ values (placed_after (base_last base) tenants keys)
   pub place : last ≡ last_number (base_last base) (entries (placed_after (base_last base) tenants keys))
 
--- they are all live allocations on the node, and none is placed after the last
+-- these are all live allocations on the node, and none is placed after `last`
 pub record AreSeenOn (w : World) (pool node : Name) (live : List LiveAllocation) (last : Option ℕ) : Type 0 where
   pub rows : live ≡ live_on w pool node
   pub place : live ≡ live_until w pool node last
@@ -123,7 +123,7 @@ abbrev pub node_at_slot : World → Name → Name × Option Node → List PoolNo
 node_at_slot w pool (name, None) = []
 node_at_slot w pool (name, Some row) = record { name = name; row = row; live = live_on w pool name } ∷ []
 
--- a node of the slot is in the pool
+-- if the slot has a node, it is the pool's node of that name
 abbrev pub IsNodeOf : World → Name → Name × Option Node → Type 0
 IsNodeOf w pool slot = (row : Node) → slot.1 ≡ Some row → node_at w pool slot.0 ≡ Some row
 

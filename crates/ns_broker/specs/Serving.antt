@@ -1,4 +1,4 @@
--- When an evaluation is the one that is served, and when a worker may take it.
+-- When an evaluation is the next one of a list, and when a worker may dequeue it.
 use Rattle.std.specs.Prelude.{ℕ, Bool, ◌&&◌, if◌then◌else◌, List, Option, Some, None, nat_le, nat_lt, is_some}
 use Rattle.keyed.specs.Table.{at_slot, row_at}
 use Rattle.ns_types.specs.declared.evaluation.Evaluation.{Evaluation}
@@ -10,30 +10,30 @@ use Rattle.ns_types.specs.Working.Work.{is_idle, new_worker, with_worker, worker
 use Rattle.ns_change.specs.Changed.{without_ready}
 use Rattle.ns_tables.specs.declared.tables.TenantRows.{TenantRows}
 
--- the key, where it is the one of the list that is served next
+-- the key, if its evaluation is the next one of the list
 abbrev pub served_as : World → List Key → Key → Option Key
 served_as w keys key = if is_served w keys key then Some key else None
 
--- of two the later one only where its priority is greater
+-- the later of two keys only if its priority is greater, and otherwise the first
 abbrev pub preferred : (Key → ℕ) → Option Key → Key → Option Key
 preferred priority None later = Some later
 preferred priority (Some first) later =
     if nat_le (priority later) (priority first) then Some first else Some later
 
--- the same of a list's slot, which may be vacant
+-- the better of a key and the key of a list's slot; a vacant slot has none
 abbrev pub preferred_at : (Key → ℕ) → Option Key → ℕ × Option Key → Option Key
 preferred_at priority first (place, None) = first
 preferred_at priority first (place, Some later) = preferred priority first later
 
--- a worker has an evaluation of the namespace of that slot
+-- the worker has an evaluation of the slot's namespace
 abbrev pub is_busy_for : ℕ → Name × Option TenantRows → Bool
 is_busy_for number = at_slot (λ e. is_some (row_at e.1.workers number))
 
--- there is such a worker, it has no evaluation, and that one is served next
+-- there is such a worker, it is idle, and the evaluation is the next one to dequeue
 abbrev pub may_dequeue : ℕ → Key → World → Bool
 may_dequeue number key w = nat_lt number workers_end && is_idle w number && is_served w w.ready key
 
--- its key, where the worker may take it
+-- the evaluation's key, if the worker may dequeue it
 abbrev pub key_for : ℕ → Key → World → Option Key
 key_for number key w = if may_dequeue number key w then Some key else None
 

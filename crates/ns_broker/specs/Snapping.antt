@@ -1,4 +1,4 @@
--- What a worker that looks answers, changes and keeps.
+-- The reply, the change and the kept snapshot of a worker that takes a snapshot.
 use Rattle.std.specs.Prelude.{◌≡◌, ℕ, Option, Some, Result, Ok, Err}
 use Rattle.std.specs.Option.{option_and_then}
 use Rattle.std.specs.FinMap.{get}
@@ -26,11 +26,11 @@ UseFitsIn w ns = (t : Tenant) → get w.tenants ns ≡ Some t → UseOfFits w t
 abbrev pub kept_at : World → ℕ → Name → Option Snapshot
 kept_at w number ns = option_and_then (λ worker. worker.kept) (worker_at w number ns)
 
--- the change leaves the worker that row, and nothing else
+-- the change gives the worker that row, and changes nothing else
 abbrev pub Keeps : ℕ → Name → Worker → Tables → Change → Type 0
 Keeps number ns worker t change = view t change ≡ change_tenant ns (with_worker number worker) (world_of t)
 
--- the step is the model's, and the worker's row then keeps the snapshot that is answered
+-- the step is the model's, and the worker's row then keeps the snapshot that the reply returns
 abbrev pub Snaps : ℕ → Name → Tables → Result Snapped Refusal → Type 0
 Snaps number ns t (Ok x) = Prepares (snap number ns (world_of t)) t (Ok x.prepared) ×
     (kept_at (view t x.prepared.change) number ns ≡ Some x.snapshot)

@@ -1,4 +1,4 @@
--- What a plan that a worker hands in comes to.
+-- The outcome of a plan that a worker submits.
 use Rattle.std.specs.Prelude.{◌≡◌, ℕ, false, IsTrue, Some, Result, Ok, Err, is_some}
 use Rattle.ns_types.specs.declared.refusal.Refusal.{Refusal}
 use Rattle.ns_types.specs.declared.snapshot.Snapshot.{Snapshot}
@@ -24,23 +24,23 @@ abbrev pub HasWork : World → ℕ → Name → Type 0
 HasWork w number ns = (worker : Worker) → worker_at w number ns ≡ Some worker →
     IsTrue (is_some (evaluation_at w (ns, worker.evaluation)))
 
--- in a valid world it is
+-- in a valid world, the evaluation that a worker has is there
 abbrev pub SoundHasWork : Type 0
 SoundHasWork = (w : World) → IsSound w → (number : ℕ) (ns : Name) → HasWork w number ns
 
--- the worker may hand in that plan: it is its turn, the plan is of the snapshot that it keeps, and does something
+-- the worker may submit that plan: its phase allows it, the plan is of the snapshot that it keeps, and it does something
 pub record IsAdmitted (w : World) (number : ℕ) (ns : Name) (planned : Snapshot) (worker : Worker) : Type 0 where
   pub in_turn : InTurn w number ns worker
   pub kept : worker.kept ≡ Some planned
   pub does : does_nothing (plan planned) ≡ false
 
--- the worker has handed in its plan, which waits behind the others
+-- the worker has submitted its plan, which waits behind the others
 abbrev pub handed_in : ℕ → Name → Worker → World → World
 handed_in number ns worker w = with_plan (ns, worker.evaluation)
     (change_tenant ns (with_worker number (record worker { phase = Phase.Submitted })) w)
 
--- The step is the model's, of the snapshot that the worker keeps; or the plan is refused. Want of memory comes last,
--- where the step would have been made.
+-- The step is the model's, for the snapshot that the worker keeps; or the plan is refused. Want of memory comes last, where
+-- the step would have been made.
 abbrev pub Submits : ℕ → Name → Snapshot → Tables → Result Prepared Refusal → Type 0
 Submits number ns planned t (Ok x) =
     (kept_at (world_of t) number ns ≡ Some planned) × Prepares (submit number ns (world_of t)) t (Ok x)
@@ -48,7 +48,7 @@ Submits number ns planned t (Err Refusal.Memory) =
     (kept_at (world_of t) number ns ≡ Some planned) × Prepares (submit number ns (world_of t)) t (Err Refusal.Memory)
 Submits number ns planned t (Err refusal) = RefusesPlan (world_of t) number ns planned refusal
 
--- where a plan is refused for want of turn, or since it does nothing, the model's step is not enabled
+-- if a plan is refused with `NotEnabled`, the model's step is not enabled
 abbrev pub RefusedIsNotEnabled : Type 0
 RefusedIsNotEnabled = (w : World) (number : ℕ) (ns : Name) (planned : Snapshot) →
     RefusesPlan w number ns planned Refusal.NotEnabled → submit number ns w ≡ NotEnabled

@@ -4,32 +4,32 @@ ghost use Rattle.ns_broker.specs.Bounded.{DequeuePassesNothing, SnapPassesNothin
 ghost use Rattle.ns_broker.specs.Nacking.{SoundHasNackLeft};
 ghost use Rattle.ns_broker.specs.Submitting.{RefusedIsNotEnabled, SoundHasWork};
 
-/// A worker that takes an evaluation is never refused for a counter's bound.
+/// A dequeue is never refused because a counter would pass its bound.
 pub fn dequeue_passes_nothing()
     ensures { DequeuePassesNothing }
 {}
 
-/// A worker that looks is never refused for a counter's bound.
+/// Taking a snapshot is never refused because a counter would pass its bound.
 pub fn snap_passes_nothing()
     ensures { SnapPassesNothing }
 {}
 
-/// In a valid world one nack more of a worker's evaluation can be counted.
+/// In a valid world, the evaluation that a worker has can get one more nack.
 pub fn sound_has_nack_left()
     ensures { SoundHasNackLeft }
 {}
 
-/// A worker that hands in its plan is never refused for a counter's bound.
+/// Submitting a plan is never refused because a counter would pass its bound.
 pub fn submit_passes_nothing()
     ensures { SubmitPassesNothing }
 {}
 
-/// In a valid world a worker's evaluation is there.
+/// In a valid world, the evaluation that a worker has is there.
 pub fn sound_has_work()
     ensures { SoundHasWork }
 {}
 
-/// A plan that is refused with `NotEnabled` is that of a step that is not enabled.
+/// If a plan is refused with `NotEnabled`, the model's step is not enabled either.
 pub fn refused_is_not_enabled()
     ensures { RefusedIsNotEnabled }
 {}

@@ -1,6 +1,6 @@
 //! Finds the next evaluation, and prepares the steps in which a worker dequeues it, takes its snapshot, submits its plan, and
 //! gives it back.
-//! Each step is a command over the tables: what it replies and changes, or that it is not enabled.
+//! Each step is a command over the tables. It returns its reply and its change, or that it is not enabled.
 #![tactic(auto)]
 
 pub mod laws;

@@ -1,4 +1,4 @@
-//! What can be looked at without a step. Looks change nothing and take no memory.
+//! Looks at the tables without a step. Looks change nothing and take no memory.
 
 ghost use Rattle.std.specs.Prelude.{◌≡◌, find, is_some, option_copied, option_map};
 ghost use Rattle.ns_types.specs.Working.Looks.{first_plan, row_of, served_ready, worker_at};
@@ -26,7 +26,7 @@ pub struct Busy<'a> {
     pub tries: u64,
 }
 
-/// The next evaluation: the first of those of the highest priority.
+/// The next evaluation to dequeue: the first one among those of the highest priority.
 pub fn served_ready<'a>(tables: &'a Tables, turns: &'a Turns) -> Option<&'a EvalKey>
     requires { IsRight (world_of tables.now) turns.now }
     ensures { option_copied result ≡ served_ready (world_of tables.now) }
@@ -38,14 +38,14 @@ pub fn served_ready<'a>(tables: &'a Tables, turns: &'a Turns) -> Option<&'a Eval
     }
 }
 
-/// Whether there is a next evaluation. It looks at none.
+/// Whether there is an evaluation to dequeue. It looks at no evaluation.
 pub fn has_served(tables: &Tables) -> bool
     ensures { result ≡ is_some (served_ready (world_of tables.now)) }
 {
     !tables.ready.is_empty()
 }
 
-/// The evaluation whose plan is next.
+/// The evaluation whose plan is the next to be applied.
 pub fn first_plan(tables: &Tables) -> Option<&EvalKey>
     ensures { option_copied result ≡ first_plan (world_of tables.now) }
 {
@@ -72,14 +72,14 @@ fn is_busy_for(slot: &NameSlot<TenantRows>, number: u64) -> bool
     }
 }
 
-/// The first namespace for which the worker is busy.
+/// The slot of the first namespace for which the worker is busy.
 fn busy_slot(slots: &[NameSlot<TenantRows>], number: u64) -> Option<&NameSlot<TenantRows>>
     ensures { option_copied result ≡ find (is_busy_for number) slots.now }
 {
     slots.iter().find(|slot| is_busy_for(slot, number))
 }
 
-/// The same by its name, found along all namespaces.
+/// The name of the first namespace for which the worker is busy. It goes through all namespaces.
 fn busy_along(tables: &Tables, number: u64) -> Option<&Text>
     ensures { option_copied result ≡ busy_for (world_of tables.now) number }
 {
@@ -123,7 +123,7 @@ pub fn row_of<'a>(
     }
 }
 
-/// What the worker is busy with, and how far it is. None: it is idle.
+/// What the worker is busy with, and its phase. None: it is idle.
 pub fn phase<'a>(tables: &'a Tables, turns: &'a Turns, number: u64) -> Option<Busy<'a>>
     requires { IsRight (world_of tables.now) turns.now }
     ensures { option_map busy_fields result

@@ -1,4 +1,4 @@
-//! A worker gives its evaluation back.
+//! A worker nacks its evaluation.
 
 ghost use Rattle.std.specs.Prelude.{◌≡◌, ◌+◌, ◌<◌, ◌^◌, false, option_copied};
 ghost use Rattle.ns_types.specs.declared.evaluation.Status.TheVariants as Status;
@@ -24,7 +24,7 @@ use ns_types::text::Text;
 use ns_types::worker::{Phase, Worker};
 use std::alloc::AllocError;
 
-/// An evaluation with so many nacks has failed at the next one.
+/// An evaluation that has this many nacks fails at the next one.
 const NACKS: u64 = 2;
 
 fn is_submitted(worker: &Worker) -> bool
@@ -41,7 +41,7 @@ fn evaluation<'a>(tables: &'a Tables, namespace: &Text, worker: &Worker) -> Opti
     tables.evaluation(namespace, worker.evaluation())
 }
 
-/// The evaluation has that row, and the worker is idle.
+/// Puts the evaluation's new row, and makes the worker idle.
 fn leave(
     tables: &Tables,
     change: &mut Change,
@@ -57,7 +57,7 @@ fn leave(
     remove_worker(tables, change, namespace, number)
 }
 
-/// The evaluation is ready again, behind the others.
+/// Counts the nack, makes the worker idle, and makes the evaluation ready again, behind the others.
 fn put_back(
     tables: &Tables,
     change: &mut Change,
@@ -76,7 +76,7 @@ fn put_back(
     add_ready(change, EvalKey::new(namespace.clone()?, evaluation))
 }
 
-/// The evaluation has failed, and the next one of its job is ready.
+/// Counts the nack, makes the worker idle, marks the evaluation as failed, and promotes the next evaluation of its job.
 fn put_away(
     tables: &Tables,
     change: &mut Change,
@@ -148,17 +148,18 @@ fn is_last_index(tables: &Tables, namespace: &Text) -> bool
     }
 }
 
-/// Whether the evaluation would fail by this, and the namespace has no index left for that.
+/// Whether the evaluation is not yet marked as failed, and the namespace has no index left to show that it fails.
 fn cannot_fail(tables: &Tables, namespace: &Text, row: &Evaluation) -> bool
     ensures { result ≡ cannot_fail (world_of tables.now) namespace.now row.now }
 {
     !is_failed(row.status) && is_last_index(tables, namespace)
 }
 
-/// The worker gives its evaluation of the namespace back, which gets a nack. With fewer than three it is ready again,
-/// behind the others; with three it has failed, and the next one of its job is ready. `NotEnabled`: the worker has none
-/// of the namespace, or its plan waits. `Full`: it would have failed, and the namespace's index is at its bound. The
-/// premises hold in each valid world: one nack more can be counted, and no counter has passed its bound.
+/// Prepares the nack of the evaluation of the namespace that the worker has. With fewer than three nacks the evaluation is
+/// ready again, behind the others. With three it has failed, and the next evaluation of its job is promoted. `NotEnabled`: the
+/// worker has no evaluation of the namespace, or its plan waits. `Full`: the evaluation would fail, and the namespace's index
+/// is at its bound. Want of memory comes last. The premises hold in each valid world: one more nack can be counted, and no
+/// counter has passed its bound.
 pub fn nack(tables: &Tables, number: u64, namespace: &Text) -> Result<Prepared, Refusal>
     requires left { HasNackLeft (world_of tables.now) number namespace.now }
     requires within { is_past_bound (world_of tables.now) ≡ false }

@@ -9,7 +9,7 @@ use keyed::{KeyQueue, NumberSlot};
 use ns_tables::Tables;
 use ns_types::key::EvalKey;
 
-/// The priority of an evaluation, or none.
+/// The priority of an evaluation, or 0 if there is no such evaluation.
 fn priority(tables: &Tables, key: &EvalKey) -> u64
     ensures { result ≡ priority_at (world_of tables.now) key.now }
 {
@@ -19,7 +19,7 @@ fn priority(tables: &Tables, key: &EvalKey) -> u64
     }
 }
 
-/// Of the first one so far and the one at this place: the later only where its priority is greater.
+/// The better of the first key so far and the key of this slot: the later one only if its priority is greater.
 fn preferred<'a>(
     tables: &Tables,
     first: Option<&'a EvalKey>,
@@ -37,7 +37,7 @@ fn preferred<'a>(
     }
 }
 
-/// Of the evaluations with the greatest priority the first in the list, which it goes through. It takes no memory.
+/// The first evaluation in the list among those of the highest priority. It goes through the list. It takes no memory.
 pub fn served<'a>(tables: &Tables, queue: &'a KeyQueue) -> Option<&'a EvalKey>
     ensures { option_copied result ≡ served (world_of tables.now) queue.now.items }
 {

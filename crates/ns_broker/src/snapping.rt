@@ -1,4 +1,4 @@
-//! A worker looks: it takes a snapshot.
+//! A worker takes a snapshot.
 
 ghost use Rattle.std.specs.Prelude.{◌≡◌, IfOk, option_copied};
 ghost use Rattle.std.specs.FinMap.{get};
@@ -23,14 +23,15 @@ use ns_types::text::Text;
 use ns_types::worker::{Phase, Worker};
 use std::alloc::AllocError;
 
-/// What a worker that looks answers and changes, with the snapshot that its row keeps.
+/// The reply and the change of a worker that takes a snapshot, with the snapshot that its row keeps.
 #[derive(Drop)]
 pub struct Snapped {
     pub prepared: Prepared,
     pub snapshot: Shared<Snapshot>,
 }
 
-/// Whether it has just taken its evaluation, or something of its plan was dropped and tries remain.
+/// Whether the worker may take a snapshot: it has just dequeued its evaluation, or part of its plan was dropped and tries
+/// remain.
 fn may_snap(worker: &Worker) -> bool
     ensures { result ≡ may_snap worker.now.tries worker.now.phase }
 {
@@ -49,14 +50,14 @@ fn evaluation<'a>(tenant: &'a TenantRows, worker: &Worker) -> Option<&'a Evaluat
     tenant.evaluations.rows().get(worker.evaluation())
 }
 
-/// What is answered to a worker that looks.
+/// The content of the reply to a worker that takes a snapshot.
 fn answer(worker: &Worker) -> Content
     ensures { result ≡ Content.Snapped worker.now.evaluation }
 {
     Content::Snapped(worker.evaluation())
 }
 
-/// The worker's row in the namespace is that one.
+/// A change that puts this row of the worker in the namespace, and nothing else.
 fn keep(
     tables: &Tables,
     number: u64,
@@ -70,7 +71,7 @@ fn keep(
     Ok(change)
 }
 
-/// The snapshot of the worker's evaluation as it is now.
+/// The snapshot of the worker's evaluation in the present state.
 fn look(
     tables: &Tables,
     live: &mut Live,
@@ -96,9 +97,10 @@ fn look(
     Shared::new(tables.alloc, seen)
 }
 
-/// The worker that has an evaluation of the namespace takes a snapshot, which its row keeps and which is answered: one
-/// value that both share. `NotEnabled`: the worker has none of the namespace, or it is not its turn to look. The index
-/// of live allocations is right and stays so; what is used of the namespace's quota fits 64 bits, as in each valid world.
+/// Prepares the step in which the worker that has an evaluation of the namespace takes a snapshot. The worker's row keeps the
+/// snapshot and the reply returns it: both share one value. `NotEnabled`: the worker has no evaluation of the namespace, or
+/// may not take a snapshot now. Want of memory comes last. The premises are that the index of live allocations is right, and
+/// that the use of the namespace's quota fits 64 bits, as in each valid world. The index stays right.
 pub fn snap(
     tables: &Tables,
     live: &mut Live,

@@ -1,4 +1,4 @@
-//! A worker hands in its plan.
+//! A worker submits its plan.
 
 ghost use Rattle.std.specs.Prelude.{◌≡◌, ◌↔◌, IsTrue, MatchResult, Some};
 ghost use Rattle.ns_types.specs.Working.Looks.{RefusesPlan};
@@ -20,14 +20,14 @@ use ns_types::text::Text;
 use ns_types::worker::{Phase, Worker};
 use std::alloc::AllocError;
 
-/// Whether it has looked, and has not handed in a plan since.
+/// Whether the worker has taken a snapshot, and has not submitted a plan since.
 fn is_snapped(worker: &Worker) -> bool
     ensures { result ≡ is_snapped worker.now.phase }
 {
     matches!(worker.phase(), Phase::Snapped)
 }
 
-/// Whether the worker keeps that snapshot. It takes no memory, and as long as comparing the two.
+/// Whether the worker keeps this snapshot. It takes no memory, and as long as it takes to compare the two snapshots.
 pub fn keeps(worker: &Worker, snapshot: &Snapshot) -> bool
     ensures { IsTrue result ↔ (worker.now.kept ≡ Some snapshot.now) }
 {
@@ -37,7 +37,7 @@ pub fn keeps(worker: &Worker, snapshot: &Snapshot) -> bool
     }
 }
 
-/// The worker's row, where it may hand in that plan. What is asked takes no memory.
+/// The worker's row, if the worker may submit this plan, or else the refusal. It takes no memory.
 fn admitted<'a>(
     tables: &'a Tables,
     number: u64,
@@ -63,7 +63,7 @@ fn admitted<'a>(
     Ok(worker)
 }
 
-/// The worker has handed in the plan of its snapshot, which waits behind the others.
+/// Submits the plan of the worker's snapshot, which waits behind the others.
 fn hand_in(
     tables: &Tables,
     change: &mut Change,
@@ -84,9 +84,10 @@ fn hand_in(
     )
 }
 
-/// The worker hands in a plan, which waits behind the others then. `NotEnabled`: the worker has no evaluation of the
-/// namespace, or it is not its turn. Then `Foreign`: the plan is of another snapshot than the worker keeps. Then
-/// `NotEnabled`: the plan does nothing. The worker's evaluation is there, as in each valid world.
+/// Prepares the submission of a plan, which then waits behind the others. `NotEnabled`: the worker has no evaluation of the
+/// namespace, or may not submit a plan now. Then `Foreign`: the plan is of another snapshot than the worker keeps. Then
+/// `NotEnabled`: the plan does nothing. Want of memory comes last. The premise is that the worker's evaluation is there, as in
+/// each valid world.
 pub fn submit(
     tables: &Tables,
     number: u64,

@@ -1,4 +1,4 @@
-//! A worker takes an evaluation.
+//! A worker dequeues an evaluation.
 
 ghost use Rattle.std.specs.Prelude.{◌≡◌, nat_lt, option_copied};
 ghost use Rattle.ns_queues.specs.Turns.{IsRight};
@@ -23,7 +23,7 @@ use ns_types::text::{Text, same_text};
 use ns_types::worker::Worker;
 use std::alloc::AllocError;
 
-/// How many workers there are: their numbers are less than this.
+/// The number of workers: their numbers are less than this.
 const WORKERS: u64 = 64;
 
 /// Whether the worker has no evaluation.
@@ -37,7 +37,7 @@ fn is_idle(tables: &Tables, turns: &Turns, number: u64) -> bool
     }
 }
 
-/// How often a plan for such a job is tried.
+/// How often a plan for a job of this kind may be tried.
 fn tries_for(kind: JobKind) -> u64
     ensures { result ≡ tries_for kind }
 {
@@ -47,7 +47,7 @@ fn tries_for(kind: JobKind) -> u64
     }
 }
 
-/// The row of a worker that took the evaluation of that number.
+/// The row of a worker that has just dequeued the evaluation of that number.
 fn new_worker(number: u64, evaluation: &Evaluation) -> Worker
     ensures { result ≡ new_worker number evaluation.now }
 {
@@ -68,7 +68,7 @@ fn is_key(namespace: &Text, number: u64, key: &EvalKey) -> bool
     same_text(namespace, key.namespace()) && same_number(number, key.number())
 }
 
-/// The evaluation's key, where it is the next one.
+/// The evaluation's key, if it is the next evaluation to dequeue.
 fn served_as<'a>(
     tables: &'a Tables,
     turns: &'a Turns,
@@ -89,7 +89,7 @@ fn served_as<'a>(
     }
 }
 
-/// The evaluation's key, where there is such a worker, it has no evaluation, and this one is next.
+/// The evaluation's key, if there is such a worker, it is idle, and the evaluation is the next one to dequeue.
 fn key_for<'a>(
     tables: &'a Tables,
     turns: &'a Turns,
@@ -110,7 +110,7 @@ fn key_for<'a>(
     served_as(tables, turns, namespace, evaluation)
 }
 
-/// The worker has the evaluation, which is no longer ready.
+/// Gives the evaluation to the worker, and takes it out of the ready list.
 fn take(
     tables: &Tables,
     change: &mut Change,
@@ -125,8 +125,8 @@ fn take(
     take_ready(tables.alloc, change, key)
 }
 
-/// The worker takes the evaluation, which is the next one and is no longer ready then. `NotEnabled`: there is no such
-/// worker, it has an evaluation, or another one is next.
+/// Prepares the dequeue of the evaluation by the worker. `NotEnabled`: there is no such worker, it has an evaluation already,
+/// or another evaluation is the next one. Want of memory comes last.
 pub fn dequeue(
     tables: &Tables,
     turns: &Turns,

@@ -1,4 +1,4 @@
--- How a run of the words ended, over what its reader has left and what its writer and its errors hold.
+-- How a run of the command line ended: what its reader has left, and what its writer and its errors hold.
 use Rattle.std.specs.Prelude.{◌≡◌, ◌⊎◌, ℕ, List, Option}
 use Rattle.clap.specs.Words.{Text}
 use Rattle.ns_api.specs.declared.following.Driven.{Driven}
@@ -15,7 +15,7 @@ use Rattle.ns_pipe.specs.declared.replay.replay.Replay.{Replay}
 use Rattle.ns_listener.specs.declared.service.Service.{Service}
 use Rattle.ns_command_line.specs.Words.{Asks, AsksAlone, AsksServe}
 
--- a connection with a new server, which this secret opens, was served
+-- a connection with a new server, opened by this secret, was served
 abbrev pub EndsPiped : {D R W : Type 0} → (D → List ℕ → D → Type 0) → (R → Option (List ℕ)) → (W → Option (List ℕ)) →
     Text → Driven → Printed → D → R → W → EndedRun R W → Type 0
 EndsPiped draws remaining contents secret driven printed drawer reader writer ended =
@@ -35,7 +35,7 @@ pub record EndsUnserved {R W : Type 0} (reader : R) (writer : W) (ended : EndedR
   pub unread : ended.reader ≡ uncounted reader
   pub unwritten : ended.writer ≡ uncounted writer
 
--- the text of a mistake was written, and nothing was read or written
+-- the text of a mistake was written to the errors; nothing was read, and nothing was written to the output
 pub record EndsRefused {R W E : Type 0} (error_text : E → Option (List ℕ)) (reader : R) (writer : W)
     (errors errors' : Counted E) (ended : EndedRun R W) : Type 0 where
   pub text : Text
@@ -44,21 +44,21 @@ pub record EndsRefused {R W E : Type 0} (error_text : E → Option (List ℕ)) (
   pub unwritten : ended.writer ≡ uncounted writer
   pub line : TriesToWrite error_text errors errors' text
 
--- help was written, or a part of it, and then the output failed; nothing was read
+-- nothing was read, and help was written; or a first part of it was, and then the output failed
 pub record EndsHelped {R W : Type 0} (contents : W → Option (List ℕ)) (reader : R) (writer : W) (ended : EndedRun R W) : Type 0 where
   pub help : Text
   pub unread : ended.reader ≡ uncounted reader
   pub written : ((ended.status ≡ SERVED) × WritesAll contents (uncounted writer) ended.writer help)
       ⊎ ((ended.status ≡ WRITE_FAULT) × FailsToWrite contents (uncounted writer) ended.writer help)
 
--- so it ended, or there was no memory
+-- the run ended so, or nothing was read and nothing was written, for want of memory
 abbrev pub OrUnserved : {R W : Type 0} → R → W → (EndedRun R W → Type 0) → EndedRun R W → Type 0
 OrUnserved reader writer HasEnded ended = HasEnded ended ⊎ EndsUnserved reader writer ended
 
 module _ {D R W E : Type 0} (draws : D → List ℕ → D → Type 0) (remaining : R → Option (List ℕ))
     (contents : W → Option (List ℕ)) (error_text : E → Option (List ℕ)) (words : List Text) (drawer : D) (reader : R)
     (writer : W) (errors errors' : Counted E) where
-  -- what the words ask for was done, or they were answered with help or a mistake, or there was no memory
+  -- what the words ask for was done, or help or a mistake was written, or there was no memory
   abbrev pub DoesAsked : EndedRun R W → Type 0
   DoesAsked ended =
       ((secret : Text) × (driven : Driven) × (printed : Printed) × Asks words secret driven printed
@@ -69,7 +69,7 @@ module _ {D R W E : Type 0} (draws : D → List ℕ → D → Type 0) (remaining
       ⊎ EndsRefused error_text reader writer errors errors' ended
       ⊎ EndsUnserved reader writer ended
 
--- the words ask for this server, and nothing was read, or written to the output or to the errors
+-- the words ask for a server with these settings; nothing was read, or written to the output or to the errors
 pub record IsHandedOn {R W E : Type 0} (words : List Text) (reader : R) (writer : W) (errors errors' : Counted E)
     (service : Service) (reader' : R) (writer' : W) : Type 0 where
   pub asks : AsksServe words service

@@ -24,11 +24,11 @@ serve_rules =
 abbrev pub serve_words : App
 serve_words = fold with_rule (new_app (codes "serve")) serve_rules
 
--- what is given to `serve` for this argument
+-- the value of this argument of `serve`
 abbrev pub of_serve : Text → Named → Option Text
 of_serve = given_for (codes "serve")
 
--- `serve` is given what this server is to be
+-- the arguments of `serve` give these settings
 pub record IsServe (named : Named) (service : Service) : Type 0 where
   pub address : Text
   pub given : of_serve (codes "listen") named ≡ Some address

@@ -60,14 +60,14 @@ alone_rules = namespace_rule ∷ from_rule ∷ pool_rule ∷ quota_rule ∷ []
 abbrev pub alone_words : App
 alone_words = fold with_rule (new_app (codes "alone")) alone_rules
 
--- without its subcommands, of which one has to be there
+-- the program without its subcommands, one of which has to be named
 abbrev pub bare_words : App
 bare_words = on_top (λ top. record top { subcommand_required = true }) (new_app (codes "nsd"))
 
 abbrev pub subcommands : List App
 subcommands = pipe_words ∷ serve_words ∷ alone_words ∷ []
 
--- the program with that subcommand besides
+-- the program with this subcommand added
 abbrev pub with_app : App → App → App
 with_app program command = with_subcommand program command.top
 
@@ -76,38 +76,38 @@ program_words = fold with_app bare_words subcommands
 
 -- ---- what `clap` finds in the words
 
--- no fault
+-- `clap` finds no fault in the words
 abbrev pub AreTaken : List Text → Type 0
 AreTaken words = fault_of program_words words ≡ []
 
--- the fault is that help, or the version, is asked for
+-- the fault is a request for help, or for the version
 abbrev pub IsWish : ErrorKind → Type 0
 IsWish kind = (kind ≡ ErrorKind.DisplayHelp) ⊎ (kind ≡ ErrorKind.DisplayVersion)
 
--- that help is asked for, and nothing else
+-- the only fault is a request for help
 abbrev pub AskHelp : List Text → Type 0
 AskHelp words = fault_of program_words words ≡ ErrorKind.DisplayHelp ∷ []
 
--- a fault, and none that is a wish
+-- `clap` finds a fault in the words, and no request for help or for the version
 pub record AreRefused (words : List Text) : Type 0 where
   pub faulty : AreTaken words → ⊥
   pub no_wish : (kind : ErrorKind) → IsAmong kind (fault_of program_words words) → IsWish kind → ⊥
 
 -- ---- `pipe`
 
--- a flag that is there is given as `true`
+-- whether a worker is driven: a flag that is given has the value `true`
 abbrev pub driven_by : Option Text → Driven
 driven_by None = Driven.Nobody
 driven_by (Some text) = if bytes_eq text (codes "true") then Driven.Worker else Driven.Nobody
 
--- the replies, where nothing is said
+-- what is printed: the replies, if nothing is given
 abbrev pub printed_by : Option Text → Option Printed
 printed_by None = Some Printed.Replies
 printed_by (Some text) =
     if bytes_eq text (codes "replies") then Some Printed.Replies
     else if bytes_eq text (codes "log") then Some Printed.Log else None
 
--- `pipe` is given this secret, which is one by its rule, and with whom to drive and what to print
+-- the arguments of `pipe` give this secret, which is a valid one, and say whether a worker is driven and what is printed
 pub record IsPipe (named : Named) (secret : Text) (driven : Driven) (printed : Printed) : Type 0 where
   pub given : given_for (codes "pipe") (codes "bootstrap") named ≡ Some secret
   pub is_secret : is_name NameKind.Secret secret ≡ true
@@ -117,15 +117,15 @@ pub record IsPipe (named : Named) (secret : Text) (driven : Driven) (printed : P
 abbrev pub Gives : List Text → Text → Driven → Printed → Type 0
 Gives words = IsPipe (subcommand_of program_words words)
 
--- good words: `clap` takes them, and they give this secret and say whom to drive and what to print
+-- good words: `clap` takes them, and they give this secret and say whether a worker is driven and what is printed
 pub record Asks (words : List Text) (secret : Text) (driven : Driven) (printed : Printed) : Type 0 where
   pub taken : AreTaken words
   pub gives : Gives words secret driven printed
 
 -- ---- `alone`
 
--- `alone` is given what this replay is to be: the namespace, the count, and all pools and all quotas in order; each name
--- is one by its rule
+-- the arguments of `alone` give this replay: the namespace, the count of entries, and all pools and all quotas in order; each
+-- name is a valid one
 pub record IsAlone (named : Named) (replay : Replay) : Type 0 where
   pub given : given_for (codes "alone") (codes "namespace") named ≡ Some replay.namespace
   pub is_namespace : is_name NameKind.Namespace replay.namespace ≡ true
@@ -136,7 +136,7 @@ pub record IsAlone (named : Named) (replay : Replay) : Type 0 where
 abbrev pub GivesAlone : List Text → Replay → Type 0
 GivesAlone words = IsAlone (subcommand_of program_words words)
 
--- good words: `clap` takes them, and they give what this replay is to be
+-- good words: `clap` takes them, and they ask for this replay
 pub record AsksAlone (words : List Text) (replay : Replay) : Type 0 where
   pub taken : AreTaken words
   pub gives : GivesAlone words replay
@@ -146,14 +146,14 @@ pub record AsksAlone (words : List Text) (replay : Replay) : Type 0 where
 abbrev pub GivesServe : List Text → Service → Type 0
 GivesServe words = IsServe (subcommand_of program_words words)
 
--- good words: `clap` takes them, and they give what this server is to be
+-- good words: `clap` takes them, and they ask for a server with these settings
 pub record AsksServe (words : List Text) (service : Service) : Type 0 where
   pub taken : AreTaken words
   pub gives : GivesServe words service
 
 -- ---- all of them
 
--- this is what the subcommand that is named is given to do
+-- the arguments of the named subcommand ask for this
 abbrev pub IsWanted : Named → Invocation → Type 0
 IsWanted named (Invocation.Serve service) = IsServe named service
 IsWanted named (Invocation.Run (WordsRead.Pipe secret driven printed)) = IsPipe named secret driven printed

@@ -22,9 +22,9 @@ use ns_pipe::run;
 use std::alloc::Global;
 use std::io::{Read, Write};
 
-/// Runs the program with these words, of which the first is its own name: serves a connection with the secret that they
-/// give, drives the worker that they name and prints what they say; or makes the replay that they ask for; or writes
-/// what they ask for or what is wrong with them, and then reads no input. A server over TCP is left to `conclude`.
+/// Runs the program with these words, of which the first is its own name. It serves a connection with the secret that they
+/// give, or makes the replay that they ask for. If they ask for help or are bad, it writes the help or the mistake, and reads
+/// no input. If they ask for a server over TCP, it returns the settings, and the caller runs the server.
 pub fn run_words<D: Draws + Drop, R: Read + Drop, W: Write + Drop, E: Write>(
     alloc: Global,
     words: &[&str],
@@ -38,7 +38,7 @@ pub fn run_words<D: Draws + Drop, R: Read + Drop, W: Write + Drop, E: Write>(
         (texts words.entry.now) draws reader writer errors.old errors.new)
         (IsHandedOn (texts words.entry.now) reader writer errors.old errors.new) }
 
-    // Good words are served: the status says how far, and is that of no memory where there was none.
+    // Good words are carried out. The status says how far, and is that of want of memory where memory was missing.
     ensures served { (secret : List ℕ) (driven : Driven) (printed : Printed)
         → Asks (texts words.entry.now) secret driven printed → IsEnded result
         (EndsPiped D.draws R.remaining W.contents secret driven printed draws reader writer) }
@@ -48,7 +48,7 @@ pub fn run_words<D: Draws + Drop, R: Read + Drop, W: Write + Drop, E: Write>(
         → (result ≡ RunEnd.Serve service reader writer)
         ⊎ IsEnded result (EndsUnserved reader writer) }
 
-    // Bad words, and those that ask for help, are answered before any input is read.
+    // For bad words, and for words that ask for help, a text is written before any input is read.
     ensures bad { AreBad (texts words.entry.now) → IsEnded result (OrUnserved reader writer
         (EndsRefused E.contents reader writer errors.old errors.new)) }
     ensures helped { AskHelp (texts words.entry.now) → IsEnded result (OrUnserved reader writer

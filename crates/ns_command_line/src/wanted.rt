@@ -8,6 +8,6 @@ use ns_pipe::WordsRead;
 pub enum Invocation {
     /// A server over TCP.
     Serve(Service),
-    /// What reads its input, if any, to the end.
+    /// All else. It reads its input, if it has any, to the end.
     Run(WordsRead),
 }

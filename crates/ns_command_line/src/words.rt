@@ -28,7 +28,7 @@ use clap::{ArgMatches, Command, Error};
 use ns_pipe::WordsRead;
 use std::alloc::Global;
 
-/// What the subcommand that is named is given to do, or the fault in what it is given.
+/// What the named subcommand has to do, or the fault in its arguments.
 fn wanted(alloc: Global, command: &mut Command, matches: &ArgMatches) -> Result<Invocation, Error>
     ensures gives { IfOk result (IsWanted (subcommand_rows_of matches.now)) }
     ensures good { (wanted : Invocation) → IsWanted (subcommand_rows_of matches.now) wanted
@@ -64,8 +64,8 @@ fn asked(alloc: Global, words: &[&str]) -> Result<Invocation, Error>
     wanted(alloc, &mut command, &matches)
 }
 
-/// What is said of words that ask for nothing to be done: help where they ask for it, or else what
-/// is wrong with them.
+/// What is written for words that are not carried out: help if they ask for it, or else what is
+/// wrong with them.
 fn help_or_mistake(alloc: Global, error: &Error) -> WordsRead
     ensures no_pipe { (secret : List ℕ) (driven : Driven) (printed : Printed)
         → result ≢ WordsRead.Pipe secret driven printed }

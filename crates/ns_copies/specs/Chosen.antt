@@ -1,4 +1,4 @@
--- Which names are chosen.
+-- Choices of names.
 use Rattle.std.specs.Prelude.{Bool, true}
 use Rattle.ns_types.specs.Isolation.{Part}
 use Rattle.ns_types.specs.State.Names.{Name, has_name, same_name}

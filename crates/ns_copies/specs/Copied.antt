@@ -9,6 +9,6 @@ module _ {K V : Type 0} {R : K → K → Ordering} where
   abbrev pub seen_rows : {A : Type 0} → (V → A) → FinMap R (Option V) → FinMap R A
   seen_rows seen m = table_of (λ _ row. seen row) (rows m)
 
-  -- each row is so
+  -- each row of the table meets the condition
   abbrev pub EachRow : (V → Type 0) → FinMap R (Option V) → Type 0
   EachRow So m = (k : K) (row : V) → row_at m k ≡ Some row → So row

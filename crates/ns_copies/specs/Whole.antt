@@ -1,4 +1,4 @@
--- Rows that can be made again by the steps that made them.
+-- Rows that can be copied by repeating the steps that made them.
 use Rattle.std.specs.Prelude.{◌≡◌, ℕ, ◌≤◌, Some, is_some, length}
 use Rattle.std.specs.FinMap.{get}
 use Rattle.ns_types.specs.declared.snapshot.Snapshot.{Snapshot}
@@ -7,7 +7,7 @@ use Rattle.ns_types.specs.State.Rows.{Tenant}
 use Rattle.ns_types.specs.Validity.{keeps}
 use Rattle.ns_types.specs.Working.Worker.{Worker}
 
--- a snapshot is kept in the phases that keep one, and in no other
+-- the worker keeps a snapshot in the phases that keep one, and in no other
 abbrev pub IsWholeWorker : Worker → Type 0
 IsWholeWorker worker = is_some worker.kept ≡ keeps worker.phase
 

@@ -12,7 +12,7 @@ pub(crate) enum ChosenNames<'a> {
     All,
     /// That name alone.
     Only(&'a Text),
-    /// Those of the list.
+    /// The names of the list.
     Among(&'a [Text]),
 }
 

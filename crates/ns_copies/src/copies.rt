@@ -1,4 +1,4 @@
-//! Rows of which there are copies.
+//! Rows that can be copied.
 
 ghost use Rattle.std.specs.Prelude.{◌≡◌, IfOk};
 ghost use Rattle.ns_types.specs.declared.allocation.Allocation.{Allocation};
@@ -13,14 +13,14 @@ use ns_types::job::Job;
 use ns_types::node::Node;
 use std::alloc::{AllocError, Global};
 
-/// A row of which there are copies.
+/// A row that can be copied.
 pub(crate) trait Copies: Drop {
     /// The row as the model has it, without vacant slots and room.
     ghost Seen: { Type 0 };
 
     ghost seen: { Self → Seen };
 
-    /// What a row has to be so that it can be copied.
+    /// The condition under which the row can be copied.
     ghost IsWhole: { Self → Type 0 };
 
     /// A copy. Want of memory is the only error.

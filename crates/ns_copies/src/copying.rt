@@ -73,7 +73,7 @@ fn copied_owners(
     })
 }
 
-/// The rows and entries of the chosen owners.
+/// A copy of the rows and list entries of the chosen owners. Want of memory is the only error.
 fn copied(
     alloc: Global,
     tables: &Tables,
@@ -117,8 +117,8 @@ pub fn copy(alloc: Global, tables: &Tables) -> Result<Tables, AllocError>
     )
 }
 
-/// What the namespace has, with these pools and these quotas: their rows, and its entries in the lists. Want of memory is
-/// the only error.
+/// A copy of what the namespace has, with these pools and these quotas: their rows, and its entries in the lists. Want of
+/// memory is the only error.
 pub fn alone(
     alloc: Global,
     tables: &Tables,

@@ -1,4 +1,4 @@
-//! The index of live allocations, and of the namespaces that name a quota with what they use, made anew.
+//! Makes the index of live allocations anew, with the namespaces that name each quota and what they use.
 
 ghost use Rattle.std.specs.Prelude.{IfOk};
 ghost use Rattle.ns_live_index.specs.Index.{IsRight};
@@ -9,8 +9,8 @@ use ns_live_index::Live;
 use ns_tables::Tables;
 use std::alloc::{AllocError, Global};
 
-/// The index of the tables' live allocations, with which namespaces name which quota, and what they use. No node is shown.
-/// Want of memory is the only error.
+/// The index of the tables' live allocations, with the namespaces that name each quota and what they use. No node is shown in
+/// it yet. Want of memory is the only error.
 pub fn live_of(alloc: Global, tables: &Tables) -> Result<Live, AllocError>
     ensures { IfOk result (IsRight (world_of tables.now)) }
 {

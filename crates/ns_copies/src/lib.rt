@@ -1,5 +1,5 @@
-//! Copies the tables: all of them, or what one namespace has. Vacant slots and room are not copied, and what many
-//! owners share is shared once more.
+//! Copies the tables: all of them, or what one namespace has. Vacant slots and spare room are not copied. A value that several
+//! owners share gets one more owner in place of a copy.
 #![tactic(auto)]
 
 mod choosing;

@@ -10,7 +10,7 @@ use ns_types::key::EvalKey;
 use ns_types::rows::Rows;
 use std::alloc::{AllocError, Global};
 
-/// Puts the key at this place behind the others, where its namespace is chosen.
+/// Adds the key of the slot at the end of `keys`, if its namespace is chosen.
 fn add_chosen(
     keys: &mut Rows<EvalKey>,
     slot: &NumberSlot<EvalKey>,
@@ -43,7 +43,7 @@ fn chosen_keys(
     Ok(keys)
 }
 
-/// A list of them.
+/// A list of the keys of the chosen namespaces, in their order. Want of memory is the only error.
 pub(crate) fn copied_keys(
     alloc: Global,
     queue: &KeyQueue,

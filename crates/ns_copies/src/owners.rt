@@ -63,7 +63,7 @@ fn copied_classes(
     Ok(copy)
 }
 
-/// What is known of a namespace beside its work.
+/// What a namespace has besides its work.
 #[derive(Drop)]
 struct Records {
     namespace: Namespace,

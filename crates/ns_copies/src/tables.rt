@@ -10,7 +10,7 @@ use crate::copies::Copies;
 use keyed::{NameTable, NumberTable};
 use std::alloc::{AllocError, Global};
 
-/// The rows at the chosen names.
+/// A table with copies of the rows at the chosen names.
 pub(crate) fn copied_names<V: Copies>(
     alloc: Global,
     table: &NameTable<V>,
@@ -31,7 +31,7 @@ pub(crate) fn copied_names<V: Copies>(
     Ok(NameTable::from_slots(slots))
 }
 
-/// All rows.
+/// A table with copies of all rows.
 pub(crate) fn copied_numbers<V: Copies>(
     alloc: Global,
     table: &NumberTable<V>,

@@ -1,4 +1,5 @@
-//! Copies of workers' rows, by the steps that made them. The snapshot and the plan are shared, and not copied.
+//! Copies of workers' rows, made by repeating the steps that made the rows. The snapshot and the plan are shared, and not
+//! copied.
 
 ghost use Rattle.std.specs.Prelude.{◌≡◌, IfOk, Some, if◌then◌else◌};
 ghost use Rattle.ns_types.specs.Working.Worker;
@@ -12,7 +13,7 @@ use ns_types::snapshot::Snapshot;
 use ns_types::worker::{Phase, Worker};
 use std::alloc::{AllocError, Global};
 
-/// A row like that one, as it was with that snapshot.
+/// A copy of the row as it was once its worker had taken that snapshot.
 fn snapped(worker: &Worker, kept: &Shared<Snapshot>) -> Result<Worker, AllocError>
     ensures { IfOk result (λ w. w ≡ as_planned Phase.Snapped kept.now worker.now) }
 {
@@ -23,7 +24,7 @@ fn snapped(worker: &Worker, kept: &Shared<Snapshot>) -> Result<Worker, AllocErro
     Ok(snapped)
 }
 
-/// A row like that one, as it was once it had handed in that plan.
+/// A copy of the row as it was once its worker had submitted that plan.
 fn submitted(worker: &Worker, plan: &Planned) -> Result<Worker, AllocError>
     ensures { IfOk result (λ w. w ≡ as_planned Phase.Submitted plan.now worker.now) }
 {
@@ -41,7 +42,7 @@ fn submitted(worker: &Worker, plan: &Planned) -> Result<Worker, AllocError>
     }
 }
 
-/// A row like that one, as it was once that plan was applied.
+/// A copy of the row as it was once that plan was applied.
 fn applied(worker: &Worker, plan: &Planned, has_dropped: bool) -> Result<Worker, AllocError>
     ensures { let phase = if has_dropped then Phase.Dropped else Phase.Applied in
         IfOk result (λ w. w ≡ as_planned phase plan.now worker.now) }

@@ -1,4 +1,4 @@
--- What the calls on the parts answer and leave.
+-- The answers of the calls on the parts, and the parts after them.
 use Rattle.std.specs.Prelude.{◌≡◌, Bool, true, Option, Result, Ok, Err}
 use Rattle.ns_types.specs.declared.refusal.Refusal.{Refusal}
 use Rattle.ns_types.specs.declared.reply.Content.{Content}
@@ -27,20 +27,20 @@ use Rattle.ns_tables.specs.World
 abbrev pub MakesStep : Step → Parts → Answer → Parts → Type 0
 MakesStep step old result new = Makes step (state_of old) result (state_of new)
 
--- ---- what is prepared for a step, and then made
+-- ---- steps that are prepared, and then made
 
--- what the step says and changes itself, or the step's answer
+-- what the step itself answers and changes, or its refusal
 abbrev pub PreparesStep : Step → Parts → Result Prepared Refusal → Type 0
 PreparesStep step parts (Ok x) =
     act step (state_of parts) ≡ Done x.content (record (state_of parts) { world = view parts.tables x.change })
 PreparesStep step parts (Err refusal) = MakesStep step parts (Err refusal) parts
 
--- whichever step that is allowed it was prepared for
+-- each allowed step for which this was prepared is made
 abbrev pub MakesPrepared : Result Prepared Refusal → Parts → Result Content Refusal → Parts → Type 0
 MakesPrepared prepared old result new = (step : Step) → is_allowed step old.acl ≡ true → PreparesStep step old prepared
     → MakesStep step old (answer_of step (world_of new) result) new
 
--- ---- what is asked in a namespace, by each secret that may
+-- ---- commands about a namespace, for each secret that has the right
 
 abbrev pub MakesAsk : Name → AskCommand → Parts → Answer → Parts → Type 0
 MakesAsk ns command old result new = (secret : Option Name) → right_of command (rights_of old.acl secret ns) ≡ true →
@@ -50,7 +50,7 @@ abbrev pub PreparesAsk : Name → AskCommand → Parts → Result Prepared Refus
 PreparesAsk ns command parts result = (secret : Option Name) → right_of command (rights_of parts.acl secret ns) ≡ true →
     PreparesStep (Step.Ask ns secret command) parts result
 
--- ---- what is asked of a pool, by each secret that may
+-- ---- commands about a pool, for each secret that has the right
 
 abbrev pub MakesNode : Name → NodeCommand → Parts → Answer → Parts → Type 0
 MakesNode pool command old result new = (secret : Option Name) → pool_right_of command (pool_rights_of old.acl secret pool) ≡ true →
@@ -67,12 +67,12 @@ ReadsPool pool command parts result =
 
 -- ---- administrators
 
--- whichever command on a record it was prepared for
+-- each command on a record for which this was prepared is done
 abbrev pub WritesPrepared : Result RecordChange Refusal → Tables → Result Content Refusal → Tables → Type 0
 WritesPrepared prepared old result new = (command : World → Outcome World) → PreparesRecord command old prepared
     → Changes (command (World.world_of old)) (World.world_of old) result (World.world_of new)
 
--- what a change says
+-- what an administrator's command answers and changes
 abbrev pub ChangesBy : Option Name → AdminCommand → Parts → Result Content Refusal → Parts → Type 0
 ChangesBy secret command old result new =
     Changes (administer secret command (state_of old)) (state_of old) result (state_of new)
@@ -80,12 +80,12 @@ ChangesBy secret command old result new =
 abbrev pub ReadsBy : Option Name → AdminCommand → Parts → Result Content Refusal → Type 0
 ReadsBy secret command parts result = ChangesBy secret command parts result parts
 
--- the step of each secret that may
+-- the administrator's step is made, for each secret that has the right
 abbrev pub MakesAdmin : AdminCommand → Parts → Answer → Parts → Type 0
 MakesAdmin command old result new = (secret : Option Name) → may_administer old.acl secret command ≡ true →
     MakesStep (Step.Admin secret command) old result new
 
--- ---- whose names a secret sees in lists
+-- ---- the names that a secret sees in lists
 
 abbrev pub sees : Acl → Option Name → Name → Bool
 sees acl secret ns = has_any (rights_of acl secret ns)

@@ -9,11 +9,11 @@ use Rattle.ns_core.specs.Viewed.{state_of, world_of}
 use Rattle.ns_tables.specs.declared.tables.Tables.{Tables}
 use Rattle.ns_tables.specs.World
 
--- where the first index says rightly which namespaces name which quota, the second does
+-- if the old index is right about which namespaces name which quota, so is the new one
 abbrev pub KeepsNamed : Tables → Live → Tables → Live → Type 0
 KeepsNamed old was new now = AreNamed (World.world_of old) was → AreNamed (World.world_of new) now
 
--- the index of live allocations is right, and so are what is shown of nodes and whose turn it is
+-- the index of live allocations is right, with the nodes that snapshots share, and so is the index of the queues
 pub record IsIndexed (parts : Parts) : Type 0 where
   pub live : live.IsRight (world_of parts) parts.live
   pub turns : turns.IsRight (world_of parts) parts.turns

@@ -1,4 +1,4 @@
-//! What administrators ask, as steps over the parts.
+//! Administrators' commands, as steps over the parts.
 
 ghost use Rattle.std.specs.Prelude.{◌≡◌, false, option_copied, true};
 ghost use Rattle.ns_types.specs.declared.step.AdminCommand.TheVariants as AdminCommand;
@@ -26,8 +26,8 @@ use ns_types::reply::{Content, Reply};
 use ns_types::step::AdminCommand;
 use ns_types::text::Text;
 
-/// Writes what was prepared for a command on a record, or leaves the tables as they are. Which namespaces name which quota,
-/// and what they use, stays right in the index.
+/// Writes the change that was prepared for a command on a record, or leaves the tables as they are. The index stays right about
+/// which namespaces name which quota, and about what they use.
 fn record(
     tables: &mut Tables,
     live: &mut Live,
@@ -72,7 +72,7 @@ impl Parts {
         Ok(ns_admin::list_pools(&self.tables, sees)?)
     }
 
-    /// Makes the change that is asked by a secret that may.
+    /// Makes the change of a command, for a secret that has the right.
     fn administer(
         &mut self,
         secret: Option<&Text>,
@@ -121,7 +121,7 @@ impl Parts {
         }
     }
 
-    /// Makes the step of a command that settles as it is, by a secret that may.
+    /// Makes the step of a command that gives no quota other limits, for a secret that has the right.
     fn make_at_once(
         &mut self,
         secret: Option<&Text>,
@@ -139,7 +139,7 @@ impl Parts {
         Ok(plain(content))
     }
 
-    /// Makes the step in which a quota gets other limits, by a secret that may.
+    /// Makes the step in which a quota gets other limits, for each secret that has the right.
     fn relimit(&mut self, name: &Text, quota: &Quota) -> Result<Reply, Refusal>
         requires valid { IsValid (state_of self.old) }
         requires index { IsIndexed self.old }
@@ -152,7 +152,7 @@ impl Parts {
         self.work(prepared)
     }
 
-    /// Makes the step that an administrator asks, or leaves the state as it is.
+    /// Makes the step of an administrator's command, or refuses it and leaves the state as it is.
     pub fn admin(&mut self, secret: Option<&Text>, command: &AdminCommand) -> Result<Reply, Refusal>
         requires { IsKept self.old }
         ensures made { let step = Step.Admin (option_copied secret.entry) command.now in

@@ -1,4 +1,4 @@
-//! What is asked in a namespace, as steps over the parts.
+//! Commands about a namespace, as steps over the parts.
 
 ghost use Rattle.std.specs.Prelude.{◌≡◌, false, option_copied, true};
 ghost use Rattle.ns_types.specs.declared.step.Step.TheVariants as Step;
@@ -19,7 +19,7 @@ use ns_types::step::AskCommand;
 use ns_types::text::Text;
 
 impl Parts {
-    /// Whether the secret gives the right to what is asked.
+    /// Whether the secret gives the right to the command.
     fn may_ask(&self, namespace: &Text, secret: Option<&Text>, command: &AskCommand) -> bool
         ensures { let rights = rights_of self.now.acl (option_copied secret.entry) namespace.now in
             result ≡ right_of command.now rights }
@@ -34,7 +34,7 @@ impl Parts {
         }
     }
 
-    /// Answers a command that only reads, by a secret that may.
+    /// Answers a command that only reads, for each secret that has the right.
     fn read(&self, namespace: &Text, command: &AskCommand) -> Result<Reply, Refusal>
         requires kept { IsKept self.now }
         requires reads { only_reads command.now ≡ true }
@@ -44,7 +44,7 @@ impl Parts {
         Ok(self.reply(namespace, content))
     }
 
-    /// What a command that writes comes to, with what it changes, by a secret that may.
+    /// Prepares the reply and the change of a command that writes, for each secret that has the right.
     fn prepare(&self, namespace: &Text, command: &AskCommand) -> Result<Prepared, Refusal>
         requires valid { IsValid (state_of self.now) }
         requires writes { only_reads command.now ≡ false }
@@ -64,7 +64,7 @@ impl Parts {
         }
     }
 
-    /// Makes the step of a command that writes, by a secret that may.
+    /// Makes the step of a command that writes, for each secret that has the right.
     fn write(&mut self, namespace: &Text, command: &AskCommand) -> Result<Reply, Refusal>
         requires valid { IsValid (state_of self.old) }
         requires index { IsIndexed self.old }
@@ -77,7 +77,7 @@ impl Parts {
         Ok(self.reply(namespace, content))
     }
 
-    /// Makes the step that is asked, or leaves the state as it is.
+    /// Makes the step of the command, or refuses it and leaves the state as it is.
     pub fn ask(
         &mut self,
         namespace: &Text,

@@ -14,7 +14,7 @@ use ns_types::text::Text;
 use std::alloc::{AllocError, Global};
 
 impl Parts {
-    /// The same parts once more.
+    /// A copy of the parts. Want of memory is the only error.
     fn copy(&self, alloc: Global) -> Result<Parts, AllocError>
         requires { IsKept self.now }
         ensures same { IfOk result (λ copy. state_of copy ≡ state_of self.now) }
@@ -32,7 +32,8 @@ impl Parts {
         })
     }
 
-    /// The parts of a server that holds that namespace alone, with these pools and these quotas.
+    /// The parts of a server that holds that namespace alone, with these pools and these quotas. Want of memory is the only
+    /// error.
     fn alone(
         &self,
         alloc: Global,

@@ -1,4 +1,4 @@
-//! A server's workers can be driven.
+//! Lets a server's workers be driven.
 
 use crate::server::Core;
 use ns_broker::Busy;

@@ -1,4 +1,4 @@
-//! Is the server as one value: each call is a step of the model.
+//! The server as one value: each call is a step of the model.
 #![tactic(auto)]
 
 mod administration;

@@ -57,7 +57,7 @@ impl Parts {
         Ok(content)
     }
 
-    /// What a command that only reads comes to.
+    /// The content of the reply to a command that only reads.
     fn read_in_pool(&self, pool: &Text, command: &NodeCommand) -> Result<Content, Refusal>
         requires valid { IsValid (state_of self.now) }
         requires index { IsIndexed self.now }
@@ -71,7 +71,7 @@ impl Parts {
         }
     }
 
-    /// Answers a command that only reads, by a secret that may.
+    /// Answers a command that only reads, for each secret that has the right.
     fn read_node_command(&self, pool: &Text, command: &NodeCommand) -> Result<Reply, Refusal>
         requires valid { IsValid (state_of self.now) }
         requires index { IsIndexed self.now }
@@ -91,7 +91,7 @@ impl Parts {
         self.live.load(pool, node)
     }
 
-    /// What it comes to that a node is up or goes down, by a secret that may.
+    /// Prepares the step in which a node comes up or goes down, for each secret that has the right.
     fn set_status(&self, pool: &Text, name: &Text, status: NodeStatus) -> Result<Prepared, Refusal>
         requires valid { IsValid (state_of self.now) }
         requires index { IsIndexed self.now }
@@ -103,7 +103,7 @@ impl Parts {
         }
     }
 
-    /// What a command that writes comes to, with what it changes, by a secret that may.
+    /// Prepares the reply and the change of a command that writes, for each secret that has the right.
     fn prepare_node_command(&self, pool: &Text, command: &NodeCommand) -> Result<Prepared, Refusal>
         requires valid { IsValid (state_of self.now) }
         requires index { IsIndexed self.now }
@@ -125,7 +125,7 @@ impl Parts {
         }
     }
 
-    /// Makes the step of a command that writes, by a secret that may.
+    /// Makes the step of a command that writes, for each secret that has the right.
     fn write_node_command(&mut self, pool: &Text, command: &NodeCommand) -> Result<Reply, Refusal>
         requires valid { IsValid (state_of self.old) }
         requires index { IsIndexed self.old }
@@ -138,7 +138,7 @@ impl Parts {
         Ok(plain(content))
     }
 
-    /// Makes the step on a pool, or leaves the state as it is.
+    /// Makes the step of a command about a pool, or refuses it and leaves the state as it is.
     pub fn node(
         &mut self,
         pool: &Text,

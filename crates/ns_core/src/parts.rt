@@ -51,7 +51,7 @@ impl Parts {
         })
     }
 
-    /// Settles what was prepared for a step, or leaves the parts as they are.
+    /// Settles the change that was prepared for a step, or leaves the parts as they are.
     pub fn make(&mut self, prepared: Result<Prepared, Refusal>) -> Result<Content, Refusal>
         requires { IsKept self.old }
         ensures made { MakesPrepared prepared self.old result self.new }
@@ -66,7 +66,7 @@ impl Parts {
         Ok(content)
     }
 
-    /// The namespace's index, if it is there.
+    /// The namespace's index, if the namespace exists.
     fn index(&self, namespace: &Text) -> Option<u64>
         ensures { result
             ≡ option_map (λ t. t.index) (get (world_of self.now).tenants namespace.now) }
@@ -77,7 +77,7 @@ impl Parts {
         }
     }
 
-    /// The reply to what was asked in a namespace: with its index.
+    /// The reply to a command about a namespace, with the namespace's index.
     pub fn reply(&self, namespace: &Text, content: Content) -> Reply
         ensures { result ≡ record {
           index = option_map (λ t. t.index) (get (world_of self.now).tenants namespace.now);

@@ -62,7 +62,8 @@ impl Model for Core {
 }
 
 impl Core {
-    /// A server that has just begun: the namespace and the pool `default`, and one management token with that secret.
+    /// A new server, with the namespace and the pool `default`, and one management token with that secret. Want of memory is
+    /// the only error.
     pub fn new(alloc: Global, bootstrap: &Secret) -> Result<Core, AllocError>
         ensures { IfOk result (λ core. core ≡ opening bootstrap.now) }
     {
@@ -70,7 +71,7 @@ impl Core {
         Ok(Core { parts })
     }
 
-    /// Makes the step that is asked in a namespace by a secret.
+    /// Makes the step of a command about a namespace.
     pub fn ask(
         &mut self,
         namespace: &Text,
@@ -84,7 +85,7 @@ impl Core {
         parts.ask(namespace, secret, command.get())
     }
 
-    /// Makes the step that an administrator asks with a secret.
+    /// Makes the step of an administrator's command.
     pub fn admin(&mut self, secret: Option<&Text>, command: &GoodAdmin) -> Result<Reply, Refusal>
         ensures { let step = Step.Admin (option_copied secret.entry) command.now in
             Makes step self.old result self.new }
@@ -93,7 +94,7 @@ impl Core {
         parts.admin(secret, command.get())
     }
 
-    /// Makes the step that a secret asks of a pool.
+    /// Makes the step of a command about a pool and its nodes.
     pub fn node(
         &mut self,
         pool: &Text,
@@ -122,8 +123,8 @@ impl Core {
         }
     }
 
-    /// Makes the step in which a worker takes the evaluation of that number in the namespace, which is the next one. The
-    /// reply says its number.
+    /// Makes the step in which a worker dequeues the evaluation of that number in the namespace. The reply has its number.
+    /// `NotEnabled`: there is no such worker, it has an evaluation, or another evaluation is next.
     pub fn dequeue(
         &mut self,
         worker: u64,
@@ -149,9 +150,9 @@ impl Core {
         parts.snap(worker, namespace)
     }
 
-    /// Makes the step in which a worker hands in the plan of its snapshot. The reply says the number of its evaluation.
-    /// `NotEnabled`: the worker has no evaluation of the namespace, or it is not its turn. Then `Foreign`: the plan is of
-    /// another snapshot than its row keeps. Then `NotEnabled`: the plan does nothing.
+    /// Makes the step in which a worker hands in the plan of its snapshot. The reply has the number of its evaluation.
+    /// `NotEnabled`: the worker has no evaluation of the namespace, or it is not its turn to hand in a plan. Then `Foreign`:
+    /// the plan is of another snapshot than its row keeps. Then `NotEnabled`: the plan does nothing.
     pub fn submit(
         &mut self,
         worker: u64,
@@ -164,8 +165,8 @@ impl Core {
         parts.submit(worker, namespace, planned)
     }
 
-    /// Makes the step in which a worker's plan is applied: what of it still stands is done, node by node all or nothing.
-    /// The reply says the numbers of the allocations that are placed, and the names of the nodes of which nothing is done.
+    /// Makes the step in which a worker's plan is applied: what still fits is done, for each node its whole part of the plan or
+    /// none of it. The reply has the numbers of the placed allocations, and the names of the nodes whose part is not done.
     /// `NotEnabled`: the worker has no evaluation of the namespace, has not handed in a plan, or another plan is next. Then
     /// `Full`: a counter would pass its bound.
     pub fn apply(&mut self, worker: u64, namespace: &Text) -> Result<Reply, Refusal>
@@ -175,10 +176,10 @@ impl Core {
         parts.apply(worker, namespace)
     }
 
-    /// Makes the step in which a worker finishes its evaluation, by the plan of its snapshot. The reply says the status that
-    /// the evaluation has then, and the number of its follower. `NotEnabled`: the worker has no evaluation of the namespace,
-    /// or is not at its end. Then `Foreign`: the plan is of another snapshot than its row keeps. Then `NotEnabled`: the plan
-    /// does something and was not handed in. Then `Full`: the namespace has no index left, or no number for a follower.
+    /// Makes the step in which a worker finishes its evaluation, by the plan of its snapshot. The reply has the evaluation's
+    /// new status, and the number of its follower. `NotEnabled`: the worker has no evaluation of the namespace, or it is not
+    /// its turn to finish. Then `Foreign`: the plan is of another snapshot than its row keeps. Then `NotEnabled`: the plan does
+    /// something and was not handed in. Then `Full`: the namespace has no index left, or no number for a follower.
     pub fn finish(
         &mut self,
         worker: u64,
@@ -191,7 +192,8 @@ impl Core {
         parts.finish(worker, namespace, planned)
     }
 
-    /// Makes the step in which a worker gives its evaluation of the namespace back. The reply says its status then.
+    /// Makes the step in which a worker gives its evaluation of the namespace back, with a nack. The reply has the evaluation's
+    /// new status.
     pub fn nack(&mut self, worker: u64, namespace: &Text) -> Result<Reply, Refusal>
         ensures { Makes (Step.Nack worker namespace.now) self.old result self.new }
     {
@@ -217,14 +219,14 @@ impl Core {
         }
     }
 
-    /// The next evaluation: the first of those of the highest priority.
+    /// The next evaluation: the first of the ready ones that have the highest priority.
     pub fn served(&self) -> Option<&EvalKey>
         ensures { option_copied result ≡ served_ready self.now.world }
     {
         ns_broker::served_ready(&self.parts.tables, &self.parts.turns)
     }
 
-    /// Whether there is a next evaluation: a look that costs the same however many are ready.
+    /// Whether there is a next evaluation. It costs the same however many are ready.
     pub fn has_served(&self) -> bool
         ensures { result ≡ is_some (served_ready self.now.world) }
     {
@@ -281,8 +283,8 @@ impl Core {
         ns_admin::confinement::permits(&self.parts.tables, namespace, pool)
     }
 
-    /// Whether another namespace may use a pool of the namespace, or has its quota. One that is not confined to a list of
-    /// pools, or that is not there, keeps nothing to itself.
+    /// Whether another namespace may use a pool of the namespace, or has its quota. A namespace that is not confined to a list
+    /// of pools, or does not exist, counts as sharing.
     pub fn shares(&self, namespace: &Text) -> bool
         ensures { result ≡ shares self.now.world namespace.now }
     {
@@ -305,7 +307,7 @@ impl Core {
         ns_admin::confinement::lacks_room(&self.parts.tables, step)
     }
 
-    /// Says that the state is valid, as that of every core is. It does nothing.
+    /// Tells a proof that the state is valid, as every core's state is. It does nothing.
     pub fn is_valid(&self)
         ensures { IsValid self.now }
     {

@@ -1,4 +1,4 @@
-//! What workers do, as steps over the parts.
+//! Workers' steps over the parts.
 
 ghost use Rattle.std.specs.Prelude.{◌≡◌, IfOk, Some};
 ghost use Rattle.ns_types.specs.declared.step.Step.TheVariants as Step;
@@ -32,7 +32,7 @@ impl Parts {
         Ok(plain(content))
     }
 
-    /// Makes the step in which a worker takes an evaluation, or leaves the state as it is.
+    /// Makes the step in which a worker dequeues an evaluation, or leaves the state as it is.
     pub fn dequeue(
         &mut self,
         worker: u64,

@@ -1,4 +1,4 @@
--- Whether a step passes the bound of a counter, by its change alone.
+-- Whether a step passes the bound of a counter, found from its change alone.
 use Rattle.std.specs.Prelude.{ℕ, Bool, false, not, ◌&&◌, ◌||◌, Option, nat_lt}
 use Rattle.std.specs.Option.{option_map_or}
 use Rattle.std.specs.List.{list_any}
@@ -19,9 +19,9 @@ use Rattle.ns_release.specs.Released.{does_wake, released_quotas, released_rooms
 use Rattle.ns_release.specs.Shown.{changes_job_row}
 pub use Rattle.ns_tables.specs.Bound.{is_at_bound}
 
--- ---- whom the step wakes
+-- ---- which evaluations the step wakes
 
--- the evaluation has an entry of `blocked` that wakes
+-- the evaluation has an entry in `blocked`, and the step wakes the entry
 abbrev pub is_waking : World → Change → Key → Bool
 is_waking w c key = list_any (λ k. same_key key k && does_wake w c k) w.blocked
 
@@ -31,11 +31,11 @@ is_waking w c key = list_any (λ k. same_key key k && does_wake w c k) w.blocked
 abbrev pub is_last_index : World → Name → Bool
 is_last_index w ns = option_map_or (λ t. is_at_bound t.index) (get w.tenants ns) false
 
--- the index of a namespace with a blocked evaluation is
+-- the index of some namespace with a blocked evaluation is at its bound
 abbrev pub any_last_index : World → Bool
 any_last_index w = list_any (λ key. is_last_index w key.0) w.blocked
 
--- the row of a woken evaluation is shown otherwise than before
+-- the evaluation, once it has woken, is shown differently than before
 abbrev pub shows_awake : Tenant → ℕ → Option Evaluation → Bool
 shows_awake t n row = option_map_or (λ e. changes_evaluation t n (pending e)) row false
 
@@ -43,16 +43,16 @@ abbrev pub waking_passes_in : World → Change → Key → Tenant → Bool
 waking_passes_in w c key t =
     is_at_bound t.index && (does_wake w c key && shows_awake t key.1 (evaluation_at (changed w c) key))
 
--- the entry wakes, and its namespace's index passes
+-- the step wakes the entry, and by that the index of its namespace passes its bound
 abbrev pub waking_passes : World → Change → Key → Bool
 waking_passes w c key = option_map_or (waking_passes_in w c key) (get w.tenants key.0) false
 
--- a changed evaluation that does not wake is shown otherwise than before
+-- the step does not wake a changed evaluation, and it is shown differently than before
 abbrev pub shows_asleep : World → Change → Name → Tenant → ℕ × Option Evaluation → Bool
 shows_asleep w c ns t slot =
     at_slot (λ e. not (is_waking w c (ns, e.0)) && changes_evaluation t e.0 e.1) slot
 
--- a row of the namespace changed that replies show, evaluations that wake apart
+-- a row of the namespace is shown differently than before, not counting evaluations that the step wakes
 abbrev pub touches_asleep : World → Change → Name → Tenant → TenantChange → Bool
 touches_asleep w c ns t x = list_any (λ e. changes_job_row t e.0 e.1) (entries x.jobs)
     || list_any (shows_asleep w c ns t) (entries x.evaluations)
@@ -61,7 +61,7 @@ touches_asleep w c ns t x = list_any (λ e. changes_job_row t e.0 e.1) (entries 
 abbrev pub is_number_past : TenantChange → Bool
 is_number_past x = nat_lt greatest x.evaluation_number || nat_lt greatest x.allocation_number
 
--- a number of a changed namespace passes, or its index by the change itself
+-- a number of a changed namespace passes its bound, or its index does by the changed rows themselves
 abbrev pub passes_in : World → Change → Name → TenantChange → Tenant → Bool
 passes_in w c ns x t = is_number_past x || (is_at_bound t.index && touches_asleep w c ns t x)
 
@@ -77,13 +77,13 @@ tenants_pass w c = list_any (tenant_passes w c) (entries c.tenants) || list_any 
 abbrev pub is_place_past : Name × Option Node → Bool
 is_place_past slot = at_slot (λ (e : Name × Node). nat_lt greatest e.1.places) slot
 
--- the number of places of a changed node passes
+-- the number of placements on a changed node passes its bound
 abbrev pub places_pass : World → Name × Option PoolChange → Bool
 places_pass w slot =
     option_map_or (λ x. option_map_or (λ _. list_any is_place_past (entries x.nodes)) (get w.pools slot.0) false) slot.1
     false
 
--- the release number of a pool does, where one of its classes is released
+-- if a class of the pool is released, the pool's release number passes its bound
 abbrev pub room_passes : World → Name × Class → Bool
 room_passes w room = option_map_or (λ p. is_at_bound p.release) (get w.pools room.0) false
 
@@ -92,7 +92,7 @@ pools_pass w c = list_any (room_passes w) (released_rooms w c) || list_any (plac
 
 -- ---- quotas
 
--- the release number of a quota does, where it is released
+-- if the quota is released, its release number passes its bound
 abbrev pub quota_passes : World → Name → Bool
 quota_passes w name = option_map_or (λ q. is_at_bound q.release) (get w.quotas name) false
 

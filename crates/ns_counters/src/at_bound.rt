@@ -1,4 +1,4 @@
-//! Indexes of namespaces that can not rise any more.
+//! Namespaces whose index is at its bound, so that it can not rise any more.
 
 ghost use Rattle.std.specs.Prelude.{◌≡◌, false};
 ghost use Rattle.ns_counters.specs.Bounds.{any_last_index, is_last_index};
@@ -17,8 +17,8 @@ pub fn is_last_index(tables: &Tables, namespace: &Text) -> bool
     }
 }
 
-/// Whether an index may pass its bound by an evaluation that wakes. If not, no blocked evaluation is of a namespace whose
-/// index is at its bound. It goes through nothing: the table of namespaces remembers whether an index ever was there.
+/// Whether an index may pass its bound because evaluations wake. If not, no blocked evaluation is of a namespace whose index
+/// is at its bound. It goes through nothing: the table of namespaces remembers whether an index ever was at its bound.
 pub fn wakes_may_pass(tables: &Tables) -> bool
     ensures { result ≡ false → any_last_index (world_of tables.now) ≡ false }
 {

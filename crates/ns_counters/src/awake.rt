@@ -1,4 +1,4 @@
-//! Whether replies show an evaluation otherwise once it has woken. It takes no memory.
+//! Whether replies show an evaluation differently once it has woken. It takes no memory.
 
 ghost use Rattle.std.specs.Prelude.{◌≡◌};
 ghost use Rattle.ns_types.specs.Settling.Settle.{changes_evaluation, pending};
@@ -8,7 +8,7 @@ use ns_equality::same_with_status;
 use ns_tables::TenantRows;
 use ns_types::evaluation::{Evaluation, Status};
 
-/// Whether the row, once it is pending, is new or shown otherwise than before.
+/// Whether the row, once it is pending, is new or shown differently than before.
 pub fn changes_awake(tenant: &TenantRows, number: u64, row: &Evaluation) -> bool
     ensures { result ≡ changes_evaluation (tenant_of tenant.now) number (pending row.now) }
 {

@@ -1,4 +1,4 @@
-//! Whether a step passes the bound of a counter. It takes no memory, so that this is judged before anything that does.
+//! Whether a step passes the bound of a counter. It takes no memory, so it can be decided before anything that takes memory.
 
 ghost use Rattle.std.specs.Prelude.{◌≡◌, ◌&&◌, ◌||◌, false, nat_lt};
 ghost use Rattle.std.specs.List.{list_any};
@@ -29,20 +29,20 @@ use ns_types::key::EvalKey;
 use ns_types::node::{Node, Offer};
 use ns_types::text::Text;
 
-/// Whether a number has passed the bound. None has that fits its type.
+/// Whether a number has passed the bound. It can not: the bound is the greatest number of its type.
 fn is_past(number: u64) -> bool
     ensures { result ≡ nat_lt greatest number }
 {
     number > u64::MAX
 }
 
-/// The release numbers of pools and quotas.
+/// The question which release numbers of pools and quotas are at their bound.
 #[derive(Drop)]
 pub(crate) struct Counters<'a> {
     pub(crate) tables: &'a Tables,
 }
 
-/// Whether the release number of that pool, or of that quota, can not rise any more.
+/// Whether the release number of the pool or of the quota is at its bound.
 impl Question for Counters<'_> {
     ghost of_room = { λ c room. room_passes (world_of c.tables.now) room };
 
@@ -65,7 +65,7 @@ impl Question for Counters<'_> {
 
 // ---- evaluations that wake
 
-/// Whether the evaluation of an entry, once it has woken, is shown otherwise than before.
+/// Whether the entry's evaluation, once it has woken, is shown differently than before.
 fn shows_awake(tables: &Tables, change: &Change, tenant: &TenantRows, key: &EvalKey) -> bool
     ensures { result ≡ shows_awake (tenant_of tenant.now) key.now.1
         (evaluation_at (view tables.now change.now) key.now) }
@@ -91,7 +91,7 @@ fn waking_passes_in(tables: &Tables, change: &Change, tenant: &TenantRows, key: 
     is_at_bound(tenant.index) && wakes_shown(tables, change, tenant, key)
 }
 
-/// Whether the entry wakes, and its namespace's index passes by that.
+/// Whether the step wakes the entry, and by that the index of its namespace passes its bound.
 fn waking_passes(tables: &Tables, change: &Change, key: &EvalKey) -> bool
     ensures { result ≡ waking_passes (world_of tables.now) change.now key.now }
 {
@@ -117,7 +117,7 @@ fn any_waking_passes(tables: &Tables, change: &Change, slots: &[NumberSlot<EvalK
     slots.iter().any(|slot| slot_passes(tables, change, slot))
 }
 
-/// Whether an index passes by an evaluation that wakes, where something is released.
+/// Whether an index passes its bound because evaluations wake. It is called only if the step releases something.
 fn released_wakings_pass(tables: &Tables, change: &Change) -> bool
     ensures { result ≡ list_any (waking_passes (world_of tables.now) change.now)
         (world_of tables.now).blocked }
@@ -125,7 +125,7 @@ fn released_wakings_pass(tables: &Tables, change: &Change) -> bool
     wakes_may_pass(tables) && any_waking_passes(tables, change, tables.blocked.slots())
 }
 
-/// Whether an index passes by an evaluation that wakes.
+/// Whether an index passes its bound because evaluations wake.
 fn wakings_pass(tables: &Tables, change: &Change) -> bool
     ensures { result ≡ list_any (waking_passes (world_of tables.now) change.now)
         (world_of tables.now).blocked }
@@ -179,7 +179,7 @@ fn any_waking_slot(
     slots.iter().any(|slot| is_waking_slot(tables, change, namespace, number, slot))
 }
 
-/// Whether the evaluation wakes. One that is not blocked is not looked for.
+/// Whether the step wakes the evaluation. If it is not blocked, the list is not searched.
 fn is_waking(tables: &Tables, change: &Change, namespace: &Text, number: u64) -> bool
     ensures { result ≡ is_waking (world_of tables.now) change.now (namespace.now, number) }
 {
@@ -187,7 +187,7 @@ fn is_waking(tables: &Tables, change: &Change, namespace: &Text, number: u64) ->
         && any_waking_slot(tables, change, namespace, number, tables.blocked.slots())
 }
 
-/// Whether a changed evaluation does not wake, and is shown otherwise than before.
+/// Whether the step does not wake a changed evaluation, and replies show it differently than before.
 fn shows_asleep(
     tables: &Tables,
     change: &Change,
@@ -218,7 +218,7 @@ fn any_shows_asleep(
     slots.iter().any(|slot| shows_asleep(tables, change, namespace, tenant, slot))
 }
 
-/// Whether a row of the namespace that replies show changed, evaluations that wake apart.
+/// Whether replies show a row of the namespace differently than before, not counting evaluations that the step wakes.
 fn touches_asleep(
     tables: &Tables,
     change: &Change,
@@ -278,7 +278,7 @@ fn any_tenant_passes(tables: &Tables, change: &Change, slots: &[NameSlot<TenantC
     slots.iter().any(|slot| tenant_passes(tables, change, slot))
 }
 
-/// Whether an index or a number of a namespace passes.
+/// Whether an index or a number of a namespace passes its bound.
 fn tenants_pass(tables: &Tables, change: &Change) -> bool
     ensures { result ≡ tenants_pass (world_of tables.now) change.now }
 {
@@ -320,7 +320,7 @@ fn any_places_pass(tables: &Tables, slots: &[NameSlot<PoolChange>]) -> bool
     slots.iter().any(|slot| places_pass(tables, slot))
 }
 
-/// Whether a release number of a pool passes, or the number of places of a node.
+/// Whether a release number of a pool, or the number of placements on a node, passes its bound.
 fn pools_pass(tables: &Tables, change: &Change) -> bool
     ensures { result ≡ pools_pass (world_of tables.now) change.now }
 {
@@ -330,7 +330,7 @@ fn pools_pass(tables: &Tables, change: &Change) -> bool
 
 // ---- all counters
 
-/// Whether a release number of a quota passes.
+/// Whether a release number of a quota passes its bound.
 fn quotas_pass(tables: &Tables, change: &Change) -> bool
     ensures { result ≡ quotas_pass (world_of tables.now) change.now }
 {
@@ -345,8 +345,8 @@ fn any_passes(tables: &Tables, change: &Change) -> bool
     tenants_pass(tables, change) || pools_pass(tables, change) || quotas_pass(tables, change)
 }
 
-/// Whether some counter passes its bound by the step, once it has settled. It takes no memory. Its work grows with what
-/// the step changes alone, unless an index ever was at its bound: then with the number of blocked evaluations too.
+/// Whether some counter passes its bound by the step, once it has settled. It takes no memory. Its work grows only with what
+/// the step changes, unless an index ever was at its bound: then also with the number of blocked evaluations.
 pub fn is_past_bound(tables: &Tables, change: &Change) -> bool
     requires { is_past_bound (world_of tables.now) ≡ false }
     ensures { result

@@ -1,5 +1,5 @@
-//! Whether room on one node, or other limits of a quota, pass the bound of a counter, where a step gives them and does
-//! nothing else. It takes no memory, and needs no change: so a command is refused before it takes any.
+//! Whether a counter passes its bound by a step that only gives room on one node, or only changes the limits of one quota. It
+//! takes no memory and needs no change, so a command can be refused before it takes any memory.
 
 ghost use Rattle.std.specs.Prelude.{◌≡◌, ◌∷◌, [], List};
 ghost use Rattle.std.specs.List.{list_any};
@@ -25,20 +25,20 @@ use ns_types::key::EvalKey;
 use ns_types::node::Offer;
 use ns_types::text::Text;
 
-/// What a step gives, and nothing else.
+/// What a step releases, if it releases this and nothing else.
 trait Given {
-    /// The room.
+    /// The released room.
     ghost rooms: { Self → List (Name × Class) };
-    /// The quotas.
+    /// The released quotas.
     ghost quotas: { Self → List Name };
 
-    /// Whether that wakes the evaluation.
+    /// Whether the release wakes the evaluation.
     fn wakes(&self, tables: &Tables, evaluation: &Evaluation) -> bool
         ensures { result ≡ releases_wake (world_of tables.now) (rooms self.now) (quotas self.now)
             evaluation.now };
 }
 
-/// Room on a node of such an offer in the pool.
+/// Room on a node with this offer in the pool.
 #[derive(Drop)]
 struct NodeRoom<'a> {
     pool: &'a Text,
@@ -55,7 +55,7 @@ impl Given for NodeRoom<'_> {
     }
 }
 
-/// Other limits of the quota.
+/// New limits of the quota.
 #[derive(Drop)]
 struct NewLimits<'a> {
     quota: &'a Text,
@@ -74,9 +74,9 @@ impl Given for NewLimits<'_> {
     }
 }
 
-// ---- whom that wakes
+// ---- which evaluations the release wakes
 
-/// Whether what is given wakes the evaluation of an entry.
+/// Whether the release wakes the evaluation of an entry.
 fn given_wakes<G: Given>(given: &G, tables: &Tables, key: &EvalKey) -> bool
     ensures { result ≡ releases_wake_at (world_of tables.now) (G.rooms given.now)
         (G.quotas given.now) key.now }
@@ -87,7 +87,7 @@ fn given_wakes<G: Given>(given: &G, tables: &Tables, key: &EvalKey) -> bool
     }
 }
 
-/// Whether the evaluation of an entry, once it has woken, is shown otherwise than before.
+/// Whether the evaluation of an entry, once it has woken, is shown differently than before.
 fn shows_awake(tables: &Tables, tenant: &TenantRows, key: &EvalKey) -> bool
     ensures { result ≡ shows_awake (tenant_of tenant.now) key.now.1
         (evaluation_at (world_of tables.now) key.now) }
@@ -117,7 +117,7 @@ fn waking_passes_in<G: Given>(
     is_at_bound(tenant.index) && wakes_shown(given, tables, tenant, key)
 }
 
-/// Whether the evaluation of an entry wakes, and its namespace's index passes by that.
+/// Whether the release wakes the evaluation of an entry, and by that the index of its namespace passes its bound.
 fn waking_passes<G: Given>(given: &G, tables: &Tables, key: &EvalKey) -> bool
     ensures { result ≡ given_waking_passes (world_of tables.now) (G.rooms given.now)
         (G.quotas given.now) key.now }
@@ -145,7 +145,7 @@ fn any_waking_passes<G: Given>(given: &G, tables: &Tables, slots: &[NumberSlot<E
     slots.iter().any(|slot| slot_passes(given, tables, slot))
 }
 
-/// Whether an index passes by an evaluation that wakes.
+/// Whether an index passes its bound because evaluations wake.
 fn wakings_pass<G: Given>(given: &G, tables: &Tables) -> bool
     ensures { result ≡ list_any (given_waking_passes (world_of tables.now) (G.rooms given.now)
         (G.quotas given.now)) (world_of tables.now).blocked }
@@ -153,9 +153,9 @@ fn wakings_pass<G: Given>(given: &G, tables: &Tables) -> bool
     wakes_may_pass(tables) && any_waking_passes(given, tables, tables.blocked.slots())
 }
 
-// ---- one thing that is given
+// ---- the release of one thing
 
-/// Whether a counter passes its bound by a step that gives room on a node of such an offer in the pool, and nothing else.
+/// Whether a counter passes its bound by a step that gives room on a node with this offer in the pool, and does nothing else.
 /// It goes through nothing, unless an index ever was at its bound: then through all blocked evaluations.
 pub fn given_room_passes(tables: &Tables, pool: &Text, offer: &Offer) -> bool
     ensures { result ≡ given_room_passes (world_of tables.now) (pool.now, offered_class offer.now) }
@@ -163,7 +163,7 @@ pub fn given_room_passes(tables: &Tables, pool: &Text, offer: &Offer) -> bool
     Counters { tables }.is_room(pool, offer) || wakings_pass(&NodeRoom { pool, offer }, tables)
 }
 
-/// Whether a counter passes its bound by a step that gives the quota other limits, and does nothing else. It goes through
+/// Whether a counter passes its bound by a step that changes the limits of the quota, and does nothing else. It goes through
 /// nothing, unless an index ever was at its bound: then through all blocked evaluations.
 pub fn given_limits_pass(tables: &Tables, quota: &Text) -> bool
     ensures { result ≡ given_limits_pass (world_of tables.now) quota.now }
@@ -171,7 +171,8 @@ pub fn given_limits_pass(tables: &Tables, quota: &Text) -> bool
     Counters { tables }.is_quota(quota) || wakings_pass(&NewLimits { quota }, tables)
 }
 
-/// Whether a counter passes its bound by what an allocation of the namespace leaves of its quota, where it has one.
+/// Whether a counter passes its bound because an allocation of the namespace ends and so releases the namespace's quota, if it
+/// has one.
 pub fn left_quota_passes(tables: &Tables, tenant: &TenantRows) -> bool
     ensures { result ≡ left_quota_passes (world_of tables.now) (tenant_of tenant.now) }
 {

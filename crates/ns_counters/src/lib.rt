@@ -1,8 +1,8 @@
 //! Decides whether a step would pass the bound of a counter.
 //!
-//! `is_past_bound` decides it for any step, by its change. `given_room_passes` and `given_limits_pass` decide it for a step that
-//! gives one thing and does nothing else, before it is a change. None of them takes memory. Their work grows with what the step
-//! changes alone. Only where an index ever was at its bound, all blocked evaluations are looked at.
+//! `is_past_bound` decides it for any step, from its change. `given_room_passes` and `given_limits_pass` decide it for a step
+//! that releases one thing and does nothing else, before there is a change. None of them takes memory. Their work grows only
+//! with what the step changes. If an index ever was at its bound, they also look at all blocked evaluations.
 #![tactic(auto)]
 
 mod at_bound;

@@ -27,7 +27,7 @@ rules_text_in d = do
   text ← or_refuse Member.Rules (as_str d)
   unless (not (nat_le (length text) max_rules)) Member.Rules text
 
--- whatever breaks the text
+-- any fault in the text of the rules refuses the member `Rules`
 abbrev pub or_bad_rules : Result (List Rule) RuleFault → Read (List Rule)
 or_bad_rules (Ok rules) = Ok rules
 or_bad_rules (Err fault) = Err (BadField Member.Rules)

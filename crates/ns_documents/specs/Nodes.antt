@@ -26,7 +26,7 @@ use Rattle.ns_documents.specs.Members.{word_in}
 abbrev pub max_attributes : ℕ
 max_attributes = 64
 
--- by key, each key once
+-- the attributes are in the order of their keys, each key once
 abbrev pub AreByKey : List Attribute → Type 0
 AreByKey attributes = IsStrictlySortedBy name_cmp (map (λ a. a.key) attributes)
 
@@ -37,7 +37,7 @@ with_value done key (Some d) = do
   unless (not (is_text key) || nat_le max_attributes (length done)) Member.Attributes
       (done ++ record { key = key; value = value } ∷ [])
 
--- the attributes with the next one, which is absent where its value is null
+-- the attributes with the next one, unless its value is null
 unfoldable pub with_attribute : List Attribute → List ℕ → Data → Read (List Attribute)
 with_attribute done key d = with_value done key (unless_null d)
 
@@ -45,7 +45,7 @@ unfoldable pub each_attribute : List Attribute → Members → Read (List Attrib
 each_attribute done no_members = Ok done
 each_attribute done (member key d ms) = with_attribute done key d >>= λ attributes. each_attribute attributes ms
 
--- at most so many texts, each under a text
+-- the attributes of a node: an object with at most 64 members that are not null, each a text under a text
 unfoldable pub attributes_in : Data → Read (List Attribute)
 attributes_in d = or_refuse Member.Attributes (as_object d) >>= each_attribute []
 
@@ -67,7 +67,7 @@ node_in d = do
 
 -- ---- status and eligibility
 
--- of two the one whose word it is
+-- the one of the two values whose word the text is
 abbrev pub one_of : {A : Type 0} → (A → List ℕ) → A → A → List ℕ → Option A
 one_of word x y s = if bytes_eq s (word x) then Some x else if bytes_eq s (word y) then Some y else None
 
@@ -85,7 +85,7 @@ eligibility_in d = do
 
 -- ---- reports
 
--- what a client may say: not `pending`, and not `lost`
+-- the status that a client may report: neither `pending` nor `lost`
 abbrev pub reported_of : List ℕ → Option ClientStatus
 reported_of s =
     if bytes_eq s (client_text ClientStatus.Running) then Some ClientStatus.Running

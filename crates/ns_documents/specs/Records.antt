@@ -22,7 +22,7 @@ use Rattle.ns_documents.specs.Members.{named, description_in, names_in}
 
 -- ---- the pools of a namespace
 
--- no pool is called `all`
+-- whether the name is `all`, which no pool has
 abbrev pub is_all : List ℕ → Bool
 is_all name = bytes_eq name (codes "all")
 
@@ -30,7 +30,7 @@ abbrev pub pool_or_default : Option (List ℕ) → Read (List ℕ)
 pool_or_default None = Ok default_name
 pool_or_default (Some name) = unless (is_all name) Member.Default name
 
--- an empty one counts as absent
+-- the default pool; an empty text counts as absent
 unfoldable pub default_pool_in : Data → Read (List ℕ)
 default_pool_in d = name_if_any Member.Default NameKind.Pool d >>= pool_or_default
 
@@ -39,7 +39,7 @@ pools_in m d = do
   names ← names_in m NameKind.Pool 1000 d
   unless (has_name same names (codes "all")) m names
 
--- Not both lists stand there, and what is denied is not the default.
+-- A document with a list of allowed pools must deny none, and no document may deny its default pool.
 unfoldable pub configuration_in : Data → Read PoolConfiguration
 configuration_in d = do
   c ← an_object Member.NodePoolConfiguration d
@@ -92,7 +92,7 @@ region_limit_in d = do
   disk ← or_else Limit.Unlimited (limit_in Member.DiskMb) (present Member.DiskMb r)
   Ok (record { cpu = cpu; memory = memory; disk = disk })
 
--- there is one region
+-- the only region is `global`
 unfoldable pub region_in : Data → Read (Unit {0})
 region_in d = do
   region ← a_text Member.Region d
@@ -108,7 +108,7 @@ abbrev pub first_entry : Items → Read (Option Limits)
 first_entry no_items = Ok None
 first_entry (item d ds) = some (entry_in d)
 
--- at most one entry
+-- a list of at most one entry
 unfoldable pub entries_in : Data → Read (Option Limits)
 entries_in d = a_list Member.Limits 0 1 d >>= first_entry
 

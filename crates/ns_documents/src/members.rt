@@ -15,7 +15,7 @@ use ns_types::text::Text;
 use serde_json::Value;
 use std::alloc::Global;
 
-/// The name that the path holds, where the document repeats it.
+/// The path's name, which the document's name has to repeat.
 #[tactic(auto, unfolding(crate::specs::Members::repeated))]
 fn repeated(alloc: Global, path_name: &Text, value: &Value) -> Result<Text, Refusal>
     ensures { Gives same result (repeated path_name.now (view value.now)) }
@@ -27,7 +27,7 @@ fn repeated(alloc: Global, path_name: &Text, value: &Value) -> Result<Text, Refu
     Ok(Text::from_str(alloc, name)?)
 }
 
-/// The name of what is written: the path's, which the document may repeat, or else the document's.
+/// The name of the row to write: the path's, which the document may repeat, or the document's if the path has none.
 #[tactic(auto, unfolding(crate::specs::Members::named))]
 pub fn named(
     alloc: Global,
@@ -46,7 +46,7 @@ pub fn named(
     }
 }
 
-/// A text, or an empty one where it is absent.
+/// The member, which has to be a text, or an empty text if it is absent or null.
 pub fn text_or_empty(alloc: Global, object: &Value, member: Member) -> Result<Text, Refusal>
     ensures { Gives same result
         (or_else [] (a_text member) (present member (view object.now))) }
@@ -57,7 +57,7 @@ pub fn text_or_empty(alloc: Global, object: &Value, member: Member) -> Result<Te
     }
 }
 
-/// A text that has to be there.
+/// The member, which has to be present and a text.
 #[tactic(auto, unfolding(crate::specs::Members::word_in))]
 pub fn word(object: &Value, member: Member) -> Result<&str, Refusal>
     ensures { Gives (λ s. s.now) result (word_in member (view object.now)) }
@@ -73,14 +73,14 @@ pub fn description(alloc: Global, object: &Value) -> Result<Text, Refusal>
     text_or_empty(alloc, object, Member::Description)
 }
 
-/// Whether one of them is that name.
+/// Whether the name is among `names`.
 pub fn has_name(names: &[Text], name: &str) -> bool
     ensures { result ≡ has_name same names.now name.now }
 {
     names.iter().any(|other| other.as_str() == name)
 }
 
-/// A name of a list, after those that stand before it.
+/// A name of a list, which must not be among the names before it.
 #[tactic(auto, unfolding(crate::specs::Members::listed_name))]
 fn listed_name(
     alloc: Global,
@@ -114,7 +114,7 @@ fn each_name(
     Ok(names)
 }
 
-/// A list of so many names at most, none twice.
+/// The value, which has to be a list of at most `most` names, none of them twice.
 #[tactic(auto, unfolding(crate::specs::Members::names_in))]
 pub fn names(
     alloc: Global,

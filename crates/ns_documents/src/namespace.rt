@@ -60,8 +60,7 @@ fn namespace(
     })
 }
 
-/// The namespace that a body says, or the first refusal. Its name is the path's, where that holds
-/// one.
+/// The namespace that the body describes, or the first refusal. Its name is the path's, if the path has one.
 #[tactic(auto, unfolding(ns_json::specs::Reading::body_in))]
 pub fn read_namespace(
     alloc: Global,
@@ -70,7 +69,7 @@ pub fn read_namespace(
 ) -> Result<NamedNamespace, Refusal>
     ensures value { Gives same result
         (body_in (namespace_in (option_copied path_name.entry)) body.now) }
-    // What is read is within the limits, and the name too where the path's is.
+    // What is read is within the limits, and so is the name if the path's is.
     ensures good { IfOk result (λ d. IsTrue (is_good_namespace d.namespace)) }
     ensures name { IfOk result (λ d.
         IsNamedWell NameKind.Namespace (option_copied path_name.entry) d.name) }

@@ -21,10 +21,10 @@ use std::alloc::Global;
 
 const MAX_ATTRIBUTES: usize = 64;
 
-/// MB, of a node that does not say.
+/// The disk, in MB, of a node whose document has none.
 const DEFAULT_DISK: u64 = 100_000;
 
-/// The attributes with one more, which is absent where its value is null.
+/// The attributes with one more, unless its value is null.
 #[tactic(auto, unfolding(crate::specs::Nodes::with_attribute))]
 fn add_attribute(
     alloc: Global,
@@ -108,13 +108,13 @@ fn node(alloc: Global, value: &Value) -> Result<Offer, Refusal>
     })
 }
 
-/// What a body says of a node, or the first refusal. The node is named by the path alone.
+/// What the node that the body describes offers, or the first refusal. Its name is in the path alone.
 #[tactic(auto, unfolding(ns_json::specs::Reading::body_in))]
 pub fn read_node(alloc: Global, body: &[u8]) -> Result<Offer, Refusal>
     ensures value { Gives same result (body_in node_in body.now) }
     // What is read is within the limits.
     ensures good { IfOk result (λ o. IsTrue (is_good_offer o)) }
-    // Attributes stand by key, each key once.
+    // Attributes are in the order of their keys, each key once.
     ensures in_order { IfOk result IsInOrder }
     // What the refusal can be.
     ensures kinds { IfErr result IsOfDocument }
@@ -136,7 +136,7 @@ fn node_status(value: &Value) -> Result<NodeStatus, Refusal>
     Err(Refusal::BadField(Member::Status))
 }
 
-/// The status that a body says, or the first refusal.
+/// The status that the body sets, or the first refusal.
 #[tactic(auto, unfolding(ns_json::specs::Reading::body_in))]
 pub fn read_node_status(alloc: Global, body: &[u8]) -> Result<NodeStatus, Refusal>
     ensures value { Gives same result (body_in node_status_in body.now) }
@@ -160,7 +160,7 @@ fn eligibility(value: &Value) -> Result<bool, Refusal>
     Err(Refusal::BadField(Member::Eligibility))
 }
 
-/// Whether a body says that the node is eligible, or the first refusal.
+/// Whether the body sets the node eligible, or the first refusal.
 #[tactic(auto, unfolding(ns_json::specs::Reading::body_in))]
 pub fn read_eligibility(alloc: Global, body: &[u8]) -> Result<bool, Refusal>
     ensures value { Gives same result (body_in eligibility_in body.now) }

@@ -54,7 +54,7 @@ fn policy(alloc: Global, value: &Value) -> Result<Policy, Refusal>
     })
 }
 
-/// The policy that a body says, with the rules that its text has, or the first refusal.
+/// The policy that the body describes, with the rules of its text, or the first refusal.
 #[tactic(auto, unfolding(ns_json::specs::Reading::body_in))]
 pub fn read_policy(alloc: Global, body: &[u8]) -> Result<Policy, Refusal>
     ensures value { Gives same result (body_in policy_in body.now) }

@@ -38,12 +38,12 @@ fn pool(alloc: Global, path_name: Option<&Text>, value: &Value) -> Result<NamedP
     })
 }
 
-/// The pool that a body says, or the first refusal. Its name is the path's, where that holds one.
+/// The pool that the body describes, or the first refusal. Its name is the path's, if the path has one.
 #[tactic(auto, unfolding(ns_json::specs::Reading::body_in))]
 pub fn read_pool(alloc: Global, path_name: Option<&Text>, body: &[u8]) -> Result<NamedPool, Refusal>
     ensures value { Gives same result
         (body_in (pool_in (option_copied path_name.entry)) body.now) }
-    // What is read is within the limits, and the name too where the path's is.
+    // What is read is within the limits, and so is the name if the path's is.
     ensures good { IfOk result (λ d. IsTrue (is_text d.pool.description)) }
     ensures name { IfOk result (λ d.
         IsPoolNamedWell (option_copied path_name.entry) d.name) }

@@ -1,4 +1,4 @@
-//! Which pools a namespace may use.
+//! Reads which pools a namespace may use.
 
 ghost use Rattle.std.specs.Prelude.{[], None};
 ghost use Rattle.serde_json.specs.View.{view};
@@ -15,7 +15,7 @@ use ns_types::text::Text;
 use serde_json::Value;
 use std::alloc::Global;
 
-/// The pool of a job that names none, and the pools that are permitted or not.
+/// The pool of a job that names none, and the lists of allowed and of denied pools.
 #[derive(Drop)]
 pub struct PoolConfiguration {
     pub default_pool: Text,
@@ -51,7 +51,7 @@ fn default_pool_or_default(alloc: Global, configuration: &Value) -> Result<Text,
     }
 }
 
-/// A list of pools, none of which is called `all`.
+/// The value, which has to be a list of pools, none of them `all`.
 #[tactic(auto, unfolding(crate::specs::Records::pools_in))]
 fn pools(alloc: Global, value: &Value, member: Member) -> Result<Rows<Text>, Refusal>
     ensures { Gives same result (pools_in member (view value.now)) }
@@ -108,7 +108,7 @@ fn configuration(alloc: Global, value: &Value) -> Result<PoolConfiguration, Refu
     })
 }
 
-/// The pools that a document permits, which are all where it says nothing of them.
+/// The pools that a document permits; all pools if it has no such member.
 pub fn configuration_or_every_pool(
     alloc: Global,
     document: &Value,

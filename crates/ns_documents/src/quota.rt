@@ -81,7 +81,7 @@ fn region_limit_or_unlimited(entry: &Value) -> Result<Limits, Refusal>
     }
 }
 
-/// There is one region.
+/// Refuses any region but `global`.
 #[tactic(auto, unfolding(crate::specs::Records::region_in))]
 fn global_region(value: &Value) -> Result<(), Refusal>
     ensures { Gives (λ u. tt) result (region_in (view value.now)) }
@@ -112,7 +112,7 @@ fn entry(value: &Value) -> Result<Limits, Refusal>
     region_limit_or_unlimited(entry)
 }
 
-/// The only entry of a list, if it has one.
+/// The limits in the only entry of the list. None if the list is empty.
 #[tactic(auto, unfolding(crate::specs::Records::entries_in))]
 fn entries(value: &Value) -> Result<Option<Limits>, Refusal>
     ensures { Gives same result (entries_in (view value.now)) }
@@ -153,7 +153,7 @@ fn quota(alloc: Global, path_name: Option<&Text>, value: &Value) -> Result<Named
     })
 }
 
-/// The quota that a body says, or the first refusal. Its name is the path's, where that holds one.
+/// The quota that the body describes, or the first refusal. Its name is the path's, if the path has one.
 #[tactic(auto, unfolding(ns_json::specs::Reading::body_in))]
 pub fn read_quota(
     alloc: Global,
@@ -162,7 +162,7 @@ pub fn read_quota(
 ) -> Result<NamedQuota, Refusal>
     ensures value { Gives same result
         (body_in (quota_in (option_copied path_name.entry)) body.now) }
-    // What is read is within the limits, and the name too where the path's is.
+    // What is read is within the limits, and so is the name if the path's is.
     ensures good { IfOk result (λ d. IsTrue (is_good_quota d.quota)) }
     ensures name { IfOk result (λ d.
         IsNamedWell NameKind.Quota (option_copied path_name.entry) d.name) }

@@ -1,4 +1,4 @@
-//! What a client reports of an allocation.
+//! Reads what a client reports of an allocation.
 
 ghost use Rattle.std.specs.Prelude.{IfErr};
 ghost use Rattle.serde_json.specs.View.{view};
@@ -50,7 +50,7 @@ fn report(alloc: Global, value: &Value) -> Result<Report, Refusal>
     })
 }
 
-/// What a body reports of an allocation, or the first refusal.
+/// The report of an allocation in the body, or the first refusal.
 #[tactic(auto, unfolding(ns_json::specs::Reading::body_in))]
 pub fn read_report(alloc: Global, body: &[u8]) -> Result<Report, Refusal>
     ensures value { Gives same result (body_in report_in body.now) }

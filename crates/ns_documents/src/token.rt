@@ -76,7 +76,7 @@ fn token(alloc: Global, value: &Value) -> Result<TokenDocument, Refusal>
     })
 }
 
-/// The token that a body says, or the first refusal.
+/// The token that the body describes, or the first refusal.
 #[tactic(auto, unfolding(ns_json::specs::Reading::body_in))]
 pub fn read_token(alloc: Global, body: &[u8]) -> Result<TokenDocument, Refusal>
     ensures value { Gives same result (body_in token_in body.now) }

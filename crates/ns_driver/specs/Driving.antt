@@ -1,4 +1,4 @@
--- What a driven worker does: worker 0 makes one step after the other, and gives no evaluation back.
+-- What a driven worker does: worker 0 makes one step after the other, and never nacks.
 use Rattle.std.specs.Prelude.{◌≡◌, ◌≢◌, ◌≤◌, ℕ, true, false, List, [], ◌∷◌, ◌++◌, length, Option, Some, None, Ok, Err}
 use Rattle.ns_types.specs.declared.refusal.Refusal.{Refusal}
 use Rattle.ns_types.specs.declared.reply.Reply.{Reply}
@@ -32,8 +32,8 @@ IsDriven (Step.Apply worker ns) = worker ≡ driven
 IsDriven (Step.Finish worker ns) = worker ≡ driven
 IsDriven _ = ⊥
 
--- What the driver has after a step that led to this world: the snapshot that the worker's row then keeps, if it looked;
--- nothing, if it finished; else what it had.
+-- The snapshot that the driver has after a step that led to this world: the one that the worker's row then keeps, if it
+-- took one; none, if it finished; else the one that it had.
 abbrev pub Remembers : Step → Option Snapshot → World → Option Snapshot → Type 0
 Remembers (Step.Snap worker ns) has w has' =
     (seen : Snapshot) × (kept_at w worker ns ≡ Some seen) × (has' ≡ Some seen)
@@ -42,16 +42,15 @@ Remembers _ has w has' = has' ≡ has
 
 -- ---- the step that comes next
 
--- it is idle, and no evaluation is ready
+-- the worker is idle, and no evaluation is ready
 abbrev pub IsAtRest : World → Type 0
 IsAtRest w = (row_of w driven ≡ None) × (served_ready w ≡ None)
 
--- the worker is busy for the namespace, with that row
+-- the worker has an evaluation of the namespace, and that row
 abbrev pub IsBusyFor : World → Name → Worker → Type 0
 IsBusyFor w ns worker = row_of w driven ≡ Some (ns, worker)
 
--- The step that comes next: an idle worker takes the evaluation that is served, and a busy one goes on as its phase
--- says.
+-- The step that comes next: an idle worker dequeues the next evaluation, and a busy one goes on as its phase says.
 pub data IsNext (w : World) : Step → Type 0 where
   dequeue : (key : Key) → row_of w driven ≡ None → served_ready w ≡ Some key →
       IsNext w (Step.Dequeue driven key.0 key.1)
@@ -64,8 +63,8 @@ pub data IsNext (w : World) : Step → Type 0 where
   finish : (ns : Name) (worker : Worker) (kept : Snapshot) → IsBusyFor w ns worker → worker.kept ≡ Some kept →
       may_finish worker kept ≡ true → IsNext w (Step.Finish driven ns)
 
--- The step that the driver goes on with, where it has that snapshot: the one that comes next, but that a plan is handed in
--- and an evaluation ended by the driver's snapshot, which may be another than the row's.
+-- The step that a driver with that snapshot tries: the one that comes next, except that it submits and finishes by its
+-- own snapshot, which may be another than the row's.
 pub data IsTried (w : World) (has : Option Snapshot) : Step → Type 0 where
   next : (step : Step) → IsNext w step → IsTried w has step
   submit : (ns : Name) (worker : Worker) (seen : Snapshot) → IsBusyFor w ns worker → has ≡ Some seen →
@@ -75,9 +74,9 @@ pub data IsTried (w : World) (has : Option Snapshot) : Step → Type 0 where
 
 -- ---- over a server
 
--- by the state for which a value stands, what a step notes besides, and what a step may lack
+-- given the state for which a value stands, what else holds of a step that was made, and what a step may lack
 module _ {S : Type 0} (state : S → State) (notes : S → Step → Answer → S → Type 0) (lacks : S → Step → Refusal → Type 0) where
-  -- one step of the driven worker was made and answered by a reply, and what the driver has by then
+  -- one step of the driven worker was made and answered by a reply, and the snapshot that the driver then has
   pub record MakesOne (s : S) (has : Option Snapshot) (s' : S) (has' : Option Snapshot) : Type 0 where
     pub step : Step
     pub reply : Reply
@@ -85,16 +84,16 @@ module _ {S : Type 0} (state : S → State) (notes : S → Step → Answer → S
     pub made : IsMade state notes s step (Ok reply) s'
     pub remembers : Remembers step has (state s').world has'
 
-  -- one step after the other
+  -- such steps were made, one after the other
   pub data MakesMany (s : S) (has : Option Snapshot) : List Step → List Answer → S → Option Snapshot → Type 0 where
     none : MakesMany s has [] [] s has
     more : (steps : List Step) (answers : List Answer) (mid : S) (held : Option Snapshot) (s' : S)
         (has' : Option Snapshot) → MakesMany s has steps answers mid held → (one : MakesOne mid held s' has') →
         MakesMany s has (steps ++ one.step ∷ []) (answers ++ Ok one.reply ∷ []) s' has'
 
-  -- Why no further step was made, where the driver has that snapshot: there is nothing to do; the step that it goes on with
-  -- lacks something; there is no memory to prepare it; the plan that it needs is of a snapshot that the driver does not have; or a
-  -- sum of that plan does not fit 64 bits.
+  -- Why a driver with that snapshot made no further step: there is nothing to do; the step that it tries lacks
+  -- something; there is no memory to prepare it; the plan that it needs is of a snapshot that the driver does not have;
+  -- or a sum of that plan does not fit 64 bits.
   pub data Stops (s : S) (has : Option Snapshot) : Stop → Type 0 where
     rests : IsAtRest (state s).world → Stops s has Stop.Rests
     lacking : (step : Step) (refusal : Refusal) → IsTried (state s).world has step → lacks s step refusal →
@@ -113,8 +112,9 @@ module _ {S : Type 0} (state : S → State) (notes : S → Step → Answer → S
 
   -- ---- a round
 
-  -- These steps of the driven worker were made, each answered by a reply, but for the last one where the model refused it. Then it
-  -- stopped: for that reason, or since they were as many as one round may make.
+  -- These steps of the driven worker were made. Each was answered by a reply, except the last one if the model refused
+  -- it. Then the worker stopped: because of that refusal, for a reason of `Stops`, or because the round had made as
+  -- many steps as it may.
   pub data Rounds (s : S) (has : Option Snapshot) : List Step → List Answer → S → Option Snapshot → Stop → Type 0 where
     limit : (steps : List Step) (answers : List Answer) (s' : S) (has' : Option Snapshot) →
         MakesMany s has steps answers s' has' → length steps ≡ most_steps → Rounds s has steps answers s' has' Stop.Limit
@@ -124,7 +124,7 @@ module _ {S : Type 0} (state : S → State) (notes : S → Step → Answer → S
         MakesMany s has steps answers mid has' → IsRefused mid step refusal s' →
         Rounds s has (steps ++ step ∷ []) (answers ++ Err refusal ∷ []) s' has' (Stop.Refused refusal)
 
-  -- the steps are a chain, no more than a round may make, and of a round
+  -- the steps are a chain, they are at most as many as a round may make, and they are those of a round
   pub record Drives (s : S) (has : Option Snapshot) (steps : List Step) (answers : List Answer) (s' : S)
       (has' : Option Snapshot) (stop : Stop) : Type 0 where
     pub chain : Chain state notes s steps answers s'

@@ -1,4 +1,4 @@
--- What one turn of a driven worker comes to.
+-- What one turn of a driven worker does.
 use Rattle.std.specs.Prelude.{◌≡◌, ◌⊎◌, true, false, Option, Some, None}
 use Rattle.ns_types.specs.declared.refusal.Refusal.{Refusal}
 use Rattle.ns_types.specs.declared.snapshot.Snapshot.{Snapshot}
@@ -15,7 +15,7 @@ use Rattle.ns_driver.specs.declared.due.Due.{Due}
 use Rattle.ns_driver.specs.declared.stopping.Stop.{Stop}
 use Rattle.ns_driver.specs.Driving.{driven, IsAtRest, IsBusyFor, IsRefused, Stops}
 
--- what is due is what the worker's phase asks for
+-- this is what the worker does next, by its phase
 abbrev pub IsDue : World → Due → Type 0
 IsDue w Due.Nothing = IsAtRest w
 IsDue w (Due.Take key) = (row_of w driven ≡ None) × (served_ready w ≡ Some key)
@@ -26,7 +26,7 @@ IsDue w (Due.Apply ns) = (worker : Worker) × IsBusyFor w ns worker × (is_submi
 IsDue w (Due.End ns) = (worker : Worker) × IsBusyFor w ns worker ×
     (is_ending worker.phase worker.tries ≡ true) × (is_snapped worker.phase ≡ false)
 
--- the worker is at its end, with a plan that does nothing where it was not handed in
+-- the worker may finish with the plan, which does nothing if it was not submitted
 abbrev pub IsAtEnd : World → Name → Snapshot → Type 0
 IsAtEnd w ns planned = (worker : Worker) × IsBusyFor w ns worker × (is_ending worker.phase worker.tries ≡ true) ×
     (is_snapped worker.phase ≡ true → does_nothing (plan planned) ≡ true)
@@ -37,7 +37,8 @@ abbrev pub Ends : {S : Type 0} → (S → State) → (S → Step → Answer → 
 Ends state notes lacks s has stop s' = (Stops state notes lacks s has stop × (s' ≡ s))
     ⊎ ((step : Step) × (refusal : Refusal) × (stop ≡ Stop.Refused refusal) × IsRefused state notes lacks s step refusal s')
 
--- why there is no plan of the snapshot that the driver has: there is none, a sum does not fit, or want of memory
+-- why there is no plan of the driver's snapshot: the driver has no snapshot, a sum of the plan does not fit 64 bits, or
+-- there is no memory
 pub data HasNoPlan (has : Option Snapshot) : Refusal → Type 0 where
   nothing : has ≡ None → HasNoPlan has Refusal.Foreign
   unfit : (seen : Snapshot) → has ≡ Some seen → fits seen ≡ false → HasNoPlan has Refusal.Full

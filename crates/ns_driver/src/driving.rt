@@ -12,11 +12,12 @@ use crate::turn::turn;
 use crate::works::Works;
 use std::alloc::Global;
 
-/// How many steps one round may make.
+/// The most steps of one round.
 const MOST_STEPS: u64 = 10_000;
 
-/// Worker 0 takes what is ready, places it and finishes, until nothing is ready, one round may make no more steps, or a
-/// step cannot be made. What it saw last is kept for the next round, which goes on where this one stopped.
+/// One round of worker 0: it dequeues evaluations, plans them, has the plans applied and finishes the evaluations. It stops
+/// when nothing is ready, when the round has made 10,000 steps, or when a step cannot be made, and returns which of these it
+/// was. Its last snapshot is kept for the next round, which goes on where this one stopped.
 pub fn drive<W: Works>(alloc: Global, works: &mut W, kept: &mut Kept) -> Stop
     ensures { (steps : List Step) × (answers : List Answer)
         × Drives W.state W.notes W.lacks works.old (seen_of kept.old) steps answers

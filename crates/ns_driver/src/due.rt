@@ -1,4 +1,4 @@
-//! What a driven worker does next.
+//! The next step of a driven worker.
 
 ghost use Rattle.std.specs.Prelude.{◌≡◌, IfOk, None, OnErr, Some, option_map};
 ghost use Rattle.ns_types.specs.State.Rows.{World};
@@ -17,24 +17,24 @@ use std::alloc::AllocError;
 /// The number of the driven worker.
 pub(crate) const WORKER: u64 = 0;
 
-/// What comes next, with the namespace of its evaluation.
+/// What the worker does next, with the namespace of its evaluation.
 #[derive(Drop)]
 pub(crate) enum Due {
     /// It is idle, and nothing is ready.
     Nothing,
-    /// It is idle, and this evaluation is next.
+    /// It is idle, and dequeues this evaluation.
     Take(EvalKey),
-    /// It has to look, for the first time or again.
+    /// It takes a snapshot, for the first time or again.
     Look(Text),
-    /// It has looked, and its plan is handed in unless it does nothing.
+    /// It has a snapshot, and submits its plan, or finishes if the plan does nothing.
     Plan(Text),
     /// Its plan is to be applied.
     Apply(Text),
-    /// All of its plan was applied, or its tries are used up.
+    /// It finishes: all of its plan was applied, or its tries are used up.
     End(Text),
 }
 
-/// What a busy worker does next.
+/// What a busy worker does next. Want of memory is the only error.
 fn of_busy(busy: Busy<'_>) -> Result<Due, AllocError>
     ensures { IfOk result (λ due. (w : World) →
         Some (busy_fields busy.entry) ≡ option_map busy_of (row_of w driven) → IsDue w due) }
@@ -50,7 +50,7 @@ fn of_busy(busy: Busy<'_>) -> Result<Due, AllocError>
     })
 }
 
-/// What an idle worker does next.
+/// What the worker does next, if it is idle. Want of memory is the only error.
 fn of_idle<W: Works>(works: &W) -> Result<Due, AllocError>
     requires { row_of (W.state works.now).world driven ≡ None }
     ensures due { IfOk result (IsDue (W.state works.now).world) }
@@ -62,7 +62,7 @@ fn of_idle<W: Works>(works: &W) -> Result<Due, AllocError>
     }
 }
 
-/// What the worker does next.
+/// What the worker does next. Want of memory is the only error.
 pub(crate) fn next<W: Works>(works: &W) -> Result<Due, AllocError>
     ensures due { IfOk result (IsDue (W.state works.now).world) }
     ensures memory { OnErr result (IsAtRest (W.state works.now).world → ⊥) }

@@ -1,4 +1,4 @@
-//! What a driven worker keeps from one step to the next.
+//! What the driver of a worker keeps from one step to the next.
 
 ghost use Rattle.std.specs.Prelude.{◌≡◌, IfErr, IfOk, Some};
 ghost use Rattle.ns_driver.specs.Kept.{seen_of};
@@ -11,7 +11,7 @@ use ns_types::shared::Shared;
 use ns_types::snapshot::Snapshot;
 use std::alloc::Global;
 
-/// The snapshot that was taken last, with its plan once it was made.
+/// The last snapshot, or its plan once that was made.
 #[derive(Drop)]
 pub enum Kept {
     Nothing,
@@ -32,8 +32,8 @@ impl Kept {
         }
     }
 
-    /// Another owner of the snapshot's plan, which is kept once it was made. `Foreign`: no snapshot is kept. `Full`: a sum
-    /// of the plan does not fit 64 bits.
+    /// The snapshot's plan, with one more owner. It is made if it was not made yet, and then kept. `Foreign`: no snapshot is
+    /// kept. `Full`: a sum of the plan does not fit 64 bits. Else want of memory is the only error.
     pub(crate) fn planned(&mut self, alloc: Global) -> Result<Planned, Refusal>
         ensures same { seen_of self.new ≡ seen_of self.old }
         ensures planned { IfOk result (λ planned. seen_of self.old ≡ Some planned) }

@@ -1,4 +1,4 @@
-//! Drives one worker: it takes the next ready evaluation, plans it, has its plan applied, and finishes it.
+//! Drives one worker: it dequeues the next ready evaluation, plans it, has the plan applied, and finishes the evaluation.
 #![tactic(auto)]
 
 mod driving;

@@ -7,9 +7,9 @@ use std::alloc::AllocError;
 pub enum Stop {
     /// The worker is idle, and nothing is ready.
     Rests,
-    /// So many steps were made as one round may make.
+    /// The round has made as many steps as it may.
     Limit,
-    /// The next step could not be made. `Memory`: it goes on in the next round.
+    /// The next step could not be made, or was refused. After `Memory` the worker goes on in the next round.
     Refused(Refusal),
 }
 

@@ -69,7 +69,7 @@ fn finish<W: Works>(
     Ok(())
 }
 
-/// Hands in the plan, or finishes where it does nothing.
+/// Submits the plan, or finishes if the plan does nothing.
 fn submit<W: Works>(
     alloc: Global,
     works: &mut W,
@@ -95,7 +95,7 @@ fn submit<W: Works>(
     Ok(())
 }
 
-/// Plans what the worker saw, and hands that in or finishes.
+/// Makes the plan of the worker's snapshot, and submits it or finishes.
 fn place<W: Works>(
     alloc: Global,
     works: &mut W,
@@ -113,7 +113,7 @@ fn place<W: Works>(
     submit(alloc, works, kept, namespace, planned)
 }
 
-/// Finishes with the plan that was handed in.
+/// Finishes with the plan that was submitted.
 fn end<W: Works>(
     alloc: Global,
     works: &mut W,
@@ -145,7 +145,7 @@ fn apply<W: Works>(alloc: Global, works: &mut W, namespace: &Text) -> Result<(),
     Ok(())
 }
 
-/// Makes the step that is due, or says why there is none.
+/// Makes the next step of the worker, or returns why it stops.
 pub(crate) fn turn<W: Works>(alloc: Global, works: &mut W, kept: &mut Kept) -> Result<(), Stop>
     ensures made { OnOk result (MakesOne W.state W.notes W.lacks
         works.old (seen_of kept.old) works.new (seen_of kept.new)) }

@@ -1,4 +1,4 @@
-//! What a worker does in a step, with what it hands in.
+//! What a worker does in a step, with the plan that it brings.
 
 ghost use Rattle.std.specs.Prelude.{◌≡◌};
 ghost use Rattle.ns_driver.specs.WorkerSteps.{kind_of};
@@ -6,10 +6,11 @@ ghost use Rattle.ns_driver.specs.WorkerSteps.{kind_of};
 use ns_steps::work::Work;
 use ns_types::planned::Planned;
 
-/// What a worker does in a step, with what it hands in. A snapshot has a call of its own, since its worker is given it.
+/// What a worker does in a step, with the plan that it brings. Taking a snapshot has a call of its own, since that call returns
+/// the snapshot.
 #[derive(Drop)]
 pub enum WorkerStep<'a> {
-    /// It takes the evaluation of that number.
+    /// It dequeues the evaluation with that number.
     Dequeue(u64),
     Submit(Planned),
     Apply,

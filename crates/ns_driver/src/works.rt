@@ -25,19 +25,19 @@ pub trait Works: Server {
     ghost use Rattle.ns_types.specs.declared.refusal.Refusal.{Refusal};
     ghost use Rattle.ns_types.specs.declared.step.Step.{Step as AStep};
 
-    // Why a call for that step makes none.
+    // The refusals with which a call for that step may make none.
     ghost lacks: { Self → AStep → Refusal → Type 0 };
 
-    /// The next evaluation: the first of those of the highest priority.
+    /// The next evaluation to be dequeued: the first of those with the highest priority.
     fn served(&self) -> Option<&EvalKey>
         ensures { option_copied result ≡ served_ready (Self.state self.now).world };
 
-    /// What the worker is busy with, and how far it is. None: it is idle.
+    /// The evaluation that the worker has, and how far it is. None: it is idle.
     fn phase(&self, worker: u64) -> Option<Busy<'_>>
         ensures { option_map busy_fields result
             ≡ option_map busy_of (row_of (Self.state self.now).world worker) };
 
-    /// Makes the step of the worker in the namespace.
+    /// Makes the worker's step in the namespace, and returns the reply.
     fn work(
         &mut self,
         alloc: Global,
@@ -48,7 +48,7 @@ pub trait Works: Server {
         ensures { AttemptsWorkerStep Self.state Self.notes lacks step.entry worker namespace.now
             self.old result self.new };
 
-    /// Makes the step in which a worker takes a snapshot of its evaluation.
+    /// Makes the step in which the worker takes a snapshot for its evaluation, and returns the snapshot.
     fn snap(
         &mut self,
         alloc: Global,

@@ -1,4 +1,4 @@
--- What a request asks for: a step, or the refusal that needs no state.
+-- The step that a request asks for, or the refusal that needs no state.
 use Rattle.std.specs.Prelude.{ℕ, List, [], Option, Some, None, option_map, unwrap_or, Result, Ok, Err}
 use Rattle.uuid.specs.Text.{hyphenated_text, lower, parsed}
 use Rattle.ns_types.specs.declared.id.IdKind.TheVariants as IdKind
@@ -24,7 +24,7 @@ use Rattle.ns_request.specs.Targets.{query_in}
 use Rattle.ns_endpoints.specs.Parts.{bearer_in, fourth_part, namespace_of, number_in, prefix_in, third_part}
 use Rattle.ns_endpoints.specs.Nodes.{eligibility_put, node_deleted, node_put, nodes_listed, report_put, status_put}
 
--- ---- commands by who asks
+-- ---- commands about a namespace, and commands of administrators
 
 unfoldable pub ask_of : AskCommand → Asked → Result Step Refusal
 ask_of command a = do
@@ -36,7 +36,7 @@ admin_of command a = do
   secret ← bearer_in a
   Ok (Step.Admin secret command)
 
--- the text of the UUID that a text is, in lower case with hyphens
+-- the UUID that the text writes, in lower case with hyphens
 abbrev pub canonical : Name → Name
 canonical text = unwrap_or (option_map (hyphenated_text lower) (parsed text)) []
 
@@ -63,13 +63,13 @@ registration_asked a = do
   Ok (Step.Ask (namespace_of parameter document.namespace) (secret_of a.token)
       (AskCommand.Register document.registration))
 
--- what an administrator asks by a document
+-- an administrator's command with a document
 unfoldable pub admin_by : {D : Type 0} → (List ℕ → Result D Refusal) → (D → AdminCommand) → Asked → Result Step Refusal
 admin_by reads command a = do
   document ← reads a.body
   admin_of (command document) a
 
--- where the path holds a name, or none
+-- puts of documents, where `named` is the name in the path, if there is one
 abbrev pub namespace_put : Option Name → Asked → Result Step Refusal
 namespace_put named = admin_by (body_in (Records.namespace_in named)) (λ d. AdminCommand.PutNamespace d.name d.namespace)
 
@@ -82,14 +82,14 @@ pool_put named = admin_by (body_in (Records.pool_in named)) (λ d. AdminCommand.
 abbrev pub policy_put : Asked → Result Step Refusal
 policy_put a = admin_by (body_in policy_in) (AdminCommand.PutPolicy (fourth_part a)) a
 
--- its two texts are drawn afterwards
+-- a new token, whose accessor and secret are drawn later
 abbrev pub new_token : TokenDocument → NewToken
 new_token d = record { accessor = []; secret = []; name = d.name; kind = d.kind; policies = d.policies }
 
 abbrev pub token_asked : Asked → Result Step Refusal
 token_asked = admin_by (body_in token_in) (λ d. AdminCommand.CreateToken (new_token d))
 
--- ---- reads that name their place in the path
+-- ---- reads of the namespace or the pool that the path names
 
 unfoldable pub namespace_read : Asked → Result Step Refusal
 namespace_read a = do
@@ -103,11 +103,11 @@ pool_read a = do
 
 -- ---- the table
 
--- of a method that the path does not have, which is refused before
+-- for a method that the path does not have: such a request is refused before
 abbrev pub not_served : Result Step Refusal
 not_served = Err Refusal.NotServed
 
--- what is asked by each method
+-- one of the three, by the method
 abbrev pub by_kind : Method → Result Step Refusal → Result Step Refusal → Result Step Refusal → Result Step Refusal
 by_kind Method.Get get write delete = get
 by_kind Method.Write get write delete = write

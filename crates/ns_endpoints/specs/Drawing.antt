@@ -26,15 +26,15 @@ pub record DrawsTwo {D : Type 0} (draws : D → List ℕ → D → Type 0) (old 
 abbrev pub with_texts : Name → Name → NewToken → NewToken
 with_texts accessor secret token = record token { accessor = accessor; secret = secret }
 
--- the step that is made where this one is asked for: of a new token the first draw is the accessor and the second the
--- secret, and for any other step nothing is drawn
+-- the step that is made for the requested one: a new token gets its accessor from the first draw and its secret from the
+-- second, and any other step stays as it is, with nothing drawn
 abbrev pub DrawsFor : {D : Type 0} → (D → List ℕ → D → Type 0) → Step → D → Step → D → Type 0
 DrawsFor draws (Step.Admin bearer (AdminCommand.CreateToken token)) old made new =
     (first : List ℕ) × (second : List ℕ) × DrawsTwo draws old first second new ×
     (made ≡ Step.Admin bearer (AdminCommand.CreateToken (with_texts (random_id first) (random_id second) token)))
 DrawsFor draws step old made new = (made ≡ step) × (new ≡ old)
 
--- the step is that one, or there was no memory for it; the draws are spent either way
+-- the result is the step that is made, or there was no memory for it; the draws are used up either way
 abbrev pub GivesDrawn : {D E : Type 0} → (D → List ℕ → D → Type 0) → Step → D → Result Step E → D → Type 0
 GivesDrawn draws wanted old drawn new =
     (made : Step) × DrawsFor draws wanted old made new × IfOk drawn (λ step. step ≡ made)

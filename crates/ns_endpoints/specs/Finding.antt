@@ -8,9 +8,9 @@ use Rattle.ns_request.specs.Gives.{Refuses}
 use Rattle.ns_endpoints.specs.Asking.{asked}
 use Rattle.ns_endpoints.specs.Drawing.{DrawsFor}
 
--- by what is drawn
+-- `draws` relates a draw to the source before and after it
 module _ {D : Type 0} (draws : D → List ℕ → D → Type 0) where
-  -- the step that is asked for, with what is drawn for it
+  -- the step that the request asks for, with what is drawn for it
   abbrev pub Finds : Asked → D → D → Step → Type 0
   Finds a old new made = (wanted : Step) × (asked a ≡ Ok wanted) × DrawsFor draws wanted old made new
 

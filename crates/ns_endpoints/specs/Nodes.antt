@@ -1,4 +1,4 @@
--- What a request asks of a node: a step, or the refusal that needs no state.
+-- The step that a request about nodes asks for, or the refusal that needs no state.
 use Rattle.std.specs.Prelude.{List, ℕ, Result, Ok}
 use Rattle.ns_types.specs.declared.refusal.Refusal.{Refusal}
 use Rattle.ns_types.specs.declared.step.NodeCommand.{NodeCommand}
@@ -15,7 +15,7 @@ node_of command a = do
   secret ← bearer_in a
   Ok (Step.Node (fourth_part a) secret command)
 
--- what a document asks of the node
+-- a command about the node, with a document
 unfoldable pub node_by : {D : Type 0} → (List ℕ → Result D Refusal) → (Name → D → NodeCommand) → Asked → Result Step Refusal
 node_by reads command a = do
   document ← reads a.body

@@ -1,4 +1,4 @@
--- Who asks, and the parts of a request.
+-- The secret and the namespace of a request, and the parts of its path.
 use Rattle.std.specs.Prelude.{ℕ, Option, unwrap_or, Result, Ok}
 use Rattle.ns_types.specs.declared.id.IdKind.{IdKind}
 use Rattle.ns_types.specs.declared.refusal.Refusal.{Refusal}
@@ -10,13 +10,13 @@ use Rattle.ns_request.specs.Queries.{namespace_in, prefix_of}
 use Rattle.ns_request.specs.Secrets.{secret_of}
 use Rattle.ns_request.specs.Targets.{path_in, query_in, text_at}
 
--- ---- who asks, and where
+-- ---- the secret and the namespace
 
 -- the parameter's namespace, else the document's, else `default`
 abbrev pub namespace_of : Option Name → Option Name → Name
 namespace_of parameter document = unwrap_or parameter (unwrap_or document default_name)
 
--- the secret of a request that names no namespace; a parameter that is no namespace's name is a fault all the same
+-- the secret of a request that does not use the namespace parameter; a bad parameter is refused all the same
 unfoldable pub bearer_in : Asked → Result (Option Name) Refusal
 bearer_in a = do
   parameter ← namespace_in (query_in a.target)

@@ -1,4 +1,4 @@
--- What is wanted of a path: a step, but for who asks and for what is drawn.
+-- What a request wants: a step that still lacks its bearer and what is drawn for it.
 use Rattle.std.specs.Prelude.{◌≡◌, Bool, true, false, not, IsTrue, Result, Ok, Err}
 use Rattle.ns_types.specs.declared.refusal.Refusal.{Refusal}
 use Rattle.ns_types.specs.declared.step.AdminCommand.{AdminCommand}
@@ -30,7 +30,7 @@ step_by bearer (Wanted.Admin command) = Step.Admin bearer.secret command
 step_by bearer (Wanted.Token document) = Step.Admin bearer.secret (AdminCommand.CreateToken (new_token document))
 step_by bearer (Wanted.Node pool command) = Step.Node pool bearer.secret command
 
--- the step that is wanted, of who asks
+-- the wanted step with the request's bearer
 unfoldable pub step_of : Wanted → Asked → Result Step Refusal
 step_of wanted a = do
   bearer ← bearer_of a
@@ -40,17 +40,17 @@ abbrev pub makes_token : AdminCommand → Bool
 makes_token (AdminCommand.CreateToken new) = true
 makes_token _ = false
 
--- a new token is wanted by its document alone, since its texts are yet to be drawn
+-- a new token is wanted as its document alone, because its accessor and secret are drawn later
 abbrev pub IsServedWanted : Wanted → Type 0
 IsServedWanted (Wanted.Admin command) = IsTrue (not (makes_token command))
 IsServedWanted _ = Unit {0}
 
--- the request asks what is wanted, or is refused so; want of memory says nothing
+-- the request asks for what is wanted, or gets this refusal, unless the refusal is `Memory`
 abbrev pub Wants : Request → Result Wanted Refusal → (Asked → Result Step Refusal) → Type 0
 Wants request (Ok wanted) asks = asks (asked request) ≡ step_of wanted (asked request)
 Wants request (Err refusal) asks = Refuses refusal (asks (asked request))
 
--- ---- the step that is asked for, but for what is drawn for it
+-- ---- the requested step, before anything is drawn for it
 
 abbrev pub draft_step : Draft → Step
 draft_step (Draft.Step step) = step

@@ -1,4 +1,4 @@
-//! What a request asks for.
+//! Finds the step that a request asks for.
 
 ghost use Rattle.std.specs.Prelude.{◌≡◌, IfOk};
 ghost use Rattle.ns_http.specs.Head;
@@ -34,7 +34,7 @@ fn namespace_or_default(
     }
 }
 
-/// Who asks, and the namespace that the query names. One that is no namespace's name is a fault of every step.
+/// Reads the secret and the namespace that the query names. A bad name of a namespace is refused for every step.
 fn bearer(alloc: Global, target: &RequestTarget<'_>) -> Result<Bearer, Refusal>
     ensures { Gives same result (bearer_of (Head.asked target.now.request)) }
 {
@@ -43,7 +43,7 @@ fn bearer(alloc: Global, target: &RequestTarget<'_>) -> Result<Bearer, Refusal>
     Ok(Bearer { namespace, secret })
 }
 
-/// The step that is wanted, of who asks.
+/// The wanted step with its bearer. Want of memory is the only error.
 fn draft(alloc: Global, bearer: Bearer, wanted: Wanted) -> Result<Draft, AllocError>
     requires { IsServedWanted wanted }
     ensures step { IfOk result (λ draft. draft_step draft ≡ step_by bearer wanted) }
@@ -86,7 +86,8 @@ fn asked_of(alloc: Global, target: &RequestTarget<'_>) -> Result<Draft, Refusal>
     }
 }
 
-/// The step that a request asks for, or the refusal that needs no state. A new token's two texts are yet to be drawn.
+/// The step that a request asks for, or the refusal that needs no state. The accessor and secret of a new token are drawn
+/// later.
 #[tactic(auto, unfolding(crate::specs::Asking::asked))]
 pub fn asked(alloc: Global, routes: &Routes, request: &Request<'_>) -> Result<Draft, Refusal>
     ensures step { Gives draft_step result (asked (Head.asked request.now)) }

@@ -1,4 +1,4 @@
-//! What requests want with a document.
+//! Reads what requests with a document want.
 
 ghost use Rattle.std.specs.Prelude.{◌≡◌, IfOk, IsTrue, option_copied};
 ghost use Rattle.ns_types.specs.declared.name.NameKind.TheVariants as NameKind;
@@ -26,6 +26,7 @@ use ns_types::step::{AdminCommand, AskCommand};
 use ns_types::text::Text;
 use std::alloc::Global;
 
+/// A registration of the job in the document.
 #[tactic(auto, unfolding(crate::specs::Asking::registration_asked, crate::specs::Wanted::step_of))]
 pub fn register(alloc: Global, request: &Request<'_>) -> Result<Wanted, Refusal>
     ensures wanted { Wants request.now result registration_asked }
@@ -38,7 +39,7 @@ pub fn register(alloc: Global, request: &Request<'_>) -> Result<Wanted, Refusal>
     ))
 }
 
-/// A put, where `named` is the name that the path holds, if it holds one.
+/// A put of a namespace. `named` is the name in the path, if there is one.
 #[tactic(auto, unfolding(crate::specs::Asking::admin_by, crate::specs::Asking::admin_of, crate::specs::Parts::bearer_in, crate::specs::Wanted::step_of))]
 pub fn put_namespace(
     alloc: Global,
@@ -53,7 +54,7 @@ pub fn put_namespace(
     Ok(administers(AdminCommand::PutNamespace(document.name, document.namespace)))
 }
 
-/// The same of a quota.
+/// A put of a quota. `named` is the name in the path, if there is one.
 #[tactic(auto, unfolding(crate::specs::Asking::admin_by, crate::specs::Asking::admin_of, crate::specs::Parts::bearer_in, crate::specs::Wanted::step_of))]
 pub fn put_quota(
     alloc: Global,
@@ -68,7 +69,7 @@ pub fn put_quota(
     Ok(administers(AdminCommand::PutQuota(document.name, document.quota)))
 }
 
-/// The same of a pool.
+/// A put of a pool. `named` is the name in the path, if there is one.
 #[tactic(auto, unfolding(crate::specs::Asking::admin_by, crate::specs::Asking::admin_of, crate::specs::Parts::bearer_in, crate::specs::Wanted::step_of))]
 pub fn put_pool(
     alloc: Global,
@@ -96,7 +97,7 @@ pub fn put_policy(alloc: Global, request: &Request<'_>, name: &Text) -> Result<W
     Ok(administers(AdminCommand::PutPolicy(name, policy)))
 }
 
-/// A new token, whose two texts are drawn afterwards.
+/// A new token, whose accessor and secret are drawn later.
 #[tactic(auto, unfolding(crate::specs::Asking::admin_by, crate::specs::Asking::admin_of, crate::specs::Parts::bearer_in, crate::specs::Wanted::step_of))]
 pub fn create_token(alloc: Global, request: &Request<'_>) -> Result<Wanted, Refusal>
     ensures wanted { Wants request.now result token_asked }

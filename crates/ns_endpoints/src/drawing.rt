@@ -1,4 +1,4 @@
-//! The two texts of a new token.
+//! Draws the accessor and the secret of a new token.
 
 ghost use Rattle.std.specs.Prelude.{◌≡◌, IfOk, IsTrue};
 ghost use Rattle.ns_types.specs.declared.name.NameKind.TheVariants as NameKind;
@@ -16,11 +16,11 @@ use ns_types::text::Text;
 use std::alloc::{AllocError, Global};
 use uuid::Builder;
 
-/// Hands in random bits.
+/// A source of random bits.
 pub trait Draws {
     ghost use Rattle.std.specs.Prelude.{ℕ, List};
 
-    // What a draw gives, between what draws before it and after it.
+    // The bits that a draw gives, and the source before and after it.
     ghost draws: { Self → List ℕ → Self → Type 0 };
 
     /// 128 random bits, new ones at each call.
@@ -28,10 +28,10 @@ pub trait Draws {
         ensures { draws self.old result self.new };
 }
 
-/// The text of the UUID of version 4 with these bits.
+/// The text of the UUID of version 4 with these bits. Want of memory is the only error.
 pub fn random_id(alloc: Global, bytes: [u8; 16]) -> Result<Text, AllocError>
     ensures text { IfOk result (λ text. text ≡ random_id bytes) }
-    // It can be a secret.
+    // The text can be a secret.
     ensures good { IfOk result (λ text. IsTrue (is_name NameKind.Secret text)) }
 {
     let id = Builder::from_random_bytes(bytes).into_uuid();
@@ -39,7 +39,7 @@ pub fn random_id(alloc: Global, bytes: [u8; 16]) -> Result<Text, AllocError>
     Text::from_str(alloc, id.hyphenated().encode_lower(&mut buffer))
 }
 
-/// The new token with its two texts drawn, the accessor first.
+/// Draws the accessor and then the secret of the new token. Want of memory is the only error. It comes after the draws.
 fn drawn_token<D: Draws>(
     alloc: Global,
     draws: &mut D,
@@ -57,7 +57,7 @@ fn drawn_token<D: Draws>(
     Ok(Step::Admin(bearer, token.with_texts(accessor, secret)))
 }
 
-/// The step that is made where this one is asked for. Want of memory comes after the draws.
+/// Draws what the requested step needs, and returns the step. Want of memory is the only error. It comes after the draws.
 pub fn drawn<D: Draws>(alloc: Global, draws: &mut D, draft: Draft) -> Result<Step, AllocError>
     requires { IsServedDraft draft }
     ensures drawn { GivesDrawn D.draws (draft_step draft) draws.old result draws.new }

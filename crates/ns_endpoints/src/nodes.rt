@@ -1,4 +1,4 @@
-//! What requests ask of nodes, and report of the allocations on them.
+//! Reads requests about nodes, and reports about the allocations on them.
 
 ghost use Rattle.std.specs.Prelude.{◌≡◌, IfOk, IsTrue};
 ghost use Rattle.ns_types.specs.declared.name.NameKind.TheVariants as NameKind;
@@ -36,7 +36,7 @@ pub fn put_node(
     Ok(commands(pool, NodeCommand::PutNode(node, offer)))
 }
 
-/// The same of its status.
+/// A put of the status of the node that the path names.
 #[tactic(auto, unfolding(crate::specs::Nodes::node_by, crate::specs::Nodes::node_of, crate::specs::Parts::bearer_in, crate::specs::Wanted::step_of))]
 pub fn put_status(
     alloc: Global,
@@ -53,7 +53,7 @@ pub fn put_status(
     Ok(commands(pool.clone()?, NodeCommand::SetStatus(node.clone()?, status)))
 }
 
-/// The same of its eligibility.
+/// A put of the eligibility of the node that the path names.
 #[tactic(auto, unfolding(crate::specs::Nodes::node_by, crate::specs::Nodes::node_of, crate::specs::Parts::bearer_in, crate::specs::Wanted::step_of))]
 pub fn put_eligibility(
     alloc: Global,

@@ -1,4 +1,4 @@
-//! From a request to the step that it asks for, with its random bits.
+//! Turns a request into the step that it asks for, with its random bits.
 
 ghost use Rattle.std.specs.Prelude.{◌≡◌, IfErr, IfOk};
 ghost use Rattle.ns_http.specs.Head;
@@ -29,7 +29,7 @@ impl<D: Drop> Drop for Router<D> {
 }
 
 impl<D: Draws> Router<D> {
-    /// The table of the paths is made here, and no later.
+    /// Makes the table of the paths, once. Want of memory is the only error.
     pub fn new(alloc: Global, draws: D) -> Result<Router<D>, AllocError>
     where
         D: Drop,
@@ -43,8 +43,8 @@ impl<D: Draws> Router<D> {
     ///
     /// # Errors
     ///
-    /// The refusal that needs no state, for which nothing is drawn; and `Memory` where there was none, before the draws or after
-    /// them.
+    /// The refusal that needs no state, for which nothing is drawn; and `Memory` where no memory was left, before the draws or
+    /// after them.
     pub fn step(&mut self, alloc: Global, request: &Request<'_>) -> Result<Step, Refusal>
         ensures found { let a = Head.asked request.now in
             IfOk result (Finds D.draws a self.old.draws self.new.draws) }

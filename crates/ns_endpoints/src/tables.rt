@@ -1,4 +1,4 @@
-//! What is wanted at each path, by its methods.
+//! What requests want, by their path and their method.
 
 ghost use Rattle.std.specs.Prelude.{◌≡◌, IfOk, is_some, true, unwrap_or};
 ghost use Rattle.uuid.specs.Text.{parsed};
@@ -20,7 +20,7 @@ use ns_types::text::Text;
 use std::alloc::{AllocError, Global};
 use uuid::Uuid;
 
-/// The text of the UUID that a text is, in lower case with hyphens.
+/// The UUID that the text writes, in lower case with hyphens. Want of memory is the only error.
 fn canonical(alloc: Global, text: &str) -> Result<Text, AllocError>
     requires { is_some (parsed text.now) ≡ true }
     ensures { IfOk result (λ id. id ≡ canonical text.now) }
@@ -43,7 +43,7 @@ fn number(kind: IdKind, id: &Text) -> u64
     number
 }
 
-/// The text with which the ids of a list begin.
+/// The prefix of the ids to list. Want of memory is the only error.
 fn prefix(alloc: Global, target: &RequestTarget<'_>) -> Result<Text, AllocError>
     ensures { IfOk result (λ prefix. prefix ≡ prefix_in (asked target.now.request)) }
 {
@@ -63,7 +63,7 @@ fn deregister(alloc: Global, target: &RequestTarget<'_>) -> Result<Wanted, Refus
     Ok(asks(AskCommand::Deregister(target.name.clone()?, purge)))
 }
 
-/// The events of a namespace, from the index that the query says.
+/// The events of a namespace, from the index that the query names.
 #[tactic(auto, unfolding(crate::specs::Asking::events_asked, crate::specs::Wanted::step_of))]
 fn stream(alloc: Global, target: &RequestTarget<'_>) -> Result<Wanted, Refusal>
     ensures wanted { Wants target.now.request result events_asked }
@@ -163,7 +163,7 @@ fn delete(alloc: Global, target: &RequestTarget<'_>) -> Result<Wanted, Refusal>
     Ok(wanted)
 }
 
-/// What is wanted of the path by its method.
+/// What the request wants, by its path and its method, or the refusal that needs no state.
 pub fn wanted(alloc: Global, target: &RequestTarget<'_>) -> Result<Wanted, Refusal>
     ensures wanted { Wants target.now.request result
         (asked_of target.now.endpoint target.now.method) }

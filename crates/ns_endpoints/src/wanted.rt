@@ -1,4 +1,4 @@
-//! A step, but for who asks and for what is drawn.
+//! Steps that still lack their bearer, or what is drawn for them.
 
 ghost use Rattle.std.specs.Prelude.{◌≡◌, [], None, IsTrue};
 ghost use Rattle.ns_types.specs.declared.name.NameKind.TheVariants as NameKind;
@@ -44,6 +44,7 @@ impl Model for GoodToken {
 }
 
 impl GoodToken {
+    /// A new token, by its document.
     pub fn new(document: TokenDocument) -> GoodToken
         requires { IsTrue (is_good_token (with_accessor [] document)) }
         ensures { result ≡ document }
@@ -51,7 +52,7 @@ impl GoodToken {
         GoodToken { document }
     }
 
-    /// The command that makes the token with these texts.
+    /// The command that creates the token with this accessor and this secret.
     pub fn with_texts(self, accessor: Text, secret: Text) -> GoodAdmin
         requires { IsTrue (is_name NameKind.Secret secret) }
         ensures { result ≡ AdminCommand.CreateToken (with_texts accessor secret (new_token self)) }
@@ -67,21 +68,21 @@ impl GoodToken {
     }
 }
 
-/// What is wanted of a path, before it is known who asks.
+/// What a request wants, before its bearer is known.
 #[derive(Drop)]
 pub enum Wanted {
-    /// In the namespace of the query, else in that of the document.
+    /// A command in the query's namespace, or else in the document's.
     Ask(Option<Text>, GoodAsk),
-    /// In the namespace that the path names.
+    /// A command in the namespace that the path names.
     AskIn(Text, GoodAsk),
-    /// Anything but a new token.
+    /// An administrator's command that makes no new token.
     Admin(GoodAdmin),
     Token(GoodToken),
-    /// Of the pool that the path names.
+    /// A command about the pool that the path names.
     Node(Text, GoodNodeCommand),
 }
 
-/// What is asked in the namespace of the query.
+/// A command in the namespace of the query.
 pub fn asks(command: AskCommand) -> Wanted
     requires { IsTrue (is_good_ask command) }
     ensures { result ≡ Wanted.Ask None command }
@@ -89,7 +90,7 @@ pub fn asks(command: AskCommand) -> Wanted
     Wanted::Ask(None, GoodAsk::new(command))
 }
 
-/// What is asked in the namespace that the path names.
+/// A command in the namespace that the path names.
 pub fn asks_in(namespace: Text, command: AskCommand) -> Wanted
     requires { IsTrue (is_good_ask command) }
     ensures { result ≡ Wanted.AskIn namespace command }
@@ -97,7 +98,7 @@ pub fn asks_in(namespace: Text, command: AskCommand) -> Wanted
     Wanted::AskIn(namespace, GoodAsk::new(command))
 }
 
-/// What an administrator asks.
+/// A command of an administrator.
 pub fn administers(command: AdminCommand) -> Wanted
     requires { IsTrue (is_good_admin command) }
     ensures { result ≡ Wanted.Admin command }
@@ -105,7 +106,7 @@ pub fn administers(command: AdminCommand) -> Wanted
     Wanted::Admin(GoodAdmin::new(command))
 }
 
-/// What is asked of the pool that the path names.
+/// A command about the pool that the path names.
 pub fn commands(pool: Text, command: NodeCommand) -> Wanted
     requires { IsGoodNodeCommand command }
     ensures { result ≡ Wanted.Node pool command }
@@ -113,18 +114,18 @@ pub fn commands(pool: Text, command: NodeCommand) -> Wanted
     Wanted::Node(pool, GoodNodeCommand::new(command))
 }
 
-/// Who asks, and the namespace that the query names.
+/// The secret of a request, and the namespace that its query names.
 #[derive(Drop)]
 pub struct Bearer {
     pub namespace: Option<Text>,
     pub secret: Option<Text>,
 }
 
-/// The step that a request asks for, but for what is drawn for it.
+/// The step that a request asks for, before anything is drawn for it.
 #[derive(Drop)]
 pub enum Draft {
-    /// Nothing is drawn for it.
+    /// A step for which nothing is drawn.
     Step(Step),
-    /// A new token, asked for with that secret.
+    /// A new token, requested with that secret.
     Token(Option<Text>, GoodToken),
 }

@@ -2,6 +2,6 @@
 use Rattle.std.specs.Prelude.{◌≡◌, ℕ, List}
 use Rattle.rand_core.specs.Stream.{Stream, fill_bytes}
 
--- all 16 bytes come from the generator, which answers from there on
+-- the 16 bytes are the next bytes of the generator, which goes on after them
 abbrev pub FillsBytes : {G : Type 0} → (G → Stream) → G → List ℕ → G → Type 0
 FillsBytes stream old bytes new = (bytes, stream new) ≡ fill_bytes 16 (stream old)

@@ -12,7 +12,7 @@ pub struct Random<R> {
 }
 
 impl<R: Rng> Random<R> {
-    /// Whose bits are drawn.
+    /// Draws the bits of this generator.
     pub fn new(generator: R) -> Random<R>
         ensures { result.generator ≡ generator }
     {

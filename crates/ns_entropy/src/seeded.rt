@@ -9,7 +9,8 @@ use rand::rngs::StdRng;
 use std::alloc::Global;
 use std::random::RandomSource;
 
-/// So many generators, each seeded by the system. A read fault: it gives no random bits.
+/// Returns `count` generators, each seeded by the system. The errors are `Read`, where the system gives no random bits, and
+/// `Memory`.
 pub fn generators<R: RandomSource>(
     rt: &R,
     alloc: Global,

@@ -1,4 +1,4 @@
-// Each thread's bits are from a generator of its own, and bits that are known.
+// Each thread draws from a generator of its own, and a known seed gives the known bits.
 use crate::{Random, generators};
 use ns_endpoints::Draws;
 use ns_http::ConnFault;
@@ -26,7 +26,7 @@ fn draws_are_the_bytes_of_the_generator(rt: HostRuntime) {
     assert!(rt; draws.draw() == SECOND);
 }
 
-/// Fills all bytes with how often it was called before, and has none from the third call on.
+/// Fills all bytes with the number of earlier calls, and fails from the third call on.
 #[derive(Drop)]
 struct Calls(Cell<u8>);
 
@@ -42,7 +42,7 @@ impl RandomSource for Calls {
     }
 }
 
-/// Whether it draws as a generator does whose seed has these bytes alone.
+/// Whether it draws the same bits as a generator whose seed is this byte 32 times.
 fn is_seeded_by(generator: Option<Random<StdRng>>, byte: u8) -> bool {
     let mut seeded = Random::new(StdRng::from_seed([byte; 32]));
     match generator {

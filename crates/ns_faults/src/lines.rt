@@ -15,7 +15,7 @@ pub fn print_text<E: Write>(errors: &mut Counted<E>, bytes: &[u8])
     let _ = write_all(errors, bytes);
 }
 
-/// Writes the line of the fault, and gives its exit status.
+/// Writes the line of the fault, and returns its exit status.
 pub fn print_fault<E: Write>(fault: ConnFault, errors: &mut Counted<E>) -> u8
     ensures status { result ≡ status_of fault }
     ensures line { TriesToWrite E.contents errors.old errors.new (line_of fault) }
@@ -36,7 +36,7 @@ pub fn print_fault<E: Write>(fault: ConnFault, errors: &mut Counted<E>) -> u8
     }
 }
 
-/// Writes that what the threads of a server were answered and its log differ, and gives the exit status.
+/// Writes that a server's log differs from the replies to its threads, and returns the exit status.
 pub fn print_mismatch<E: Write>(errors: &mut Counted<E>) -> u8
     ensures status { result ≡ MISMATCH }
     ensures line { TriesToWrite E.contents errors.old errors.new mismatch_line }
@@ -45,7 +45,8 @@ pub fn print_mismatch<E: Write>(errors: &mut Counted<E>) -> u8
     MISMATCH
 }
 
-/// Writes that the system gave no random bits, which ends the program as a read fault.
+/// Writes the line of a read fault, because the system gave no random bits, and returns its exit
+/// status.
 pub fn print_no_random<E: Write>(errors: &mut Counted<E>) -> u8
     ensures status { result ≡ READ_FAULT }
     ensures line { TriesToWrite E.contents errors.old errors.new (line_of ConnFault.Read) }
@@ -53,7 +54,7 @@ pub fn print_no_random<E: Write>(errors: &mut Counted<E>) -> u8
     print_fault(ConnFault::Read, errors)
 }
 
-/// Writes why the words could not be had.
+/// Writes why the words of the command line could not be read, and returns the exit status.
 pub fn print_no_words<E: Write>(error: &io::Error, errors: &mut Counted<E>) -> u8
     ensures out_of_memory { error_kind error.now ≡ ErrorKind.OutOfMemory → (result ≡ OUT_OF_MEMORY)
         × TriesToWrite E.contents errors.old errors.new (line_of ConnFault.Memory) }

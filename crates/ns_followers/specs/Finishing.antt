@@ -1,4 +1,4 @@
--- What a worker's finish comes to, by the plan of the snapshot that its row keeps.
+-- What a worker's finish answers and changes, by the plan of the snapshot that its row keeps.
 use Rattle.std.specs.Prelude.{◌≡◌, ℕ, ◌+◌, ◌≤◌, Bool, true, ◌&&◌, ◌||◌, Some, Result, Ok, Err, nat_lt}
 use Rattle.std.specs.FinMap.{get}
 use Rattle.ns_types.specs.declared.evaluation.Evaluation.{Evaluation}
@@ -24,18 +24,18 @@ HasPendingWork w number ns = (t : Tenant) (worker : Worker) (e : Evaluation) →
     get t.workers number ≡ Some worker → get t.evaluations worker.evaluation ≡ Some e →
     (is_pending e.status ≡ true) × (worker.evaluation ≤ t.evaluation_number)
 
--- in a valid world it is so
+-- In a valid world each worker's evaluation is pending, and its number is one that was given.
 abbrev pub SoundHasPendingWork : Type 0
 SoundHasPendingWork = (w : World) → IsSound w → (number : ℕ) (ns : Name) → HasPendingWork w number ns
 
--- the worker may finish by that plan: it is at its end, the plan is of the snapshot that it keeps, and was handed in or
--- does nothing
+-- the worker may finish by that plan: its work on the evaluation is at an end, the plan is of the snapshot that it
+-- keeps, and the plan was submitted or does nothing
 pub record IsAdmitted (w : World) (number : ℕ) (ns : Name) (planned : Snapshot) (worker : Worker) : Type 0 where
   pub at_end : InEnding w number ns worker
   pub kept : worker.kept ≡ Some planned
   pub may : may_finish worker planned ≡ true
 
--- the namespace's next index would pass its bound, or the number of a follower that is made
+-- the namespace's next index would pass its bound, or a follower is made and its number would
 abbrev pub passes_bound : Bool → Tenant → Bool
 passes_bound follows t = nat_lt greatest (t.index + 1) || (follows && nat_lt greatest (t.evaluation_number + 1))
 
@@ -50,7 +50,7 @@ Finishes number ns planned t (Err Refusal.Full) = (kept_at (world_of t) number n
     Prepares (bounded (world_of t) (finish number ns (world_of t))) t (Err Refusal.Full)
 Finishes number ns planned t (Err refusal) = RefusesFinish (world_of t) number ns planned refusal
 
--- where a finish is refused for want of turn, or since its plan does something, the model's step is not enabled
+-- If a finish is refused with `NotEnabled`, the model's step is not enabled.
 abbrev pub RefusedIsNotEnabled : Type 0
 RefusedIsNotEnabled = (w : World) (number : ℕ) (ns : Name) (planned : Snapshot) →
     RefusesFinish w number ns planned Refusal.NotEnabled → finish number ns w ≡ NotEnabled

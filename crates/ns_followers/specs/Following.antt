@@ -1,4 +1,4 @@
--- A follower, by what is known of the evaluation and of the plan.
+-- The follower of an evaluation, by what is known of the evaluation and of its plan.
 use Rattle.std.specs.Prelude.{ℕ, Bool, ◌||◌, if◌then◌else◌, Option, Some, None, option_map}
 use Rattle.ns_types.specs.declared.evaluation.Evaluation.{Evaluation}
 use Rattle.ns_types.specs.declared.evaluation.Status.TheVariants as Status
@@ -12,11 +12,11 @@ use Rattle.ns_types.specs.State.Rows.{World}
 use Rattle.ns_types.specs.Working.Work.{follower_of}
 use Rattle.ns_types.specs.Working.Worker.{Worker}
 
--- the quota's name, where it ended placing
+-- the name of the snapshot's quota, if the quota ended placing
 abbrev pub limiting : Snapshot → Bool → Option Name
 limiting kept limited = if limited then option_map (λ q. q.name) kept.quota else None
 
--- of the evaluation under that number: whether the tries are used up, and whether the quota ended placing
+-- the follower of the evaluation with that number, by whether the tries are used up and whether the quota ended placing
 abbrev pub follower_for : Evaluation → ℕ → Snapshot → Bool → Bool → Evaluation
 follower_for e number kept failed limited = record {
   job = e.job;
@@ -35,7 +35,7 @@ follower_for e number kept failed limited = record {
   modify_index = 0;
 }
 
--- the follower as it is made: pending where it missed a release
+-- the follower as it is made: pending if it missed a release, else blocked
 abbrev pub made_follower : World → Evaluation → Worker → Snapshot → Evaluation
 made_follower w e worker kept = let follower = follower_of e worker kept in
     if missed w kept follower then pending follower else follower

@@ -10,7 +10,7 @@ use Rattle.ns_types.specs.State.Names.{Name, class_cmp}
 use Rattle.ns_types.specs.State.Rows.{World}
 use Rattle.ns_types.specs.State.Tables.{any_row}
 
--- a class that it can use was released since that number
+-- a class that the evaluation can use was released in its pool after that number
 abbrev pub missed_room : World → ℕ → Evaluation → Bool
 missed_room w seen e =
     option_map_or (λ pool. any_row (λ class number. nat_lt seen number && can_use e class) pool.classes)
@@ -21,7 +21,8 @@ abbrev pub missed_limits : World → Snapshot → Name → Bool
 missed_limits w kept quota = nat_lt (option_map_or (λ q. q.release) kept.quota 0)
     (option_map_or (λ q. q.release) (get w.quotas quota) 0)
 
--- the entry is later than that number, and so is the one that counts of its class, which the evaluation can use
+-- the entry is later than that number, the evaluation can use its class, and the first entry of that class in the list
+-- is later too
 abbrev pub is_new : List (Class × ℕ) → ℕ → Evaluation → Class × ℕ → Bool
 is_new releases seen e release = (nat_lt seen release.1 && can_use e release.0)
     && option_map_or (nat_lt seen) (find class_cmp release.0 releases) false

@@ -8,7 +8,7 @@ use Rattle.ns_types.specs.Placing.Constraint.{is_class_infeasible}
 use Rattle.ns_types.specs.State.Names.{class_cmp}
 use Rattle.ns_types.specs.State.Rows.{class_of}
 
--- in their order, each once
+-- the classes of the nodes on which a constraint fails that does not escape classes: in the order of classes, each once
 abbrev pub infeasible_among : List Constraint → List PoolNode → List Class
 infeasible_among constraints nodes =
     keys (from_entries {R = class_cmp}

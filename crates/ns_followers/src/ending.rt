@@ -1,4 +1,4 @@
-//! An evaluation ends, and its follower is made.
+//! Ends an evaluation, and makes its follower.
 
 ghost use Rattle.ns_change.specs.Changed.{Does, DoesIn, HasEvaluationLeft, view};
 ghost use Rattle.ns_types.specs.Settling.Making.{change_tenant};
@@ -27,7 +27,8 @@ pub(crate) struct EndingEvaluation<'a> {
     pub(crate) status: Status,
 }
 
-/// The evaluation has ended, the job's blocked one is canceled and no longer listed, and the worker is idle.
+/// Ends the evaluation: it gets its last status, the job's blocked evaluation is canceled and no longer listed, and the worker
+/// is idle.
 fn end(
     tables: &Tables,
     change: &mut Change,
@@ -42,7 +43,7 @@ fn end(
     cancel_blocked(tables, change, namespace, ending.job)
 }
 
-/// The follower is there under that number, which is the namespace's next, and the evaluation names it.
+/// Adds the follower under that number, which is the namespace's next, and names it in the evaluation.
 fn tie(
     tables: &Tables,
     change: &mut Change,
@@ -59,7 +60,7 @@ fn tie(
     Ok(())
 }
 
-/// The follower is there, and listed where it is blocked.
+/// Adds the follower as `tie` does, and lists it if it is blocked.
 fn follow(
     tables: &Tables,
     change: &mut Change,
@@ -80,7 +81,7 @@ fn follow(
     Ok(())
 }
 
-/// The evaluation has ended without a follower.
+/// Ends the evaluation without a follower, and makes the job's first waiting evaluation ready.
 pub(crate) fn end_alone(
     tables: &Tables,
     change: &mut Change,
@@ -92,7 +93,8 @@ pub(crate) fn end_alone(
     promote(tables, change, ending.key.namespace(), ending.job)
 }
 
-/// The evaluation has ended, and its follower has that number, which is the namespace's next.
+/// Ends the evaluation with this follower, whose number is the namespace's next, and makes the job's first waiting evaluation
+/// ready.
 pub(crate) fn end_followed(
     tables: &Tables,
     change: &mut Change,

@@ -29,7 +29,7 @@ use ns_types::text::Text;
 use ns_types::worker::{Phase, Worker};
 use std::alloc::AllocError;
 
-/// Whether it has looked and not handed in a plan, all of its plan was done, or its tries are used up.
+/// Whether the worker has a snapshot and has not submitted a plan, all of its plan was applied, or its tries are used up.
 fn is_ending(worker: &Worker) -> bool
     ensures { result ≡ is_ending worker.now.phase worker.now.tries }
 {
@@ -40,7 +40,8 @@ fn is_ending(worker: &Worker) -> bool
     }
 }
 
-/// Whether the plan was handed in, or does nothing.
+/// Whether the worker may finish by that plan: all of it was applied, or a part was dropped and no try is left, or it was not
+/// submitted and does nothing.
 fn may_finish(worker: &Worker, planned: &Planned) -> bool
     ensures { result ≡ may_finish worker.now planned.now }
 {
@@ -52,7 +53,7 @@ fn may_finish(worker: &Worker, planned: &Planned) -> bool
     }
 }
 
-/// The worker's row, where it may finish by that plan. What is asked takes no memory.
+/// The worker's row, if it may finish by that plan; else the refusal. It takes no memory.
 fn admitted<'a>(
     tables: &'a Tables,
     number: u64,
@@ -78,7 +79,7 @@ fn admitted<'a>(
     Ok(worker)
 }
 
-/// Whether the tries are used up.
+/// Whether the worker's tries are used up.
 fn has_failed(worker: &Worker) -> bool
     ensures { result ≡ has_failed worker.now }
 {
@@ -96,21 +97,21 @@ fn end_of(worker: &Worker) -> Status
     }
 }
 
-/// Whether something was missing and not placed, or the tries are used up.
+/// Whether the evaluation gets a follower: something was missing and not placed, or the tries are used up.
 fn needs_follower(worker: &Worker, planned: &Planned) -> bool
     ensures { result ≡ needs_follower worker.now planned.now }
 {
     has_failed(worker) || planned.is_short()
 }
 
-/// Whether a count can not rise any more.
+/// Whether the count cannot rise any more.
 fn is_at_bound(count: u64) -> bool
     ensures { result ≡ nat_lt greatest (count + 1) }
 {
     count == u64::MAX
 }
 
-/// Whether the namespace has no index left, or no number for a follower that is made.
+/// Whether the namespace has no index left, or needs a number for a follower and has none left.
 fn passes_bound(tenant: &TenantRows, follows: bool) -> bool
     ensures { result ≡ passes_bound follows (tenant_of tenant.now) }
 {
@@ -137,7 +138,7 @@ fn made_follower(
     Ok(made)
 }
 
-/// The evaluation ends without a follower.
+/// The finish of an evaluation that ends without a follower.
 fn alone(tables: &Tables, ending: &EndingEvaluation<'_>) -> Result<Prepared, Refusal>
     ensures { Prepares (Done (Content.Finished ending.now.status None)
         (ended_alone (ended_of ending.now) (world_of tables.now))) tables.now result }
@@ -147,7 +148,7 @@ fn alone(tables: &Tables, ending: &EndingEvaluation<'_>) -> Result<Prepared, Ref
     prepare(Content::Finished(ending.status, None), change, made)
 }
 
-/// The evaluation ends, and that follower has that number, which is the namespace's next.
+/// The finish of an evaluation that ends with this follower, whose number is the namespace's next.
 fn followed(
     tables: &Tables,
     ending: &EndingEvaluation<'_>,
@@ -164,16 +165,16 @@ fn followed(
     prepare(Content::Finished(ending.status, Some(number)), change, made)
 }
 
-/// The worker finishes its evaluation of the namespace, by the plan of the snapshot that its row keeps. The evaluation
-/// is complete, or has failed where the tries are used up; the job's blocked one is canceled, and the next one of the job
-/// is ready. Where something was missing and not placed, or the tries are used up, a follower is made: pending where it
-/// missed a release since the snapshot, or else blocked.
-/// `NotEnabled`: the worker has no evaluation of the namespace, or is not at its end. Then `Foreign`: the plan is of another
-/// snapshot than the worker keeps. Then `NotEnabled`: the plan does something and was not handed in. Then `Full`: the
-/// namespace's index is at its bound, or a follower is made and the number of its evaluations is.
-/// The premises hold in each valid world: the worker's evaluation is there and pending, under a number that was given, and
+/// The worker finishes its evaluation of the namespace, by the plan of the snapshot that its row keeps. The evaluation is
+/// complete, or has failed if the tries are used up. The job's blocked evaluation is canceled, and its first waiting one is
+/// ready. If something was missing and not placed, or the tries are used up, a follower is made: pending if it missed a release
+/// since the snapshot, else blocked.
+/// `NotEnabled`: the worker has no evaluation of the namespace, or may not finish yet. Then `Foreign`: the plan is of another
+/// snapshot than the worker keeps. Then `NotEnabled`: the plan does something and was not submitted. Then `Full`: the
+/// namespace's index is at its bound, or a follower is made and the number of the namespace's evaluations is at its bound.
+/// The premises hold in each valid world: the worker's evaluation exists and is pending, its number is one that was given, and
 /// no counter has passed its bound. It costs a comparison of two snapshots and, for a follower, a look at the nodes of one
-/// and at the classes that its pool released.
+/// snapshot and at the classes that its pool released.
 pub fn finish(
     tables: &Tables,
     number: u64,

@@ -1,4 +1,4 @@
-//! The follower of an evaluation.
+//! The follower of an evaluation, which is its follow-up evaluation.
 
 ghost use Rattle.std.specs.Prelude.{◌≡◌, None, IfOk, if◌then◌else◌};
 ghost use Rattle.ns_followers.specs.Following.{follower_for, limiting};
@@ -9,7 +9,7 @@ use ns_types::snapshot::Snapshot;
 use ns_types::text::Text;
 use std::alloc::{AllocError, Global};
 
-/// The name of the snapshot's quota, where that ended placing and the tries are not used up.
+/// The name of the snapshot's quota, if there is one and it limits the follower.
 fn limiting(kept: &Snapshot, limited: bool) -> Result<Option<Text>, AllocError>
     ensures { IfOk result (λ name. name ≡ limiting kept.now limited) }
 {
@@ -29,8 +29,8 @@ fn trigger_for(failed: bool) -> Trigger
     }
 }
 
-/// The follower of the evaluation under that number, as it would be blocked: what kept allocations from being placed in
-/// the snapshot. After a failure it escapes classes, and no quota limits it.
+/// The follower of the evaluation with that number, as a blocked evaluation. It remembers what kept allocations from being
+/// placed in the snapshot. After a failure it escapes classes, and no quota limits it. Want of memory is the only error.
 pub fn follower(
     alloc: Global,
     row: &Evaluation,

@@ -2,12 +2,12 @@
 
 ghost use Rattle.ns_followers.specs.Finishing.{RefusedIsNotEnabled, SoundHasPendingWork};
 
-/// In a valid world a worker's evaluation is pending, under a number that was given.
+/// In a valid world a worker's evaluation is pending, and its number is one that was given.
 pub fn sound_has_pending_work()
     ensures { SoundHasPendingWork }
 {}
 
-/// A finish that is refused with `NotEnabled` is that of a step that is not enabled.
+/// If a finish is refused with `NotEnabled`, the model's step is not enabled.
 pub fn refused_is_not_enabled()
     ensures { RefusedIsNotEnabled }
 {}

@@ -28,7 +28,7 @@ fn number_of(releases: &[(Class, u64)], class: &Class) -> Option<u64>
     None
 }
 
-/// Whether that class was released since `seen`, and the evaluation can use it.
+/// Whether the class of this release was released after the number `seen`, and the evaluation can use it.
 fn is_new(
     releases: &[(Class, u64)],
     seen: u64,
@@ -54,7 +54,7 @@ fn any_new(releases: &[(Class, u64)], seen: u64, evaluation: &Evaluation) -> boo
         .any(|release| is_new(releases, seen, evaluation, release))
 }
 
-/// Whether a class that the evaluation can use was released in its pool since `seen`.
+/// Whether a class that the evaluation can use was released in its pool after the number `seen`.
 fn missed_room(tables: &Tables, seen: u64, evaluation: &Evaluation) -> bool
     ensures { result ≡ missed_room (world_of tables.now) seen evaluation.now }
 {
@@ -64,7 +64,7 @@ fn missed_room(tables: &Tables, seen: u64, evaluation: &Evaluation) -> bool
     }
 }
 
-/// The number of the quota's last release as the snapshot has it.
+/// The number of the quota's last release in the snapshot; zero if the snapshot has no quota.
 fn release_seen(kept: &Snapshot) -> u64
     ensures { result ≡ option_map_or (λ q. q.release) kept.now.quota 0 }
 {
@@ -74,7 +74,7 @@ fn release_seen(kept: &Snapshot) -> u64
     }
 }
 
-/// The number of the quota's last release.
+/// The number of the quota's last release; zero if there is no such quota.
 fn release_of(tables: &Tables, quota: &Text) -> u64
     ensures { let quotas = (world_of tables.now).quotas in
         result ≡ option_map_or (λ q. q.release) (get quotas quota.now) 0 }

@@ -9,7 +9,7 @@ use Rattle.ns_http.specs.Input.{unread}
 use Rattle.ns_http.specs.Waiting.{waiting}
 use Rattle.ns_http.specs.Steps.{Steps, Advances, CutsShort}
 
--- one step
+-- one step of the connection
 abbrev pub MakesStep :
     {S W A : Type 0} → (S → Asked → Rendered → S → Type 0) → (W → Option (List ℕ)) → S → S
     → Counted W → Counted W → Connection A → Connection A → Progress → Type 0
@@ -24,7 +24,7 @@ abbrev pub CutsStepShort :
 CutsStepShort answers contents s s' writer writer' old =
     CutsShort answers s s' (unread old.input) (contents writer.inner) (contents writer'.inner) (waiting old.output)
 
--- all steps until more bytes are needed, with nothing left waiting
+-- all steps until more bytes are needed or the connection closes, with no reply left waiting
 abbrev pub AnswersAll :
     {S W A : Type 0} → (S → Asked → Rendered → S → Type 0) → (W → Option (List ℕ)) → S → S
     → Counted W → Counted W → Connection A → Connection A → Option ℕ → Type 0
@@ -32,7 +32,7 @@ AnswersAll answers contents s s' writer writer' old new wanted =
     Advances answers s s' (unread old.input) (unread new.input) (contents writer.inner) (contents writer'.inner)
     old.answered new.answered wanted
 
--- the same, where the writer failed
+-- all steps up to one in which the writer failed
 abbrev pub CutsAnswersShort :
     {S W A : Type 0} → (S → Asked → Rendered → S → Type 0) → (W → Option (List ℕ)) → S → S
     → Counted W → Counted W → Connection A → Type 0

@@ -1,4 +1,4 @@
--- What a connection reads, has answered and writes.
+-- What a connection reads, what its handler answers, and what is written.
 use Rattle.std.specs.Prelude.{◌≡◌, ℕ, ◌⊎◌, Bool, false, List, map, Option, IsTrue, ⊤}
 use Rattle.std.specs.Io.KnownBytes.{Consumes, Appends, IsAtEnd}
 use Rattle.ns_types.specs.Wire.Http.{Asked, Received, Takes, End, Clean, Partial, Closed, is_closed, Requests}

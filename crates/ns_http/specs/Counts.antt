@@ -10,11 +10,11 @@ use Rattle.ns_http.specs.declared.engine.TheConstants.{READ_LIMIT}
 use Rattle.ns_http.specs.declared.input.TheConstants.{READ_ROOM}
 use Rattle.ns_http.specs.declared.output.TheConstants.{INTERRUPTION_LIMIT}
 
--- a count up to the greatest `u64`
+-- the count and `n` more; it stops at the greatest `u64`
 abbrev pub more : ℕ → ℕ → ℕ
 more count n = min (count + n) (2 ^ 64 - 1)
 
--- one more, if so
+-- the count, and one more if `counted`
 abbrev pub more_if : Bool → ℕ → ℕ
 more_if counted count = if counted then more count 1 else count
 
@@ -67,7 +67,7 @@ after_read c room result = record (after_call c (is_interrupted_call result) (is
   went_on = c.went_on || (c.ended || c.broken);
 }
 
--- the write failed, or took no byte of some
+-- the write failed, or took none of its bytes
 abbrev pub is_lost : Bool → Result ℕ Error → Bool
 is_lost has_bytes result = is_break result || (is_empty_call result && has_bytes)
 
@@ -77,32 +77,33 @@ after_write c has_bytes result = record (after_call c (is_interrupted_call resul
   went_on = c.went_on || c.broken;
 }
 
--- one read, which was given room for so many bytes at least
+-- one read was counted, which had room for at least `READ_ROOM` bytes
 pub record CountsRead (old new : Counts) (result : Result ℕ Error) : Type 0 where
   pub room : ℕ
   pub wide : READ_ROOM ≤ room
   pub counts : new ≡ after_read old room result
 
--- No call found the end, failed otherwise than by interruption, or took no byte of some.
+-- No call found the end or failed otherwise than by interruption, and no write took none of its bytes.
 pub record IsOpen (c : Counts) : Type 0 where
   pub ended : c.ended ≡ false
   pub broken : c.broken ≡ false
   pub went_on : c.went_on ≡ false
 
--- neither count of failed calls fell
+-- neither the count of faults nor the count of interruptions fell
 pub record HasGrown (old new : Counts) : Type 0 where
   pub faults : old.faults ≤ new.faults
   pub interruptions : old.interruptions ≤ new.interruptions
 
--- a call failed otherwise than by interruption, or a write took no byte of some: that count rose, or is the greatest
+-- a call failed otherwise than by interruption, or a write took none of its bytes: the count of faults rose, or is the greatest
+-- `u64`
 abbrev pub HasFailed : Counts → Counts → Type 0
 HasFailed old new = (old.faults < new.faults) ⊎ (new.faults ≡ 2 ^ 64 - 1)
 
--- there were so many reads as one connection may make, or the count is the greatest
+-- there were as many reads as one connection may make, or the count is the greatest `u64`
 abbrev pub IsReadOut : Counts → Counts → Type 0
 IsReadOut old new = (old.calls + READ_LIMIT ≤ new.calls) ⊎ (new.calls ≡ 2 ^ 64 - 1)
 
--- more calls were interrupted than are made again, or the count is the greatest
+-- more calls were interrupted than may be made again, or the count is the greatest `u64`
 abbrev pub IsInterruptedOut : Counts → Counts → Type 0
 IsInterruptedOut old new =
     (old.interruptions + INTERRUPTION_LIMIT < new.interruptions) ⊎ (new.interruptions ≡ 2 ^ 64 - 1)

@@ -6,7 +6,7 @@ use Rattle.ns_types.specs.Wire.Responses.{wire, phrase, content_type}
 use Rattle.ns_http.specs.declared.counting.Counted.{Counted}
 use Rattle.ns_http.specs.declared.response.Outgoing.{Outgoing}
 
--- the bytes that a response shows
+-- the status, index and text of a response
 abbrev pub rendered_by : Outgoing → Rendered
 rendered_by r = record { status = r.status; index = r.index; body = r.body.now }
 
@@ -23,7 +23,7 @@ abbrev pub Queues : Option (List ℕ) → Option (List ℕ) → List ℕ → Lis
 Queues old new waiting waiting' bytes = (written : List ℕ) × Appends old new written ×
     (waiting ++ bytes ≡ written ++ waiting')
 
--- the same of a counted writer: one write of these bytes, all of them, and a first part
+-- for a counted writer: one write of these bytes was made, all of them were written, or a first part of them was
 abbrev pub WritesTo : {W E : Type 0} → (W → Option (List ℕ)) → Counted W → Counted W → Result ℕ E → List ℕ → Type 0
 WritesTo contents old new result bytes = WriteAppends (contents old.inner) (contents new.inner) result bytes
 

@@ -7,7 +7,7 @@ use Rattle.ns_http.specs.declared.counting.Counted.{Counted}
 abbrev pub ReadsFrom : {R E : Type 0} → (R → Option (List ℕ)) → Counted R → Counted R → Result ℕ E → List ℕ → Type 0
 ReadsFrom remaining old new result bytes = ReadConsumes (remaining old.inner) (remaining new.inner) result bytes
 
--- so many bytes were read, and stand behind those before
+-- `n` bytes were read, and stand behind the bytes that were there before
 abbrev pub Gains : {R : Type 0} → (R → Option (List ℕ)) → Counted R → Counted R → List ℕ → List ℕ → ℕ → Type 0
 Gains remaining old new before after n =
     (more : List ℕ) × (length more ≡ n) × (after ≡ before ++ more)

@@ -9,7 +9,7 @@ use Rattle.ns_http.specs.Head.{Waits}
 use Rattle.ns_http.specs.Conversation.{Serves}
 use Rattle.ns_http.specs.Output.{WritesSome, Queues}
 
--- these exchanges were made from the first input to the second, and their replies written
+-- these exchanges used the input up to `rest`, and their replies were written
 pub record Makes
     {S : Type 0} (answers : S → Asked → Rendered → S → Type 0) (old new : S) (input rest : List ℕ)
     (before after : Option (List ℕ)) (answered answered' : ℕ) (exchanges : List Exchange) (closed : Bool) : Type 0 where
@@ -17,7 +17,7 @@ pub record Makes
   pub writes : Appends before after (wires exchanges)
   pub count : answered' ≡ answered + length exchanges
 
--- the same, where replies may wait
+-- these exchanges used the input up to `rest`, and their replies were written or wait
 pub record Queued
     {S : Type 0} (answers : S → Asked → Rendered → S → Type 0) (old new : S) (input rest : List ℕ)
     (before after : Option (List ℕ)) (waiting waiting' : List ℕ) (answered answered' : ℕ)
@@ -26,8 +26,8 @@ pub record Queued
   pub writes : Queues before after waiting waiting' (wires exchanges)
   pub count : answered' ≡ answered + length exchanges
 
--- the input is those exchanges and then the new input, which waits for so many bytes, or the last of them closed the
--- connection
+-- The whole requests of the input were answered. Then the new input waits for `wanted` bytes, or the last request closed the
+-- connection.
 abbrev pub Advances :
     {S : Type 0} → (S → Asked → Rendered → S → Type 0) → S → S → List ℕ → List ℕ
     → Option (List ℕ) → Option (List ℕ) → ℕ → ℕ → Option ℕ → Type 0
@@ -39,7 +39,7 @@ Advances answers old new input input' before after answered answered' (Some want
     × Makes answers old new input input' before after answered answered' exchanges false
     × Waits input' wanted × (answered' + length input' < answered + length input + 1)
 
--- one step
+-- what one step did
 abbrev pub Steps :
     {S : Type 0} → (S → Asked → Rendered → S → Type 0) → S → S → List ℕ → List ℕ
     → Option (List ℕ) → Option (List ℕ) → List ℕ → List ℕ → ℕ → ℕ → Progress → Type 0

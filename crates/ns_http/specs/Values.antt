@@ -11,7 +11,7 @@ IsSummaryOf Absent values = values ≡ []
 IsSummaryOf (One v) values = values ≡ v.now ∷ []
 IsSummaryOf (Several v) values = (w : List ℕ) × (others : List (List ℕ)) × (values ≡ v.now ∷ w ∷ others)
 
--- `body_len_of`, by what is kept of the values
+-- the length of the body by `body_len_of`, from what is kept of the values
 abbrev pub framing_of : HeaderValues → HeaderValues → Result ℕ HeadFault
 framing_of Absent Absent = Ok 0
 framing_of (One v) Absent = length_of v.now

@@ -14,7 +14,7 @@ pub struct Counts {
     least_room: u64,
     // A read that had room gave no byte.
     ended: bool,
-    // A call failed otherwise than by interruption, or a write took no byte of some.
+    // A call failed otherwise than by interruption, or a write took none of its bytes.
     broken: bool,
     // A read came after the end, or a call after such a failure.
     went_on: bool,
@@ -28,7 +28,7 @@ impl Counts {
         self.calls
     }
 
-    /// How many calls failed otherwise than by interruption. A write that took no byte of some is
+    /// How many calls failed otherwise than by interruption. A write that took none of its bytes is
     /// one of them.
     pub fn faults(self) -> u64
         ensures { result ≡ self.faults }
@@ -43,7 +43,7 @@ impl Counts {
         self.interruptions
     }
 
-    /// The least room that a read was given, in bytes: the greatest number where there was no read.
+    /// The least room that a read was given, in bytes; the greatest `u64` where there was no read.
     pub fn least_room(self) -> u64
         ensures { result ≡ self.least_room }
     {
@@ -57,7 +57,7 @@ impl Counts {
         self.ended
     }
 
-    /// Whether a call failed otherwise than by interruption, or a write took no byte of some.
+    /// Whether a call failed otherwise than by interruption, or a write took none of its bytes.
     pub fn broken(self) -> bool
         ensures { result ≡ self.broken }
     {
@@ -102,7 +102,7 @@ pub struct Counted<T> {
 }
 
 impl<T> Counted<T> {
-    /// Nothing was counted yet.
+    /// Wraps a reader or a writer. Nothing is counted yet.
     pub fn new(inner: T) -> Counted<T>
         ensures inner { result.inner ≡ inner }
         ensures counts { result.counts ≡ no_counts }
@@ -161,7 +161,7 @@ impl<R: Read> Counted<R> {
 impl<W: Write> Counted<W> {
     ghost use Rattle.ns_http.specs.Output.{WritesTo};
 
-    /// One write. To take no byte of some is a fault.
+    /// One write. It is a fault if the writer takes none of the bytes.
     pub(crate) fn write(&mut self, buf: &[u8]) -> io::Result<usize>
         ensures bound { WritesAtMost result buf.now }
         ensures bytes { WritesTo W.contents self.old self.new result buf.now }

@@ -23,10 +23,10 @@ pub enum ConnFault {
     /// The reader failed, or ended inside a request, or the reads ran out.
     #[error("read fault")]
     Read,
-    /// The writer failed, took no byte of some, or was interrupted too often.
+    /// The writer failed, took none of the bytes, or was interrupted too often.
     #[error("write fault")]
     Write,
-    /// There is no memory for the buffers. Nothing was read, asked or written.
+    /// There is no memory for the buffers. Nothing was read, answered or written.
     #[error("out of memory")]
     Memory,
 }
@@ -64,7 +64,7 @@ pub trait Answer {
     // From the first state, the reply answers the request and leaves the second state.
     ghost answers: { Self → Asked → Rendered → Self → Type 0 };
 
-    /// Where the texts of the replies lie.
+    /// The allocator of the replies' texts.
     type A: Allocator;
 
     /// Answers one request. The request lends the connection's buffer.
@@ -79,7 +79,7 @@ enum Progress {
     Answered,
     /// A request was answered, and the connection closes.
     Closed,
-    /// No whole request is there, and none before there are so many bytes.
+    /// No request is whole yet, and none will be before there are this many bytes.
     Waits(usize),
 }
 
@@ -137,8 +137,8 @@ impl<A: Allocator> Connection<A> {
         }
     }
 
-    /// Answers each whole request that was read, sends the replies, and says how many bytes the
-    /// next one takes at least. It says nothing once the connection closes.
+    /// Answers each whole request that was read, and sends the replies. Returns how many bytes the
+    /// next request takes at least, or none once the connection closes.
     fn advance<W: Write, H: Answer>(
         &mut self,
         writer: &mut Counted<W>,
@@ -173,20 +173,20 @@ impl<A: Allocator> Connection<A> {
     }
 }
 
-/// Answers the requests of a connection, one after the other and in order, and says how many there
-/// were.
+/// Answers the requests of a connection, one after the other and in order, and returns how many it
+/// answered.
 ///
 /// It reads at most `READ_LIMIT` times, with room for `READ_ROOM` bytes each time, and takes memory
 /// only before the first read. It ends well where the input ends between two requests, or after a
-/// request that closes the connection. Heads that are refused it answers itself. An interrupted read
-/// is made again, and so are `INTERRUPTION_LIMIT` interrupted writes of one text.
+/// request that closes the connection. It answers refused heads itself. An interrupted read is made
+/// again, and so are `INTERRUPTION_LIMIT` interrupted writes of one text.
 ///
 /// # Errors
 ///
-/// `Read` where the reader failed, the input ended inside a request, or the reads ran out: the whole
-/// requests before it are answered. `Write` where the writer failed, or was interrupted more than
-/// `INTERRUPTION_LIMIT` times: a first part of the replies is written. `Memory` where there is none
-/// for the buffers. A call that was interrupted did not fail.
+/// `Read` where the reader failed, the input ended inside a request, or the reads ran out: the
+/// whole requests before it are answered. `Write` where the writer failed, or was interrupted more
+/// than `INTERRUPTION_LIMIT` times: a first part of the replies is written. `Memory` where there is
+/// no memory for the buffers. A call that was interrupted did not fail.
 pub fn serve<A: Allocator + Copy, R: Read, W: Write, H: Answer>(
     alloc: A,
     reader: &mut Counted<R>,
@@ -212,7 +212,7 @@ pub fn serve<A: Allocator + Copy, R: Read, W: Write, H: Answer>(
     // no write one that failed so.
     ensures stops { IsOpen reader.old.counts → reader.new.counts.went_on ≡ false }
     ensures write_stops { IsOpen writer.old.counts → writer.new.counts.went_on ≡ false }
-    // And such a failure is the fault that is named.
+    // After such a failure the error is that fault.
     ensures broken { IsOpen reader.old.counts → IsTrue reader.new.counts.broken
         → result ≡ Err ConnFault.Read }
     ensures write_broken { IsOpen writer.old.counts → IsTrue writer.new.counts.broken

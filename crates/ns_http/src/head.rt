@@ -36,7 +36,7 @@ pub(crate) enum Front<'a> {
         close: bool,
     },
     Refused(HeadFault),
-    /// No whole request, and none before there are so many bytes.
+    /// No request is whole yet, and none will be before there are this many bytes.
     Partial(usize),
 }
 
@@ -70,7 +70,7 @@ fn with_body<'a>(
     }
 }
 
-/// What the bytes begin with.
+/// Reads what stands at the front of the bytes.
 pub(crate) fn read_front(bytes: &[u8]) -> Front<'_>
     ensures { Finds bytes.now result }
 {

@@ -1,4 +1,4 @@
-//! What the engine reads of a head's fields.
+//! Reads what the engine needs of a head's fields.
 ghost use Rattle.std.specs.Prelude.{◌≡◌, ℕ, List, [], ◌∷◌, ◌++◌, All, length, map, reverse};
 ghost use Rattle.std.specs.Option.{option_copied};
 ghost use Rattle.httparse.specs.Grammar.{skip_ows, trim_ows};
@@ -25,7 +25,7 @@ pub(crate) enum HeaderValues<'a> {
 impl<'a> HeaderValues<'a> {
     ghost use Rattle.ns_http.specs.Values.{IsSummaryOf};
 
-    /// The same with one more value.
+    /// The values with this one behind them.
     fn and(self, value: &'a [u8]) -> HeaderValues<'a>
         ensures { (values : List (List ℕ)) → IsSummaryOf self.entry values
             → IsSummaryOf result (values ++ value.now ∷ []) }
@@ -112,7 +112,8 @@ fn is_length(digits: &[u8]) -> bool
     !digits.is_empty() && digits.len() <= 20 && digits.iter().all(|b| b.is_ascii_digit())
 }
 
-/// The number that the value writes, where it is no more than a body may have.
+/// The number that the value writes. The value is refused if it is not a number, or more than a
+/// body may have.
 fn parse_len(digits: &[u8]) -> Result<usize, HeadFault>
     ensures { result ≡ length_of digits.now }
 {

@@ -11,10 +11,10 @@ use std::io::{self, Read};
 /// Room for the longest request.
 pub(crate) const INPUT_LEN: usize = 16_384 + 1_048_576;
 
-/// What each read has room for at least, in bytes.
+/// The least room of each read, in bytes.
 pub const READ_ROOM: usize = 65_536;
 
-/// Room for the longest request, and behind all of it but a byte still for a read.
+/// Room for the longest request, and for a read behind it.
 const BUFFER_LEN: usize = INPUT_LEN + READ_ROOM;
 
 /// Reads once into the bytes from `end` on.
@@ -87,7 +87,7 @@ impl<A: Allocator> Input<A> {
         }
     }
 
-    /// Sees that there is room behind the unread bytes.
+    /// Makes room for a read behind the unread bytes.
     fn make_room(&mut self)
         requires { length (unread self.old) < INPUT_LEN }
         ensures start { self.new.start ≡ 0 }

@@ -1,4 +1,4 @@
-//! Reads the requests of a connection, has them answered, and writes the responses in order.
+//! Reads the requests of a connection, has a handler answer them, and writes the responses in order.
 #![tactic(auto)]
 
 mod counting;

@@ -1,4 +1,4 @@
-//! Responses as bytes.
+//! Writes responses as bytes.
 ghost use Rattle.std.specs.Prelude.{◌≡◌, ◌<◌, ◌≤◌, ◌+◌, [], ◌++◌, length, IfOk, OnOk, OnErr, vec_len, vec_capacity, decimal, false};
 ghost use Rattle.ns_types.specs.Wire.Responses.{index_line, close_line, response_head};
 ghost use Rattle.ns_http.specs.Counts.{HasGrown, IsOpen, IsWriteFault};
@@ -13,7 +13,7 @@ use std::io::Write;
 /// Room for the longest head of a response, and for a short body behind it.
 pub(crate) const OUTPUT_LEN: usize = 65_536;
 
-/// What a head of a response takes at most.
+/// The most bytes that the head of a response takes.
 const MAX_RESPONSE_HEAD: usize = 512;
 
 /// How many interrupted writes of one text are made again.
@@ -45,7 +45,7 @@ pub fn write_all<W: Write>(writer: &mut Counted<W>, bytes: &[u8]) -> Result<(), 
     Ok(())
 }
 
-/// The writer failed, took no byte of some, or was interrupted too often.
+/// The writer failed, took none of the bytes, or was interrupted too often.
 #[derive(Clone, Copy, Debug, PartialEq, Eq)]
 pub struct WriteFault;
 
@@ -105,7 +105,7 @@ impl<A: Allocator> Output<A> {
         }
     }
 
-    /// The head up to the media type. That of what succeeded is written at once.
+    /// Writes the head up to the media type. For status 200 it is one piece.
     fn put_front(&mut self, status: u16)
         requires { vec_len self.old.bytes + 160 ≤ OUTPUT_LEN }
         ensures value { self.new.bytes.items ≡ self.old.bytes.items ++ response_front status }
@@ -175,7 +175,7 @@ impl<A: Allocator> Output<A> {
         Ok(())
     }
 
-    /// Adds a response to what waits, and sends what has no room.
+    /// Adds a response to those that wait, and sends what the buffer has no room for.
     pub(crate) fn send<W: Write>(
         &mut self,
         writer: &mut Counted<W>,

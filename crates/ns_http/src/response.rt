@@ -1,4 +1,4 @@
-//! A response with its text lent, and the parts of its head that the status decides.
+//! A response that borrows its text, and the parts of its head that the status decides.
 ghost use Rattle.std.specs.Prelude.{◌≡◌, ◌≤◌, length};
 ghost use Rattle.ns_types.specs.Wire.Refused.{refused};
 ghost use Rattle.ns_types.specs.Wire.Responses.{phrase, content_type, rendered_of, fault_refusal, refusal_of};
@@ -8,7 +8,7 @@ use ns_types::refusal::Refusal;
 use ns_types::reply::{HeadFault, Response};
 use std::alloc::Allocator;
 
-/// A response whose text is lent.
+/// A response that borrows its text.
 #[derive(Clone, Copy)]
 pub(crate) struct Outgoing<'a> {
     pub(crate) status: u16,
@@ -17,7 +17,7 @@ pub(crate) struct Outgoing<'a> {
 }
 
 impl<'a> Outgoing<'a> {
-    /// What the handler answered.
+    /// The response of the handler.
     pub(crate) fn of<A: Allocator>(response: &'a Response<A>) -> Outgoing<'a>
         ensures { rendered_by result ≡ rendered_of response.now }
     {
@@ -42,7 +42,7 @@ impl<'a> Outgoing<'a> {
         }
     }
 
-    /// What the engine itself answers to such a head.
+    /// The engine's own response to a head with this fault.
     pub(crate) fn fault(fault: HeadFault) -> Outgoing<'static>
         ensures { rendered_by result ≡ refusal_of fault }
     {
@@ -50,7 +50,7 @@ impl<'a> Outgoing<'a> {
     }
 }
 
-/// The refusal of a head.
+/// The refusal of a head with this fault.
 fn fault_refusal(fault: HeadFault) -> Refusal
     ensures { result ≡ fault_refusal fault }
 {

@@ -1,4 +1,4 @@
-//! An input, read to its end.
+//! Reads an input to its end.
 ghost use Rattle.std.specs.Prelude.{◌≡◌, ◌≢◌, ◌+◌, ◌≤◌, IfOk, IsErrOf, IsTrue, false};
 ghost use Rattle.ns_http.specs.Counts.{IsOpen};
 ghost use Rattle.ns_http.specs.Whole.{FailsToRead, ReadsAll};
@@ -9,21 +9,22 @@ use crate::input::READ_ROOM;
 use std::alloc::Global;
 use std::io::Read;
 
-/// Reads to the end of the input, and gives all of it.
+/// Reads to the end of the input, and returns all of its bytes.
 ///
 /// It reads at most `READ_LIMIT` times, with room for `READ_ROOM` bytes each time. An interrupted
 /// read is made again.
 ///
 /// # Errors
 ///
-/// `Read` where the reader failed, or the reads ran out. `Memory` where there is none for the bytes.
+/// `Read` where the reader failed, or the reads ran out. `Memory` where there is no memory for the
+/// bytes.
 pub fn read_to_end<R: Read>(alloc: Global, reader: &mut Counted<R>) -> Result<Vec<u8>, ConnFault>
     ensures ok { IfOk result (λ bytes. ReadsAll R.remaining reader.old reader.new bytes.items) }
     ensures read { IsErrOf result ConnFault.Read
         → FailsToRead reader.old.counts reader.new.counts }
     ensures no_write { result ≢ Err ConnFault.Write }
-    // No read follows one that found the end, or that failed otherwise than by interruption, and
-    // such a failure is named.
+    // No read follows one that found the end, or that failed otherwise than by interruption. After
+    // such a failure the error is `Read`.
     ensures stops { IsOpen reader.old.counts → reader.new.counts.went_on ≡ false }
     ensures broken { IsOpen reader.old.counts → IsTrue reader.new.counts.broken
         → result ≡ Err ConnFault.Read }

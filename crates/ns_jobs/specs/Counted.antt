@@ -1,4 +1,4 @@
--- The counters that a step raises in a namespace, and what it is where one of them is at its bound.
+-- The counters that a step raises in a namespace, and its refusal if one of them is at its bound.
 use Rattle.std.specs.Prelude.{◌≡◌, ◌+◌, ◌≤◌, Bool, true, false, ◌||◌, Option, Some, None, nat_lt}
 use Rattle.std.specs.Option.{option_map_or}
 use Rattle.std.specs.FinMap.{get}
@@ -19,20 +19,20 @@ use Rattle.ns_jobs.specs.declared.making.Numbers.{Numbers}
 abbrev pub passes_bound : Tenant → Bool
 passes_bound t = nat_lt greatest (t.index + 1) || nat_lt greatest (t.evaluation_number + 1)
 
--- a namespace that is not there has no counters
+-- a counter of the namespace would pass its bound; a namespace that is not there has no counters
 abbrev pub passes_in : World → Name → Bool
 passes_in w ns = option_map_or passes_bound (get w.tenants ns) false
 
--- where a counter would pass its bound, what would be done is refused, after all else
+-- what would be done is refused as `Full` if a counter would pass its bound; this refusal comes after all others
 abbrev pub counted : Bool → Outcome World → Outcome World
 counted true (Done content w) = Refused Refusal.Full
 counted passes outcome = outcome
 
--- what is asked, with an evaluation to be made
+-- the outcome of a command that makes an evaluation, with that refusal
 abbrev pub counted_ask : Name → AskCommand → World → Outcome World
 counted_ask ns command w = counted (passes_in w ns) (ask ns command w)
 
--- the numbers that come next, and they can be given
+-- these are the next numbers, and neither passes its bound
 pub record IsNext (t : Tenant) (numbers : Numbers) : Type 0 where
   pub fits : passes_bound t ≡ false
   pub evaluation : numbers.evaluation ≡ t.evaluation_number + 1
@@ -49,10 +49,10 @@ HasFewVersions t = (id : Name) (job : Job) → get t.jobs id ≡ Some job → jo
 abbrev pub HasFewVersionsIn : World → Name → Type 0
 HasFewVersionsIn w ns = (t : Tenant) → get w.tenants ns ≡ Some t → HasFewVersions t
 
--- ---- what settling makes of it
+-- ---- the bounds once the step has settled
 
--- Where nothing stands yet under the number of the namespace's next evaluation: a step that makes one, with a counter
--- of the namespace at its bound, is past the bound once it has settled.
+-- If there is no evaluation yet with the namespace's next number: a step that makes one, while a counter of the namespace is
+-- at its bound, is past the bound once it has settled.
 abbrev pub CountingIsSettling : Type 0
 CountingIsSettling = (w : World) (ns : Name) (command : AskCommand) (t : Tenant) (content : Content) (x : World)
     → only_reads command ≡ false → get w.tenants ns ≡ Some t → get t.evaluations (t.evaluation_number + 1) ≡ None
@@ -63,7 +63,8 @@ writes_jobs (AskCommand.Register r) = true
 writes_jobs (AskCommand.Deregister id purge) = true
 writes_jobs _ = false
 
--- A registration or a deregistration that passes no counter of its namespace passes no bound at all.
+-- A registration or a deregistration by which no counter of its namespace passes its bound takes no counter at all past its
+-- bound.
 abbrev pub JobsPassNothingElse : Type 0
 JobsPassNothingElse = (w : World) (ns : Name) (command : AskCommand) (t : Tenant) (content : Content) (x : World)
     → writes_jobs command ≡ true → get w.tenants ns ≡ Some t → is_past_bound w ≡ false → passes_bound t ≡ false

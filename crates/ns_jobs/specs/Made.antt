@@ -1,4 +1,4 @@
--- What is prepared for a job, with an evaluation of it.
+-- Changes of a job or an allocation, with the evaluation that is made.
 use Rattle.std.specs.Prelude.{ℕ, ◌+◌, Bool, false, not, Option}
 use Rattle.std.specs.Option.{option_map_or}
 use Rattle.std.specs.FinMap.{get}
@@ -15,20 +15,20 @@ use Rattle.ns_types.specs.Settling.Outcome.{Outcome, Done}
 use Rattle.ns_types.specs.State.Names.{Name}
 use Rattle.ns_types.specs.State.Rows.{World, Tenant}
 
--- the namespace changes so, and then the evaluation is made
+-- f changes the namespace, and then the evaluation is made
 abbrev pub with_made : Name → (Tenant → Tenant) → Evaluation → World → World
 with_made ns f e w = make ns (λ _. e) (change_tenant ns f w)
 
 -- ---- stopping an allocation
 
--- one that is live
+-- the outcome of stopping a live allocation
 abbrev pub stopped_with : Name → ℕ → World → Tenant → Allocation → Outcome World
 stopped_with ns n w t a = Done (Content.Stopped (t.evaluation_number + 1) (t.index + 1))
     (make_in ns (evaluation_for t a Trigger.AllocStop) w (with_desired n DesiredStatus.Stop t))
 
 -- ---- registration
 
--- the stored job has not the index that is demanded
+-- the stored job does not have the index that is demanded
 abbrev pub misses : Option ℕ → Option Job → Bool
 misses enforced old = option_map_or (λ index. not (meets old index)) enforced false
 

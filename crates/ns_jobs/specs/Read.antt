@@ -1,4 +1,4 @@
--- What a read in a namespace says.
+-- The replies to reads in a namespace.
 use Rattle.std.specs.Prelude.{◌≡◌, ℕ, Bool, true, false, List, Option, Some, Result, filter, map}
 use Rattle.keyed.specs.Table.{row_list}
 use Rattle.ns_types.specs.declared.allocation.Allocation.{Allocation}
@@ -31,25 +31,25 @@ only_reads (AskCommand.Deregister id purge) = false
 only_reads (AskCommand.StopAllocation n) = false
 only_reads _ = true
 
--- what is said, or why not, and the tables are as they were
+-- the reply to the command, or its refusal; the tables are as they were
 abbrev pub Reads : Name → AskCommand → Tables → Result Content Refusal → Type 0
 Reads ns command t result = Changes (ask ns command (world_of t)) (world_of t) result (world_of t)
 
--- of a namespace with these rows
+-- the reply to the command in a namespace with these rows, or its refusal
 abbrev pub ReadsIn : Name → AskCommand → World → TenantRows → Result Content Refusal → Type 0
 ReadsIn ns command w x result = Changes (asked_in ns command w (tenant_of x)) w result w
 
--- whatever else there is
+-- the same reply in every world: it depends on the namespace's rows alone
 abbrev pub SaysIn : Name → AskCommand → TenantRows → Result Content Refusal → Type 0
 SaysIn ns command x result = (w : World) → ReadsIn ns command w x result
 
 -- ---- lists
 
--- the jobs of the slots whose ids begin so
+-- the jobs of the slots whose ids begin with the prefix, as replies show them
 abbrev pub jobs_shown : Name → Name → Tenant → List (Name × Option Job) → List JobShown
 jobs_shown ns prefix t slots = map (λ e. job_shown ns t e.0 e.1) (filter (λ e. begins_with prefix e.0) (row_list slots))
 
--- which evaluations a command lists: those of a job, or those whose ids begin so
+-- which evaluations a command lists: those of a job, or those whose ids begin with a prefix
 abbrev pub lists_evaluation : AskCommand → EvaluationShown → Bool
 lists_evaluation (AskCommand.JobEvaluations job) e = same_name job e.row.job
 lists_evaluation (AskCommand.ListEvaluations prefix) e = begins_with prefix (id_text IdKind.Evaluation e.number)
@@ -67,11 +67,11 @@ abbrev pub allocation_shown : Name → ℕ → Allocation → AllocationShown
 allocation_shown ns n a = record { namespace = ns; number = n; row = a }
 
 module _ {X Shown : Type 0} (as_shown : Name → ℕ → X → Shown) (is_listed : AskCommand → Shown → Bool) where
-  -- the rows of the slots that a command lists
+  -- the rows of the slots that a command lists, as replies show them
   abbrev pub rows_shown : Name → AskCommand → List (ℕ × Option X) → List Shown
   rows_shown ns command slots = filter (is_listed command) (map (λ e. as_shown ns e.0 e.1) (row_list slots))
 
-  -- it lists none but rows of the job
+  -- the command lists only rows of the job
   abbrev pub IsAmongThoseOf : (X → Option Name) → AskCommand → Name → Type 0
   IsAmongThoseOf job_of command job =
       (ns : Name) (n : ℕ) (x : X) → is_listed command (as_shown ns n x) ≡ true

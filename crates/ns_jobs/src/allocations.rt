@@ -64,7 +64,7 @@ impl Listed for Allocation {
     }
 }
 
-/// What the read of an allocation says.
+/// The reply to the read of an allocation. `NotFound`: the namespace has no such allocation.
 pub(crate) fn read_allocation(
     namespace: &Text,
     tenant: &TenantRows,
@@ -79,7 +79,7 @@ pub(crate) fn read_allocation(
     Ok(Content::Allocation(shown))
 }
 
-/// What a list of allocations says.
+/// The reply to a list of allocations.
 pub(crate) fn list_allocations(
     alloc: Global,
     namespace: &Text,

@@ -1,4 +1,4 @@
-//! A job that is stopped, or removed.
+//! The deregistration of a job, which stops or removes it.
 
 ghost use Rattle.std.specs.Prelude.{◌≡◌, ◌+◌, IfOk, Some, false, true};
 ghost use Rattle.keyed.specs.Table.{row_at};
@@ -31,7 +31,7 @@ fn stopped_job(index: u64, job: &Job) -> Result<Job, AllocError>
     Ok(stopped)
 }
 
-/// What a deregistration answers and changes that stops the job.
+/// The reply and the change of a deregistration that stops the job.
 fn stopped(
     tables: &Tables,
     namespace: &Text,
@@ -60,7 +60,7 @@ fn stopped(
     prepare(content, change, made)
 }
 
-/// What a deregistration answers and changes that removes the job.
+/// The reply and the change of a deregistration that removes the job.
 fn removed(
     tables: &Tables,
     namespace: &Text,
@@ -89,7 +89,7 @@ fn removed(
     prepare(content, change, made)
 }
 
-/// What a deregistration answers and changes that nothing refuses.
+/// The reply and the change of a deregistration that nothing refuses.
 fn deregistered(
     tables: &Tables,
     namespace: &Text,
@@ -112,10 +112,10 @@ fn deregistered(
     }
 }
 
-/// A job is stopped, or with `purge` removed, and an evaluation of it is made.
+/// Prepares the stop of a job, or with `purge` its removal, and a new evaluation of the job.
 ///
 /// `NotFound`: there is no such namespace, or no such job in it. `Full`: the namespace's index or the number of its
-/// evaluations is at its bound. In this order.
+/// evaluations is at its bound. In this order. Want of memory comes last.
 pub fn deregister(
     tables: &Tables,
     namespace: &Text,

@@ -63,7 +63,7 @@ impl Listed for Evaluation {
     }
 }
 
-/// What the read of an evaluation says.
+/// The reply to the read of an evaluation. `NotFound`: the namespace has no such evaluation.
 pub(crate) fn read_evaluation(
     namespace: &Text,
     tenant: &TenantRows,
@@ -78,7 +78,7 @@ pub(crate) fn read_evaluation(
     Ok(Content::Evaluation(shown))
 }
 
-/// What a list of evaluations says.
+/// The reply to a list of evaluations.
 pub(crate) fn list_evaluations(
     alloc: Global,
     namespace: &Text,

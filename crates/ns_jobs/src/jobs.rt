@@ -41,7 +41,7 @@ fn any_live_at(allocations: &NumberTable<Allocation>, id: &Text, slots: &[Number
     slots.iter().any(|slot| is_live_at(allocations, id, slot.0))
 }
 
-/// Whether the job has a live allocation. Only the job's own numbers are looked up.
+/// Whether the job has a live allocation. It looks up only the job's own allocations.
 fn any_live_of(tenant: &TenantRows, id: &Text) -> bool
     ensures { result
         ≡ any_row (λ _ a. same_name id.now a.job && is_live a) (tenant_of tenant.now).allocations }
@@ -82,7 +82,7 @@ fn job_shown(
     })
 }
 
-/// The jobs whose ids begin so, by id.
+/// The jobs whose ids begin with the prefix, by id.
 fn jobs_shown(
     alloc: Global,
     namespace: &Text,
@@ -106,7 +106,7 @@ fn jobs_shown(
     Ok(shown)
 }
 
-/// What the read of a job says.
+/// The reply to the read of a job. `NotFound`: the namespace has no such job.
 pub(crate) fn read_job(namespace: &Text, tenant: &TenantRows, id: &Text) -> Result<Content, Refusal>
     ensures { SaysIn namespace.now (AskCommand.ReadJob id.now) tenant.now result }
 {
@@ -117,7 +117,7 @@ pub(crate) fn read_job(namespace: &Text, tenant: &TenantRows, id: &Text) -> Resu
     Ok(Content::Job(shown))
 }
 
-/// What the list of jobs says.
+/// The reply to the list of jobs.
 pub(crate) fn list_jobs(
     alloc: Global,
     namespace: &Text,

@@ -2,13 +2,13 @@
 
 ghost use Rattle.ns_jobs.specs.Counted.{CountingIsSettling, JobsPassNothingElse};
 
-/// What is refused since a counter of the namespace is at its bound would be refused by the model too, once the step
-/// has settled.
+/// A step that is refused because a counter of the namespace is at its bound would be past the bound once it had settled, so
+/// the model refuses it too.
 pub fn counting_is_settling()
     ensures { CountingIsSettling }
 {}
 
-/// Where a counter of the namespace is not at its bound, a registration or a deregistration is refused by no other one.
+/// If no counter of the namespace is at its bound, a registration or a deregistration is not refused because of another one.
 pub fn jobs_pass_nothing_else()
     ensures { JobsPassNothingElse }
 {}

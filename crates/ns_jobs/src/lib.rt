@@ -1,5 +1,5 @@
-//! Prepares registrations and stops of jobs, and what a node's client reports of an allocation, and answers all reads in a
-//! namespace, over the tables of the whole world. A command says what it replies and what it changes itself, and writes nothing.
+//! Prepares registrations and stops of jobs, and reports of nodes' clients about allocations, and answers all reads in a
+//! namespace, over the tables of the whole world. A command returns its reply and its own change, and writes nothing.
 #![tactic(auto)]
 
 mod allocations;

@@ -17,7 +17,7 @@ use std::alloc::{AllocError, Global};
 
 /// A row that commands list.
 pub(crate) trait Listed: Drop {
-    /// What a reply shows of it.
+    /// What a reply shows of the row.
     type Shown: Drop;
 
     ghost slots_of: { TenantRows → ByNumber (Option Self) };
@@ -36,7 +36,7 @@ pub(crate) trait Listed: Drop {
     fn numbers_of<'a>(tenant: &'a TenantRows, job: &Text) -> Option<&'a NumberTable<()>>
         ensures { AreNumbersUnder job_of job.now (slots_of tenant.now) (option_copied result) };
 
-    /// The job whose rows alone the command lists.
+    /// The job whose rows are the only ones that the command lists, if there is one.
     fn job_asked(command: &AskCommand) -> Option<&Text>
         ensures { IfSome (option_copied result)
             (IsAmongThoseOf as_shown is_listed job_of command.now) };
@@ -44,13 +44,13 @@ pub(crate) trait Listed: Drop {
     fn show(&self, namespace: &Text, number: u64) -> Result<Self::Shown, AllocError>
         ensures { IfOk result (λ shown. shown ≡ as_shown namespace.now number self.now) };
 
-    /// Whether the command lists it.
+    /// Whether the command lists the row of that number.
     fn is_listed(&self, command: &AskCommand, number: u64) -> bool
         ensures { (namespace : Name)
             → result ≡ is_listed command.now (as_shown namespace number self.now) };
 }
 
-/// With the row, if the command lists it.
+/// Adds the row, if the command lists it.
 fn add_listed<V: Listed>(
     listed: &mut Rows<V::Shown>,
     namespace: &Text,
@@ -70,7 +70,7 @@ fn add_listed<V: Listed>(
     Ok(())
 }
 
-/// Those of the slots.
+/// The rows of the slots that the command lists.
 fn rows_shown<V: Listed>(
     alloc: Global,
     namespace: &Text,
@@ -87,7 +87,7 @@ fn rows_shown<V: Listed>(
     Ok(listed)
 }
 
-/// Those at the numbers.
+/// The rows at the numbers that the command lists.
 fn shown_at_numbers<V: Listed>(
     alloc: Global,
     namespace: &Text,
@@ -105,7 +105,7 @@ fn shown_at_numbers<V: Listed>(
     Ok(listed)
 }
 
-/// Those of the job, to which the command keeps. Only the job's own numbers are looked up.
+/// The rows that the command lists, if it lists only rows of this job. It looks up only the job's own numbers.
 fn shown_of_job<V: Listed>(
     alloc: Global,
     namespace: &Text,

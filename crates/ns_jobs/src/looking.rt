@@ -1,4 +1,4 @@
-//! Rows of a namespace by id and number, and ids by their beginnings.
+//! Rows of a namespace by id and number, and whether an id begins with a prefix.
 
 ghost use Rattle.std.specs.Prelude.{◌≡◌, option_copied};
 ghost use Rattle.std.specs.FinMap.{get};
@@ -13,7 +13,7 @@ use ns_types::id::{IdKind, id_str};
 use ns_types::job::Job;
 use ns_types::text::Text;
 
-/// The job of the namespace.
+/// The namespace's job of that id.
 pub fn job<'a>(tenant: &'a TenantRows, id: &Text) -> Option<&'a Job>
     ensures { option_copied result ≡ get (tenant_of tenant.now).jobs id.now }
 {
@@ -26,7 +26,7 @@ pub(crate) fn evaluation(tenant: &TenantRows, number: u64) -> Option<&Evaluation
     tenant.evaluations.rows().get(number)
 }
 
-/// The allocation of the namespace.
+/// The namespace's allocation of that number.
 pub fn allocation(tenant: &TenantRows, number: u64) -> Option<&Allocation>
     ensures { option_copied result ≡ get (tenant_of tenant.now).allocations number }
 {
@@ -39,14 +39,14 @@ fn text_begins(prefix: &Text, text: &str) -> bool
     text.as_bytes().starts_with(prefix.as_str().as_bytes())
 }
 
-/// Whether the id of a job begins so.
+/// Whether the id of a job begins with the prefix.
 pub(crate) fn begins(prefix: &Text, id: &Text) -> bool
     ensures { result ≡ begins_with prefix.now id.now }
 {
     text_begins(prefix, id.as_str())
 }
 
-/// Whether the id of that kind and number begins so.
+/// Whether the id of that kind and number begins with the prefix.
 pub(crate) fn id_begins(prefix: &Text, kind: IdKind, number: u64) -> bool
     ensures { result ≡ begins_with prefix.now (id_text kind number) }
 {

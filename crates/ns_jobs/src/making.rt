@@ -1,4 +1,4 @@
-//! What changes of a job or an allocation, and the evaluation that is made with it.
+//! Changes of a job or an allocation, each with the evaluation that is made for it.
 
 ghost use Rattle.std.specs.Prelude.{◌≡◌, IfOk};
 ghost use Rattle.ns_types.specs.declared.allocation.DesiredStatus.TheVariants as DesiredStatus;
@@ -39,7 +39,7 @@ pub(crate) fn next_numbers(tenant: &TenantRows) -> Option<Numbers>
     })
 }
 
-/// An evaluation of the job, with its type, priority and pool. It is pending.
+/// A pending evaluation of the job, with its type, priority and pool.
 fn evaluation_of(
     alloc: Global,
     id: &Text,
@@ -66,7 +66,7 @@ fn evaluation_of(
     })
 }
 
-/// The job is put, and an evaluation of it is made.
+/// Puts the job, and makes an evaluation of it.
 pub(crate) fn put_and_make(
     tables: &Tables,
     change: &mut Change,
@@ -84,7 +84,7 @@ pub(crate) fn put_and_make(
     make(tables, change, namespace, evaluation)
 }
 
-/// The job is taken away, and an evaluation of it is made, with its document as it was.
+/// Removes the job, and makes an evaluation of it, from the document that the job had.
 pub(crate) fn remove_and_make(
     tables: &Tables,
     change: &mut Change,
@@ -102,7 +102,7 @@ pub(crate) fn remove_and_make(
     make(tables, change, namespace, evaluation)
 }
 
-/// The allocation is desired to stop, and an evaluation of its job is made.
+/// Sets the allocation's desired status to stop, and makes an evaluation of its job.
 pub(crate) fn stop_and_make(
     tables: &Tables,
     change: &mut Change,

@@ -1,4 +1,4 @@
-//! What is read in a namespace.
+//! Reads in a namespace.
 
 ghost use Rattle.std.specs.Prelude.{◌≡◌, IfOk, IsTrue};
 ghost use Rattle.ns_types.specs.declared.step.AskCommand.TheVariants as AskCommand;
@@ -19,7 +19,7 @@ use ns_types::step::AskCommand;
 use ns_types::text::Text;
 use std::alloc::{AllocError, Global};
 
-/// What the read of the namespace's record says.
+/// The reply to the read of the namespace's record.
 fn read_namespace(namespace: &Text, tenant: &TenantRows) -> Result<Content, Refusal>
     ensures { SaysIn namespace.now AskCommand.ReadNamespace tenant.now result }
 {
@@ -29,7 +29,7 @@ fn read_namespace(namespace: &Text, tenant: &TenantRows) -> Result<Content, Refu
     }))
 }
 
-/// What the read of events says.
+/// The reply to the read of events.
 fn events_from(
     alloc: Global,
     namespace: &Text,
@@ -44,7 +44,7 @@ fn events_from(
     Ok(Content::Events(name, kept))
 }
 
-/// What a command that only reads says of a namespace.
+/// The reply to a command that only reads, in a namespace that is there.
 fn read_in(
     tables: &Tables,
     live: &Live,
@@ -76,8 +76,8 @@ fn read_in(
     }
 }
 
-/// Answers a command that only reads, by an index that is right for the tables. `NotFound`: there is no such namespace, or in
-/// it no such job, evaluation or allocation, or the quota is not the namespace's.
+/// The reply to a command that only reads, if the index is right for the tables. `NotFound`: there is no such namespace, no
+/// such job, evaluation or allocation in it, or the quota is not the namespace's.
 pub fn read(
     tables: &Tables,
     live: &Live,

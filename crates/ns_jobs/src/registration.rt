@@ -1,4 +1,4 @@
-//! A registration: what refuses it, and what it changes.
+//! The registration of a job: its refusals and its change.
 
 ghost use Rattle.std.specs.Prelude.{◌≡◌, ◌+◌, ◌<◌, ◌^◌, IfOk, IfSome, Some, option_copied};
 ghost use Rattle.std.specs.FinMap.{contains_key};
@@ -25,10 +25,10 @@ use ns_types::shared::Shared;
 use ns_types::text::Text;
 use std::alloc::{AllocError, Global};
 
-/// How many jobs a namespace has at most.
+/// The greatest number of jobs in a namespace.
 const MOST_JOBS: usize = 1000;
 
-/// The job's pool, or the namespace's default.
+/// The pool that the registration names, or the namespace's default.
 fn pool_of<'a>(tenant: &'a TenantRows, registration: &'a Registration) -> &'a Text
     ensures { result.now ≡ pool_of (tenant_of tenant.now) registration.now }
 {
@@ -47,7 +47,7 @@ fn has_pool(tables: &Tables, pool: &Text) -> bool
     }
 }
 
-/// Whether the stored job has not the index that is demanded.
+/// Whether the stored job does not have the index that the registration demands.
 fn misses(enforced: Option<u64>, stored: Option<&Job>) -> bool
     ensures { result ≡ misses enforced (option_copied stored.entry) }
 {
@@ -64,14 +64,14 @@ fn is_outdated(tenant: &TenantRows, registration: &Registration) -> bool
     misses(registration.enforced, job(tenant, &registration.id))
 }
 
-/// Whether the job is new, and the namespace has as many as it may.
+/// Whether the job is new, and the namespace can have no more jobs.
 fn has_no_room(tenant: &TenantRows, registration: &Registration) -> bool
     ensures { result ≡ has_no_room registration.now (tenant_of tenant.now) }
 {
     job(tenant, &registration.id).is_none() && tenant.jobs.len() >= MOST_JOBS
 }
 
-/// What refuses a registration first, if anything does, but for the bound of a counter.
+/// The first refusal of a registration, if there is one. The bounds of counters are not among these.
 fn first_refusal(
     tables: &Tables,
     tenant: &TenantRows,
@@ -96,7 +96,7 @@ fn first_refusal(
     None
 }
 
-/// What the registration says of the job, with its pool filled in.
+/// The job's document by the registration, with its pool filled in.
 fn document_of(tenant: &TenantRows, registration: &Registration) -> Result<Document, AllocError>
     ensures { IfOk result
         (λ document. document ≡ document_of (tenant_of tenant.now) registration.now) }
@@ -155,7 +155,7 @@ fn job_of(
     registered_job(index, document, job(tenant, &registration.id))
 }
 
-/// What a registration answers and changes that nothing refuses.
+/// The reply and the change of a registration that nothing refuses.
 fn registered(
     tables: &Tables,
     namespace: &Text,
@@ -185,12 +185,12 @@ fn registered(
     prepare(content, change, made)
 }
 
-/// A job is registered, for the first time or again, and an evaluation of it is made. One that says the same of a job
-/// that is not stopped leaves the job as it is.
+/// Prepares the registration of a job, for the first time or again, and a new evaluation of the job. If the job is not stopped
+/// and has the same document already, it stays as it is.
 ///
-/// `NotFound`: there is no such namespace. `PoolNotPermitted`: the namespace may not use the job's pool. `BadField`:
-/// there is no such pool. `Conflict`: the job has not the index that is demanded. `Full`: the job is new, and the
-/// namespace has 1,000; or the namespace's index or the number of its evaluations is at its bound. In this order.
+/// `NotFound`: there is no such namespace. `PoolNotPermitted`: the namespace may not use the job's pool. `BadField`: there is
+/// no such pool. `Conflict`: the job does not have the index that is demanded. `Full`: the job is new, and the namespace has
+/// 1,000; or the namespace's index or the number of its evaluations is at its bound. In this order. Want of memory comes last.
 pub fn register(
     tables: &Tables,
     namespace: &Text,

@@ -1,5 +1,5 @@
-//! Prepares what a node's client reports of an allocation: what the report replies, and what it changes itself.
-//! Nothing is written, and a report by which a counter would pass its bound is refused before any memory is taken.
+//! Prepares the report of a node's client about an allocation: its reply and its own change. Nothing is written. A report is
+//! refused before any memory is taken if a counter would pass its bound.
 
 mod bounds;
 mod reporting;

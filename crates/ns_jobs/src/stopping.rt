@@ -1,4 +1,4 @@
-//! An allocation that somebody stops.
+//! The stop of an allocation on request.
 
 ghost use Rattle.std.specs.Prelude.{◌≡◌, Some, false};
 ghost use Rattle.keyed.specs.Table.{row_at};
@@ -20,7 +20,7 @@ use ns_types::refusal::Refusal;
 use ns_types::reply::Content;
 use ns_types::text::Text;
 
-/// What the stop of a live allocation answers and changes.
+/// The reply and the change of the stop of a live allocation.
 fn stopped(
     tables: &Tables,
     namespace: &Text,
@@ -44,12 +44,12 @@ fn stopped(
     )
 }
 
-/// A live allocation is stopped, and an evaluation of its job is made.
+/// Prepares the stop of a live allocation, and a new evaluation of its job.
 ///
 /// `NotFound`: there is no such namespace, or no such allocation in it. `Conflict`: the allocation is not live. `Full`: a
-/// counter would pass its bound, be it the namespace's index or the number of its evaluations, the release number of the
-/// node's pool where the node is ready and eligible, that of the namespace's quota, or the index of a namespace with an
-/// evaluation that would wake by these. In this order.
+/// counter would pass its bound: the namespace's index, the number of its evaluations, the release number of the node's pool
+/// if the node is ready and eligible, the release number of the namespace's quota, or the index of a namespace with an
+/// evaluation that these releases would wake. In this order. Want of memory comes last.
 pub fn stop_allocation(tables: &Tables, namespace: &Text, number: u64) -> Result<Prepared, Refusal>
     requires { is_past_bound (world_of tables.now) ≡ false }
     ensures { let command = AskCommand.StopAllocation number in

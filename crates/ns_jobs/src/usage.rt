@@ -1,4 +1,4 @@
-//! What is read of a quota's use.
+//! The read of a quota's use.
 
 ghost use Rattle.ns_types.specs.declared.step.AskCommand.TheVariants as AskCommand;
 ghost use Rattle.ns_types.specs.State.Names.{Name};
@@ -15,8 +15,8 @@ use ns_types::refusal::Refusal;
 use ns_types::reply::Content;
 use ns_types::text::Text;
 
-/// What the read of a quota's use says, by an index that is right for the tables: it keeps the total of each quota.
-/// `NotFound`: it is not the namespace's.
+/// The reply to the read of a quota's use, if the index is right for the tables: it keeps the total of each quota. `NotFound`:
+/// the quota is not the namespace's.
 pub(crate) fn quota_usage(
     tables: &Tables,
     live: &Live,

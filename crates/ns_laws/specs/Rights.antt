@@ -18,21 +18,21 @@ use Rattle.ns_types.specs.Access.Rights.{pool_rights_of, no_rights}
 use Rattle.ns_types.specs.State.Rows.{Acl, State}
 use Rattle.ns_types.specs.Steps.{after, said, is_allowed}
 
--- ---- whom a secret stands for
+-- ---- what a secret may do
 
--- the step is asked with that secret
+-- the step is a request with that secret
 abbrev pub IsBy : Option Name → Step → Type 0
 IsBy secret (Step.Ask ns by command) = by ≡ secret
 IsBy secret (Step.Admin by command) = by ≡ secret
 IsBy secret (Step.Node pool by command) = by ≡ secret
 IsBy secret _ = ⊥
 
--- whatever is asked with an unknown secret is denied
+-- A request with an unknown secret is denied.
 abbrev pub UnknownIsDenied : Type 0
 UnknownIsDenied = (s : State) (secret : Name) (step : Step) → get s.acl.tokens secret ≡ None → IsBy (Some secret) step
     → after step s ≡ said (Err Refusal.Denied) s
 
--- with a token of the kind `management` nothing is denied
+-- No request with the secret of a `management` token is denied.
 abbrev pub ManagerIsAllowed : Type 0
 ManagerIsAllowed = (acl : Acl) (secret : Name) (token : Token) (step : Step) → get acl.tokens secret ≡ Some token →
     token.kind ≡ TokenKind.Management
@@ -40,13 +40,13 @@ ManagerIsAllowed = (acl : Acl) (secret : Name) (token : Token) (step : Step) →
 
 -- ---- what rules give
 
--- where a rule that counts denies, nothing is given
+-- If a rule that counts denies, the policies give no right.
 abbrev pub DenyGivesNothing : Type 0
 DenyGivesNothing = (acl : Acl) (kind : RuleKind) (policies : List Name) (target : Name)
     → IsTrue (list_any (λ rule. rule.grants.deny) (counting target (rules_of acl kind policies))) →
     granted acl kind policies target ≡ no_grants
 
--- what is given is what some of the rules give
+-- a right is given exactly if some of the rules give it
 pub record IsGivenBySome (grants : Grants) (rules : List Rule) : Type 0 where
   pub list_jobs : grants.list_jobs ≡ list_any (λ rule. rule.grants.list_jobs) rules
   pub read_job : grants.read_job ≡ list_any (λ rule. rule.grants.read_job) rules
@@ -55,26 +55,27 @@ pub record IsGivenBySome (grants : Grants) (rules : List Rule) : Type 0 where
   pub read_pool : grants.read_pool ≡ list_any (λ rule. rule.grants.read_pool) rules
   pub write_pool : grants.write_pool ≡ list_any (λ rule. rule.grants.write_pool) rules
 
--- where none denies, each right is given that some rule that counts gives, and no other
+-- If no rule that counts denies, the policies give each right that some rule that counts gives, and no other.
 abbrev pub SomeRuleGives : Type 0
 SomeRuleGives = (acl : Acl) (kind : RuleKind) (policies : List Name) (target : Name)
     → IsFalse (list_any (λ rule. rule.grants.deny) (counting target (rules_of acl kind policies)))
     → IsGivenBySome (granted acl kind policies target) (counting target (rules_of acl kind policies))
 
--- where there is a rule of the exact name, one with a star changes nothing
+-- If there is a rule with the exact name and without a star, a rule with a star changes nothing.
 abbrev pub ExactBeforeStars : Type 0
 ExactBeforeStars = (target : Name) (before later : List Rule) (rule : Rule) →
     IsTrue (list_any (is_exact target) (before ++ later)) → IsTrue rule.pattern.is_prefix
     → counting target (before ++ rule ∷ later) ≡ counting target (before ++ later)
 
--- without one, those count whose star matches, of which none that matches is longer
+-- If no rule without a star has the exact name, each rule that counts has a pattern with a star that matches the name,
+-- and no rule that matches has a longer pattern.
 abbrev pub LongestStarCounts : Type 0
 LongestStarCounts = (target : Name) (rules : List Rule) → IsFalse (list_any (is_exact target) rules)
     → Each (λ rule. IsTrue (is_match target rule) ×
     Each (λ other. IsTrue (is_match target other) → length other.pattern.text ≤ length rule.pattern.text) rules)
     (counting target rules)
 
--- a rule that does not match changes nothing
+-- A rule whose pattern does not match the name, exactly or by its star, changes nothing.
 abbrev pub OthersDoNotCount : Type 0
 OthersDoNotCount = (target : Name) (before later : List Rule) (rule : Rule) → IsFalse (is_exact target rule) →
     IsFalse (is_match target rule)
@@ -83,7 +84,7 @@ OthersDoNotCount = (target : Name) (before later : List Rule) (rule : Rule) → 
 abbrev pub SamePattern : Pattern → Pattern → Type 0
 SamePattern a b = (a.text ≡ b.text) × (a.is_prefix ≡ b.is_prefix)
 
--- those that count have one pattern
+-- All rules that count have the same pattern.
 abbrev pub OnePatternCounts : Type 0
 OnePatternCounts = (target : Name) (rules : List Rule) →
     Each (λ a. Each (λ b. SamePattern a.pattern b.pattern) (counting target rules)) (counting target rules)
@@ -91,7 +92,7 @@ OnePatternCounts = (target : Name) (rules : List Rule) →
 abbrev pub no_pool_rights : PoolRights
 no_pool_rights = record { read = false; write = false }
 
--- an unknown secret has no right in any namespace or pool
+-- An unknown secret has no right in any namespace or pool.
 abbrev pub UnknownHasNoRight : Type 0
 UnknownHasNoRight = (acl : Acl) (secret name : Name) → get acl.tokens secret ≡ None
     → (rights_of acl (Some secret) name ≡ no_rights) × (pool_rights_of acl (Some secret) name ≡ no_pool_rights)

@@ -11,47 +11,47 @@ use Rattle.ns_types.specs.State.Names.{Name}
 use Rattle.ns_types.specs.State.Rows.{World, Tenant, is_open, is_held}
 use Rattle.ns_types.specs.Access.Sharing.{permits, is_apart}
 
--- with a list of allowed pools, a namespace may use its default and those of the list
+-- A namespace with a list of allowed pools may use its default pool and the pools of the list, and no others.
 abbrev pub ConfinedToItsPools : Type 0
 ConfinedToItsPools = (namespace : Namespace) (allowed : List Name) (pool : Name) → namespace.allowed ≡ Some allowed
     → IsTrue (permits namespace pool) ↔ ((pool ≡ namespace.default_pool) ⊎ Contains allowed pool)
 
--- without one, all that it does not deny
+-- A namespace without a list of allowed pools may use exactly the pools that it does not deny.
 abbrev pub ElseAllButDenied : Type 0
 ElseAllButDenied = (namespace : Namespace) (pool : Name) → namespace.allowed ≡ None
     → IsTrue (permits namespace pool) ↔ (Contains namespace.denied pool → ⊥)
 
--- a namespace that has its pools and its quotas to itself has a list of allowed pools
+-- A namespace that has its pools and its quotas to itself has a list of allowed pools.
 abbrev pub ApartIsConfined : Type 0
 ApartIsConfined = (w : World) (ns : Name) (pools quotas : List Name) (t : Tenant) → IsTrue (is_apart w ns pools quotas)
     → get w.tenants ns ≡ Some t → (allowed : List Name) × (t.namespace.allowed ≡ Some allowed)
 
--- it may use these pools alone
+-- A namespace that has its pools and its quotas to itself may use no other pools.
 abbrev pub ApartUsesItsPools : Type 0
 ApartUsesItsPools = (w : World) (ns : Name) (pools quotas : List Name) (t : Tenant) (pool : Name) →
     IsTrue (is_apart w ns pools quotas) → get w.tenants ns ≡ Some t → IsTrue (permits t.namespace pool) →
     Contains pools pool
 
--- which no other may use
+-- No other namespace may use a pool that a namespace has to itself.
 abbrev pub ApartPoolsAreItsOwn : Type 0
 ApartPoolsAreItsOwn = (w : World) (ns other : Name) (pools quotas : List Name) (o : Tenant) (pool : Name) →
     IsTrue (is_apart w ns pools quotas) → get w.tenants other ≡ Some o → other ≢ ns → Contains pools pool →
     IsFalse (permits o.namespace pool)
 
--- the quota that it names is one of these
+-- If a namespace that has its pools and its quotas to itself names a quota, it is one of these quotas.
 abbrev pub ApartNamesItsQuotas : Type 0
 ApartNamesItsQuotas = (w : World) (ns : Name) (pools quotas : List Name) (t : Tenant) (quota : Name) →
     IsTrue (is_apart w ns pools quotas) → get w.tenants ns ≡ Some t → t.namespace.quota ≡ Some quota →
     Contains quotas quota
 
--- which no other names
+-- No other namespace names a quota that a namespace has to itself.
 abbrev pub ApartQuotasAreItsOwn : Type 0
 ApartQuotasAreItsOwn = (w : World) (ns other : Name) (pools quotas : List Name) (o : Tenant) (quota : Name) →
     IsTrue (is_apart w ns pools quotas) → get w.tenants other ≡ Some o → other ≢ ns → Contains quotas quota →
     o.namespace.quota ≢ Some quota
 
--- nor does it keep anything elsewhere: its open evaluations, the snapshots that workers keep for it, and its
--- allocations that the client has not ended all name one of these pools
+-- The namespace has nothing left in another pool: its open evaluations, the snapshots that workers keep for it, and its
+-- allocations whose client status is `pending` or `running` all name one of these pools.
 pub record KeepsToPools (pools : List Name) (t : Tenant) : Type 0 where
   pub evaluation : (n : ℕ) (e : Evaluation) → get t.evaluations n ≡ Some e → IsTrue (is_open e.status) →
       Contains pools e.pool

@@ -1,5 +1,5 @@
-//! Says, as laws, what holds of a namespace that has its pools and its quotas to itself. Each is the contract of a function that
-//! does nothing.
+//! Says, as laws, what isolation promises to a namespace that has its pools and its quotas to itself. Each law is the contract
+//! of a function that does nothing.
 
 pub mod parting;
 pub mod staying;

@@ -2,12 +2,13 @@
 
 ghost use Rattle.ns_laws.specs.Nodes.{LosersAreFirst, EachJobLoses};
 
-/// The allocations for which a node that goes down makes evaluations are the first of their jobs there.
+/// When a node goes down, evaluations are made for some of the allocations that are live there. Each of these is the first of
+/// its job on the node: the one with the least number.
 pub fn losers_are_first()
     ensures { LosersAreFirst }
 {}
 
-/// Each job with a live allocation there has one.
+/// When a node goes down, each job with a live allocation there has one of the allocations for which an evaluation is made.
 pub fn each_job_loses()
     ensures { EachJobLoses }
 {}

@@ -1,4 +1,4 @@
-//! Laws of the choice of a node, and of those who give way there.
+//! Laws of the choice of a node, and of the allocations that are evicted there.
 
 ghost use Rattle.ns_laws.specs.Placement.{
   FitsWhereRoom,
@@ -18,77 +18,83 @@ ghost use Rattle.ns_laws.specs.Placement.{
   NoChoiceOfNone,
 };
 
-/// A node fits where the job may use it and no more is asked than is left.
+/// A node fits exactly where the job may use it and the size is at most what is left there, in each resource.
 pub fn fits_where_room()
     ensures { FitsWhereRoom }
 {}
 
-/// Some make room where no more is asked than is left together with what they take.
+/// Some allocations of a node make room exactly where the size is at most what is left on the node and what they take together,
+/// in each resource.
 pub fn room_is_made()
     ensures { RoomIsMade }
 {}
 
-/// The highest priority is one of theirs, and none of them has a higher one.
+/// The highest priority of some allocations is the priority of one of them, and none of them has a higher one.
 pub fn highest_is_highest()
     ensures { HighestIsHighest }
 {}
 
-/// The chosen node fits, and none that fits has less left.
+/// The chosen node fits, and no node that fits has less left: less CPU, then less memory, then less disk, then the lesser name.
 pub fn chosen_is_best()
     ensures { ChosenIsBest }
 {}
 
-/// None is chosen only where none fits.
+/// If no node is chosen for its room, no node fits.
 pub fn none_chosen_of_none()
     ensures { NoneChosenOfNone }
 {}
 
-/// The priority of those who may be evicted is lower by 10 or more.
+/// Each allocation that may be evicted has a priority that is lower than the job's by 10 or more.
 pub fn evictable_are_lower()
     ensures { EvictableAreLower }
 {}
 
-/// Of those who may be evicted the lowest priority comes first.
+/// The allocations that may be evicted are in ascending order of priority.
 pub fn evictable_in_order()
     ensures { EvictableInOrder }
 {}
 
-/// Of each such priority they are all of the node's, the one placed last first.
+/// At each priority that is lower than the job's by 10 or more, all of the node's live allocations may be evicted, the one
+/// placed last first.
 pub fn evictable_are_all()
     ensures { EvictableAreAll }
 {}
 
-/// The victims are the shortest prefix of those who may be evicted that makes room.
+/// If a node has victims, the job may use it, and the victims are the shortest prefix of the allocations that may be evicted
+/// there that makes room.
 pub fn victims_are_fewest()
     ensures { VictimsAreFewest }
 {}
 
-/// Such a prefix is the victims.
+/// Conversely, if the job may use a node, the shortest prefix of the allocations that may be evicted there that makes room is
+/// the node's victims.
 pub fn fewest_are_victims()
     ensures { FewestAreVictims }
 {}
 
-/// Where there are no victims, no prefix makes room.
+/// If a node that the job may use has no victims, no prefix of the allocations that may be evicted there makes room.
 pub fn no_victims_no_room()
     ensures { NoVictimsNoRoom }
 {}
 
-/// The node on which some are evicted is the one whose victims cost least.
+/// The node that is chosen for its victims has victims, and no other node's cost less: by their highest priority, then by their
+/// number, then by the node's name.
 pub fn evicted_cost_least()
     ensures { EvictedCostLeast }
 {}
 
-/// None are evicted only where no node has victims.
+/// If no node is chosen for its victims, no node has victims.
 pub fn none_evicted_of_none()
     ensures { NoneEvictedOfNone }
 {}
 
-/// The best node with room is taken without victims; where none has room, the node whose victims cost least.
+/// The choice is the best node with room, without victims. If no node has room, it is the node whose victims cost least, with
+/// these victims.
 pub fn room_before_victims()
     ensures { RoomBeforeVictims }
 {}
 
-/// There is no choice only where no node has room or victims.
+/// If there is no choice, no node has room, and no node has victims.
 pub fn no_choice_of_none()
     ensures { NoChoiceOfNone }
 {}

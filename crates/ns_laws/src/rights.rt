@@ -17,42 +17,43 @@ pub fn unknown_has_no_right()
     ensures { UnknownHasNoRight }
 {}
 
-/// Whatever is asked with an unknown secret is denied.
+/// A request with an unknown secret is denied.
 pub fn unknown_is_denied()
     ensures { UnknownIsDenied }
 {}
 
-/// With a token of the kind `management` nothing is denied.
+/// No request with the secret of a `management` token is denied.
 pub fn manager_is_allowed()
     ensures { ManagerIsAllowed }
 {}
 
-/// Where a rule that counts denies, nothing is given.
+/// If a rule that counts denies, the policies give no right.
 pub fn deny_gives_nothing()
     ensures { DenyGivesNothing }
 {}
 
-/// Where none denies, each right is given that some rule that counts gives, and no other.
+/// If no rule that counts denies, the policies give each right that some rule that counts gives, and no other.
 pub fn some_rule_gives()
     ensures { SomeRuleGives }
 {}
 
-/// Where there is a rule of the exact name, one with a star changes nothing.
+/// If there is a rule with the exact name and without a star, a rule with a star changes nothing.
 pub fn exact_before_stars()
     ensures { ExactBeforeStars }
 {}
 
-/// Without one, those count whose star matches, of which none that matches is longer.
+/// If no rule without a star has the exact name, each rule that counts has a pattern with a star that matches the name, and no
+/// rule that matches has a longer pattern.
 pub fn longest_star_counts()
     ensures { LongestStarCounts }
 {}
 
-/// Those that count have one pattern.
+/// All rules that count have the same pattern.
 pub fn one_pattern_counts()
     ensures { OnePatternCounts }
 {}
 
-/// A rule that does not match changes nothing.
+/// A rule whose pattern does not match the name, exactly or by its star, changes nothing.
 pub fn others_do_not_count()
     ensures { OthersDoNotCount }
 {}

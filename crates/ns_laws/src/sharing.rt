@@ -11,12 +11,12 @@ ghost use Rattle.ns_laws.specs.Sharing.{
   ElseAllButDenied,
 };
 
-/// With a list of allowed pools, a namespace may use its default and those of the list.
+/// A namespace with a list of allowed pools may use its default pool and the pools of the list, and no others.
 pub fn confined_to_its_pools()
     ensures { ConfinedToItsPools }
 {}
 
-/// Without one, all that it does not deny.
+/// A namespace without a list of allowed pools may use exactly the pools that it does not deny.
 pub fn else_all_but_denied()
     ensures { ElseAllButDenied }
 {}
@@ -26,27 +26,29 @@ pub fn apart_is_confined()
     ensures { ApartIsConfined }
 {}
 
-/// It may use these pools alone.
+/// A namespace that has its pools and its quotas to itself may use no other pools.
 pub fn apart_uses_its_pools()
     ensures { ApartUsesItsPools }
 {}
 
-/// No other may use them.
+/// No other namespace may use a pool that a namespace has to itself.
 pub fn apart_pools_are_its_own()
     ensures { ApartPoolsAreItsOwn }
 {}
 
-/// The quota that it names is one of these quotas.
+/// If a namespace that has its pools and its quotas to itself names a quota, it is one of these quotas.
 pub fn apart_names_its_quotas()
     ensures { ApartNamesItsQuotas }
 {}
 
-/// No other names one of them.
+/// No other namespace names a quota that a namespace has to itself.
 pub fn apart_quotas_are_its_own()
     ensures { ApartQuotasAreItsOwn }
 {}
 
-/// Nor does it keep anything in another pool.
+/// A namespace that has its pools and its quotas to itself has nothing left in another pool: its open evaluations, the
+/// snapshots that workers keep for it, and its allocations whose client status is `pending` or `running` all name one of its
+/// pools.
 pub fn apart_keeps_to_its_pools()
     ensures { ApartKeepsToItsPools }
 {}

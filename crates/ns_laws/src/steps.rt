@@ -8,7 +8,7 @@ ghost use Rattle.ns_laws.specs.Steps.{
   RunsJoin,
 };
 
-/// A step leads to at most one answer and one state.
+/// From a state, a step leads to at most one answer and one next state.
 pub fn one_outcome()
     ensures { OneOutcome }
 {}
@@ -23,12 +23,13 @@ pub fn answer_each_step()
     ensures { AnswerEachStep }
 {}
 
-/// A run of some steps and then of others is a run of the first, and from where that leads one of the others.
+/// A run can be cut anywhere: it is a run of its first steps to some state, and from there a run of the rest, with the answers
+/// cut likewise.
 pub fn run_splits()
     ensures { RunSplits }
 {}
 
-/// A run and one that goes on from where it leads are one run.
+/// Two runs, the second from the state in which the first ends, are one run of all their steps with all their answers.
 pub fn runs_join()
     ensures { RunsJoin }
 {}

@@ -9,7 +9,7 @@ use Rattle.ns_listener.specs.Printing.{IsRunOf}
 use Rattle.ns_listener.specs.declared.closing.Closing.{Closing}
 use Rattle.ns_listener.specs.declared.keeper.Keeper.{Keeper}
 
--- The keeper of that secret wrote these segments, up to its fault if there is one. If it kept each of them, it has them.
+-- The keeper has this secret, and wrote these segments, up to its fault if there is one. If it kept all of them, it has them.
 pub record HasWritten {W : Type 0} (contents : W → Option (List ℕ)) (secret : Name) (writer : Counted W) (keeper : Keeper W)
     : Type 0 where
   pub segments : List Given
@@ -18,12 +18,12 @@ pub record HasWritten {W : Type 0} (contents : W → Option (List ℕ)) (secret 
   pub grows : HasGrown writer.counts keeper.writer.counts
   pub kept : keeper.is_whole ≡ true → keeper.segments.items ≡ segments
 
--- that keeper's secret, fault and writer
+-- the server that closes has the secret, the fault and the writer of this keeper
 abbrev pub IsLeftBy : {W : Type 0} → Keeper W → Closing W → Type 0
 IsLeftBy keeper closing =
     (closing.secret ≡ keeper.secret) × (closing.fault ≡ keeper.fault) × (closing.writer ≡ keeper.writer)
 
--- segments were written, up to the fault if there is one; and if all settled, the log is a run that begins with them
+-- segments were written, up to the fault if there is one; and if the log settled, it is a run that begins with them
 pub record IsClosing {W : Type 0} (contents : W → Option (List ℕ)) (secret : Name) (writer : Counted W) (closing : Closing W)
     : Type 0 where
   pub segments : List Given

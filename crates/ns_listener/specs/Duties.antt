@@ -9,7 +9,7 @@ use Rattle.ns_workers.specs.Growing.{IsOfWorker}
 use Rattle.ns_listener.specs.declared.duty.Duty.{Duty}
 use Rattle.ns_listener.specs.declared.duty.Duty.TheVariants.{Connections, Worker}
 
--- one serves connections for each drawer; then come so many workers, numbered from 0
+-- the duties: one connection thread for each drawer, then `workers` workers, numbered from 0
 abbrev pub duties_of : {D : Type 0} → List D → ℕ → List (Duty D)
 duties_of drawers workers = map Connections drawers ++ map Worker (range_with_len 0 workers)
 
@@ -22,7 +22,7 @@ pub record IsRequested {D : Type 0} (draws : D → List ℕ → D → Type 0) (s
   pub asks_wanted : asked request ≡ Ok wanted
   pub draws_step : DrawsFor draws wanted drawer step drawn
 
--- a step of a thread with that duty
+-- a step that a thread with this duty makes
 abbrev pub IsDue : {D : Type 0} → (D → List ℕ → D → Type 0) → Duty D → Step → Type 0
 IsDue draws (Connections drawer) = IsRequested draws
 IsDue draws (Worker number) = IsOfWorker number

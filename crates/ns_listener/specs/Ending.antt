@@ -1,4 +1,4 @@
--- How a server ended, over what its writer holds and what was written to standard error.
+-- How a server ended: what its writer holds, and what was written to standard error.
 use Rattle.std.specs.Prelude.{◌≡◌, ◌⊎◌, ℕ, List, [], ◌∷◌, ◌++◌, Option, length}
 use Rattle.std.specs.declared.net.socket_addr.SocketAddr.{SocketAddr}
 use Rattle.ns_types.specs.State.Names.{Name}
@@ -13,12 +13,12 @@ use Rattle.ns_listener.specs.Printing.{IsRunOf, settled_line}
 use Rattle.ns_listener.specs.declared.fault.ServeFault.{ServeFault}
 use Rattle.ns_listener.specs.declared.service.Service.{Service}
 
--- the exit status of a server
+-- an exit status of a server
 abbrev pub IsEnd : ℕ → Type 0
 IsEnd status = (status ≡ SERVED) ⊎ (status ≡ MISMATCH) ⊎ (status ≡ READ_FAULT) ⊎ (status ≡ WRITE_FAULT) ⊎
     (status ≡ OUT_OF_MEMORY)
 
--- the last line where not all settled
+-- the line that is printed where the log did not settle
 abbrev pub fault_line : ServeFault → List ℕ
 fault_line (ServeFault.Conn fault) = line_of fault
 fault_line ServeFault.Mismatch = mismatch_line
@@ -27,7 +27,7 @@ abbrev pub fault_status : ServeFault → ℕ
 fault_status (ServeFault.Conn fault) = status_of fault
 fault_status ServeFault.Mismatch = MISMATCH
 
--- how settling ended, which is the last line but one where a segment could not be written
+-- the line says how settling ended; where a segment could not be written, it is the last line but one
 abbrev pub IsOutcome : List ℕ → Type 0
 IsOutcome line = ((entries : ℕ) × (line ≡ settled_line entries)) ⊎ ((fault : ServeFault) × (line ≡ fault_line fault))
 
@@ -36,7 +36,7 @@ abbrev pub IsChosen : {D : Type 0} → (D → List ℕ → D → Type 0) → Opt
 IsChosen {D} draws given drawers secret =
     (others : List D) × (last : D) × (drawers ≡ others ++ last ∷ []) × IsSecret draws given last secret
 
--- the line, and before it, if anything, how settling ended
+-- this line was written last, and before it, if anything, the line that says how settling ended
 abbrev pub EndsBy : {E : Type 0} → (E → Option (List ℕ)) → Counted E → Counted E → List ℕ → Type 0
 EndsBy {E} error_text errors errors' line = TriesToWrite error_text errors errors' line
     ⊎ ((mid : Counted E) × (outcome : List ℕ) × IsOutcome outcome × TriesToWrite error_text errors mid outcome
@@ -44,8 +44,8 @@ EndsBy {E} error_text errors errors' line = TriesToWrite error_text errors error
 
 module _ {D W E : Type 0} (draws : D → List ℕ → D → Type 0) (contents : W → Option (List ℕ))
     (error_text : E → Option (List ℕ)) (service : Service) (drawers : List D) where
-  -- The log of a run was printed, its segments first; to standard error, where the server listens, and how many entries
-  -- the log has.
+  -- The log of a run was printed, its segments first. Standard error has the opening lines, and then how many entries the log
+  -- has.
   pub record EndsSettled (writer writer' : Counted W) (errors errors' : Counted E) : Type 0 where
     pub address : SocketAddr
     pub secret : Name
@@ -67,12 +67,12 @@ module _ {D W E : Type 0} (draws : D → List ℕ → D → Type 0) (contents : 
         ⊎ ((s : Settlement) × IsRunOf secret segments s
         × FailsToWrite contents writer writer' (whole_text secret segments s.given (present s)))
 
-  -- segments were printed at most, or a first part of them
+  -- nothing was printed, or segments, or a first part of them
   abbrev pub EndsUnsettled : Counted W → Counted W → Type 0
   EndsUnsettled writer writer' = (writer' ≡ writer) ⊎ ((secret : Name) × (segments : List Given)
       × IsChosen draws service.bootstrap drawers secret × WritesPart contents writer writer' (texts_of secret segments))
 
-  -- this line was written last, and before it, if anything, where the server listens and how settling ended
+  -- this line was written last, and before it, if anything, the opening lines and how settling ended
   pub record IsLastLine (errors errors' : Counted E) (line : List ℕ) : Type 0 where
     pub opened : Counted E
     pub before : (opened ≡ errors) ⊎ ((address : SocketAddr) × (secret : Name) × IsChosen draws service.bootstrap drawers secret

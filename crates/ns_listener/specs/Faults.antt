@@ -1,4 +1,4 @@
--- Why a server ended badly, by what failed in it.
+-- The fault of a server, for each fault of its threads and of settling.
 use Rattle.ns_http.specs.declared.engine.ConnFault.{ConnFault}
 use Rattle.ns_log.specs.declared.receipts.fault.SettleFault.{SettleFault}
 use Rattle.ns_listener.specs.declared.fault.HostFault.{HostFault}

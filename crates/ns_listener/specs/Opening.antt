@@ -10,19 +10,19 @@ use Rattle.ns_listener.specs.declared.service.Service.{Service}
 
 -- ---- the secret of the first management token
 
--- it is made of 128 bits that were drawn
+-- the secret is made of 128 bits that were drawn
 abbrev pub IsDrawn : {D : Type 0} → (D → List ℕ → D → Type 0) → D → D → Name → Type 0
 IsDrawn draws old new secret =
     (bits : List ℕ) × (length bits ≡ 16) × draws old bits new × (secret ≡ random_id bits)
 
--- it is the one that was given; where none was, it was drawn
+-- the secret is the one that was given; where none was given, it was drawn
 abbrev pub IsSecret : {D : Type 0} → (D → List ℕ → D → Type 0) → Option Name → D → Name → Type 0
 IsSecret draws (Some given) drawer secret = secret ≡ given
 IsSecret {D} draws None drawer secret = (new : D) × IsDrawn draws drawer new secret
 
 -- ---- the server
 
--- it is new, opened by that secret, and its log is empty and has at most so many entries
+-- a new server that this secret opens, with an empty log of at most `limit` entries
 abbrev pub begun_by : Name → ℕ → History
 begun_by secret limit =
     record { base = opening secret; start = 0; log = []; state = opening secret; limit = limit }
@@ -35,22 +35,23 @@ listening_line address = codes "listening " ++ socket_text address ++ codes "\n"
 abbrev pub bootstrap_line : Name → List ℕ
 bootstrap_line secret = codes "bootstrap " ++ secret ++ codes "\n"
 
--- that it stops with so many entries
+-- the line that says that the log takes at most `limit` entries
 abbrev pub limit_line : ℕ → List ℕ
 limit_line limit = codes "log limit " ++ decimal limit
     ++ codes ": after so many entries each request is answered 503, unless --rotate is given\n"
 
--- of a server with that secret, if it was drawn
+-- the line of the secret, if the secret was drawn
 abbrev pub secret_lines : Option Name → Name → List ℕ
 secret_lines (Some given) secret = []
 secret_lines None secret = bootstrap_line secret
 
--- of a server that ends after so many connections, and whose log is rotated
+-- the line of the log's limit, if the server neither ends after some connections nor rotates its log
 abbrev pub limit_lines : Option ℕ → Option ℕ → ℕ → List ℕ
 limit_lines None None limit = limit_line limit
 limit_lines _ _ limit = []
 
--- where it listens; then the secret, where it was drawn; and then that it stops, where it is to end by itself only so
+-- the opening lines: where the server listens; the secret, if it was drawn; and the log's limit, if the server neither ends
+-- after some connections nor rotates its log
 abbrev pub opening_lines : Service → SocketAddr → Name → List ℕ
 opening_lines service address secret = listening_line address ++ secret_lines service.bootstrap secret
     ++ limit_lines service.accept service.rotate service.log_limit

@@ -1,4 +1,4 @@
--- What is printed of a server that settled.
+-- What is printed by a server whose log settled.
 use Rattle.std.specs.Prelude.{◌≡◌, ℕ, List, ◌++◌, codes, decimal}
 use Rattle.ns_types.specs.State.Names.{Name}
 use Rattle.ns_types.specs.Steps.{opening}
@@ -12,6 +12,6 @@ pub record IsRunOf (secret : Name) (segments : List Given) (s : Settlement) : Ty
   pub follow : Follows 0 segments s.given
   pub joins : s.log ≡ joined segments (present s)
 
--- the line by how many entries the log has
+-- the line that says how many entries the log has
 abbrev pub settled_line : ℕ → List ℕ
 settled_line entries = codes "settled " ++ decimal entries ++ codes "\n"

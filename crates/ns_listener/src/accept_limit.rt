@@ -15,7 +15,7 @@ impl AcceptLimit {
         }
     }
 
-    /// Counts one more connection, if the limit allows it.
+    /// Takes one connection from the limit. Returns false where none is left.
     pub fn take(&self) -> bool {
         match &self.left {
             Some(left) => left

@@ -35,8 +35,8 @@ pub struct Closing<W> {
     pub writer: Counted<W>,
 }
 
-/// Settles the log with its segments, of which none may be missing, and with the receipts of the seats. It has to be a run of the
-/// server that the secret opens.
+/// Settles the log, its segments first, with the receipts of the seats. The log has to be a run of the server that the secret
+/// opens. It fails with want of memory where a segment is missing.
 pub(crate) fn settle<L: Ledger>(
     alloc: Global,
     ended: Ended<L>,
@@ -66,7 +66,7 @@ fn settled_line(alloc: Global, settled: &SettledLog) -> Result<String, AllocErro
     Ok(line)
 }
 
-/// Writes the entries that were not given out, and gives the line that says how many entries the log has.
+/// Writes the entries that were not given out in segments, and returns the line that says how many entries the log has.
 fn print_rest<W: Write>(
     alloc: Global,
     secret: &Secret,
@@ -85,7 +85,7 @@ fn print_rest<W: Write>(
     Ok(line)
 }
 
-/// Writes the line of the fault, and says its exit status.
+/// Writes the line of the fault, and returns its exit status.
 fn print_serve_fault<E: Write>(fault: ServeFault, errors: &mut Counted<E>) -> u8
     ensures status { result ≡ fault_status fault }
     ensures line { TriesToWrite E.contents errors.old errors.new (fault_line fault) }
@@ -96,7 +96,8 @@ fn print_serve_fault<E: Write>(fault: ServeFault, errors: &mut Counted<E>) -> u8
     }
 }
 
-/// The end where all segments were written: prints the rest of the log, and the line that says how the server ended.
+/// Ends a server whose segments were all written: prints the rest of the log if it settled, and the line that says how the
+/// server ended. Returns the exit status.
 fn conclude_whole<W: Write, E: Write>(
     alloc: Global,
     settled: &Result<SettledLog, ServeFault>,
@@ -131,8 +132,8 @@ fn conclude_whole<W: Write, E: Write>(
     }
 }
 
-/// The end where a segment could not be written: nothing more is, and the line of that fault comes behind the one that says how
-/// settling ended.
+/// Ends a server that could not write a segment. It writes no more of the log, only the line that says how settling ended and,
+/// after it, the line of that fault. Returns the exit status.
 fn conclude_cut<E: Write>(
     alloc: Global,
     settled: &Result<SettledLog, ServeFault>,
@@ -156,8 +157,8 @@ fn conclude_cut<E: Write>(
     print_fault(fault, errors)
 }
 
-/// Prints the rest of the log where it settled and all segments were written, and the lines that say how the server ended. The
-/// exit status, and the writer.
+/// Prints the rest of the log, if it settled and all segments were written, and the lines that say how the server ended.
+/// Returns the exit status and the writer.
 pub(crate) fn conclude<W: Write, E: Write>(
     alloc: Global,
     closing: Closing<W>,

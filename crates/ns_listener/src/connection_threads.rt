@@ -2,7 +2,7 @@
 
 use std::sync::atomic::{AtomicU64, Ordering};
 
-/// The threads that serve connections and have not ended.
+/// The number of threads that serve connections and have not ended.
 #[derive(Drop)]
 pub struct ConnectionThreads {
     left: AtomicU64,
@@ -15,7 +15,7 @@ impl ConnectionThreads {
         }
     }
 
-    /// Notes that a thread ends. Whether it is the last.
+    /// Notes that a thread ends. Returns whether it is the last.
     pub fn leave(&self) -> bool {
         self.left.fetch_sub(1, Ordering::SeqCst) == 1
     }

@@ -25,7 +25,7 @@ fn set_up(stream: &TcpStream, idle: Option<u64>) -> io::Result<()> {
     stream.set_write_timeout(longest)
 }
 
-/// Answers the requests of the stream. Whether the connection ended in order.
+/// Answers the requests of the stream. Returns whether the connection ended in order.
 fn answer<L: Ledger, R: Wait, D: Draws, M: Retention>(
     alloc: Global,
     stream: &TcpStream,
@@ -38,8 +38,8 @@ fn answer<L: Ledger, R: Wait, D: Draws, M: Retention>(
     serve(alloc, &mut reader, &mut writer, client).is_ok()
 }
 
-/// Answers the requests of a connection. A client that is idle for longer than it may has failed. How a connection ends concerns
-/// nobody else.
+/// Answers the requests of a connection, which ends if the client is idle for longer than `idle` seconds. A fault of the
+/// connection ends no other connection.
 fn converse<L: Ledger, R: Wait + Clock, D: Draws, M: Retention>(
     rt: &R,
     alloc: Global,

@@ -20,13 +20,13 @@ use std::sync::ledger::Ledger;
 /// What a thread does.
 #[derive(Drop)]
 pub enum Duty<D> {
-    /// It serves connections, and draws from here.
+    /// Serves connections, and draws random bits from this drawer.
     Connections(D),
-    /// It is the worker of that number.
+    /// Is the worker with this number.
     Worker(u64),
 }
 
-/// Serves connections, and gives the seat back.
+/// Serves connections, and returns the seat.
 fn attend<L: Ledger, R: Wait + Clock, D: Draws + Drop, M: Retention>(
     rt: &R,
     alloc: Global,
@@ -44,8 +44,8 @@ fn attend<L: Ledger, R: Wait + Clock, D: Draws + Drop, M: Retention>(
     }
 }
 
-/// Does a thread's duty, once all threads are there, and gives its seat back. At a fault no thread accepts a connection any
-/// more. The last thread of connections closes the server, so that the others end too.
+/// Does a thread's duty once all threads are made, and returns its seat. After a fault no thread accepts another connection.
+/// The last connection thread to end closes the server, so that the workers and the applier end too.
 pub fn perform<L: Ledger, R: Wait + Clock, D: Draws + Drop, M: Retention>(
     rt: &R,
     alloc: Global,

@@ -26,7 +26,7 @@ impl From<AllocError> for HostFault {
 pub enum ServeFault {
     /// A fault of the connections, of the writer, or want of memory.
     Conn(ConnFault),
-    /// What the threads were answered and the log differ.
+    /// The log did not settle: its segments leave a gap, it differs from the receipts of the threads, or it is no run.
     Mismatch,
 }
 

@@ -1,4 +1,4 @@
-//! What becomes of the segments of a server's log.
+//! Writes the segments of a server's log, and keeps them where the log is settled.
 
 ghost use Rattle.std.specs.Prelude.{◌≡◌, ◌++◌, [], ◌∷◌, IfNone, IfSome, None, true};
 ghost use Rattle.ns_http.specs.Counts.{HasGrown};
@@ -13,12 +13,12 @@ use ns_workers::Keep;
 use std::alloc::Global;
 use std::io::Write;
 
-/// Writes each segment behind the one before, and keeps those that are settled at the end.
+/// Writes each segment after the one before. Where the log is settled at the end, it keeps the segments too.
 #[derive(Drop)]
 pub struct Keeper<W> {
     pub secret: Secret,
     pub writer: Counted<W>,
-    /// Why the text ends too early. Nothing is written after it, since a log with a hole is none.
+    /// The fault that cut the text short. Nothing is written after it, since a log with a gap is no log.
     pub fault: Option<ConnFault>,
     /// Whether segments are kept, as settling needs them.
     pub keeps: bool,
@@ -46,7 +46,8 @@ impl<W: Write> Keeper<W> {
     }
 }
 
-/// Writes the text of the segment behind what was written before, unless there was a fault. The fault after it.
+/// Writes the text of the segment after what was written before, unless there was a fault. Returns the earlier fault, or the
+/// fault of this write.
 fn write_next<W: Write>(
     alloc: Global,
     secret: &Secret,
@@ -64,7 +65,8 @@ fn write_next<W: Write>(
     write_segment(alloc, secret, segment.start(), segment.entries(), writer).err()
 }
 
-/// Keeps the segment, where segments are kept and none is missing. Otherwise, and where there is no memory for it, it comes back.
+/// Keeps the segment, if segments are kept and none is missing. Otherwise, or if there is no memory for it, returns the
+/// segment.
 fn store(segments: &mut Vec<Segment>, segment: Segment, keeps: bool) -> Option<Segment>
     ensures kept { IfNone result (segments.new.items ≡ segments.old.items ++ segment ∷ []) }
     ensures back { IfSome result (λ back. back ≡ segment) }

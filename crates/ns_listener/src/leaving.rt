@@ -1,7 +1,7 @@
 //! How the server leaves a connection, so that the client gets its last reply.
 //!
-//! A socket that is closed while bytes wait in it resets the connection, and the client loses what it did not read yet: the 413 for
-//! a body that nobody reads, say.
+//! A socket that is closed while bytes wait in it resets the connection, and the client loses what it did not read yet: for
+//! example the 413 for a body that the server does not read.
 
 use std::alloc::Global;
 use std::io::{self, Read};
@@ -34,7 +34,7 @@ fn drain<R: Clock>(rt: &R, alloc: Global, stream: &TcpStream) -> io::Result<()> 
     Ok(())
 }
 
-/// Tells the client that no more replies come, and takes what it still sends. Whether that works changes nothing for others.
+/// Tells the client that no more replies come, and drops what it still sends. If that fails, no other connection is affected.
 pub fn leave<R: Clock>(rt: &R, alloc: Global, stream: &TcpStream) {
     let silence = Some(Duration::from_secs(SILENCE));
     if stream.shutdown(Shutdown::Write).is_ok() && stream.set_read_timeout(silence).is_ok() {

@@ -1,4 +1,4 @@
-//! Where connections come in.
+//! The socket that accepts connections.
 
 use std::io::{self, ErrorKind};
 use std::net::{Net, Shutdown, SocketAddr, TcpListener, TcpStream};
@@ -12,7 +12,7 @@ pub struct Listener {
     closer: TcpStream,
 }
 
-/// Whether a call for a connection may be made again: it was interrupted, or the peer had gone.
+/// Whether `accept` may be called again: it was interrupted, or the peer had gone.
 fn is_passing(error: &io::Error) -> bool {
     matches!(
         error.kind(),
@@ -21,6 +21,7 @@ fn is_passing(error: &io::Error) -> bool {
 }
 
 impl Listener {
+    /// Listens on the address.
     pub fn open<R: Net<Listener = TcpListener, Stream = TcpStream>>(
         rt: &R,
         address: SocketAddr,
@@ -30,12 +31,12 @@ impl Listener {
         Ok(Listener { listener, closer })
     }
 
-    /// Where it is, with the port that the system chose where none was asked for.
+    /// The address that it listens on. The system chose the port, if the address asked for none.
     pub fn address(&self) -> io::Result<SocketAddr> {
         self.listener.local_addr()
     }
 
-    /// The next connection.
+    /// Waits for the next connection. It fails where none can be accepted.
     pub fn accept<R: Wait>(&self, rt: &R) -> io::Result<TcpStream> {
         for _ in rt.forever() {
             match self.listener.accept() {
@@ -47,7 +48,7 @@ impl Listener {
         unreachable!()
     }
 
-    /// Fails every call for a connection from now on, and those that wait.
+    /// Shuts the socket: every call of `accept` fails from now on, and so do those that wait.
     pub fn shut(&self) {
         let _ = self.closer.shutdown(Shutdown::Both);
     }

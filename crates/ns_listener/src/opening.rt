@@ -1,4 +1,4 @@
-//! The begin of a server.
+//! Opens a server.
 
 ghost use Rattle.std.specs.Prelude.{◌≡◌, ◌≢◌, ◌++◌, Err, IfOk, OnOk, string_bytes};
 ghost use Rattle.ns_http.specs.declared.engine.ConnFault.TheVariants as ConnFault;
@@ -15,7 +15,7 @@ use ns_work_log::Held;
 use std::alloc::{AllocError, Global};
 use std::net::{Net, SocketAddr, TcpListener, TcpStream};
 
-/// A server that listens, with the lines that say so.
+/// A server that listens, with the lines to print before it serves.
 #[derive(Drop)]
 pub struct Opened {
     pub listener: Listener,
@@ -25,7 +25,7 @@ pub struct Opened {
     pub lines: String,
 }
 
-/// Adds the secret, where none was given.
+/// Adds the line of the secret, where none was given.
 fn push_secret(
     lines: &mut String,
     given: &Option<Secret>,
@@ -41,7 +41,7 @@ fn push_secret(
     writeln!(lines, "bootstrap {secret}")
 }
 
-/// Adds that the server stops with a full log, where it would run for ever without one.
+/// Adds the line of the log's limit, where the server neither ends after some connections nor rotates its log.
 fn push_limit(lines: &mut String, service: &Service) -> Result<(), AllocError>
     ensures { let s = service.now in OnOk result (string_bytes lines.new
         ≡ string_bytes lines.old ++ limit_lines s.accept s.rotate s.log_limit) }
@@ -56,7 +56,8 @@ fn push_limit(lines: &mut String, service: &Service) -> Result<(), AllocError>
     )
 }
 
-/// Where it listens, the secret where none was given, and that it stops with a full log where it does.
+/// The first lines: the address, the secret if none was given, and the log's limit if the server neither ends after some
+/// connections nor rotates its log.
 fn opening_lines(
     alloc: Global,
     service: &Service,
@@ -73,7 +74,7 @@ fn opening_lines(
     Ok(lines)
 }
 
-/// Listens, with a new server that the secret opens, whose log is empty.
+/// Listens, and opens a new server by the secret. Its log is empty.
 pub fn open<R: Net<Listener = TcpListener, Stream = TcpStream>, D: Draws>(
     rt: &R,
     alloc: Global,

@@ -1,4 +1,4 @@
-//! A seat for each thread.
+//! Gives each thread its duty and its seat.
 
 ghost use Rattle.std.specs.Prelude.{◌≡◌, [], IfOk, map};
 ghost use Rattle.ns_listener.specs.Duties.{duties_of};
@@ -12,7 +12,7 @@ use std::sync::ledger::Ledger;
 /// A thread's duty, with its seat.
 pub type ThreadJob<L, D, M> = (Duty<D>, Seat<L, M>);
 
-/// The duties: a thread for the connections for each drawer, then so many workers.
+/// The duties: a connection thread for each drawer, then `workers` workers.
 pub fn duties<D: Drop>(
     alloc: Global,
     workers: u64,

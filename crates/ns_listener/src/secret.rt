@@ -10,7 +10,7 @@ use ns_types::name::Secret;
 use ns_types::text::Text;
 use std::alloc::{AllocError, Global};
 
-/// The text of a secret as a secret of its own.
+/// A copy of the text, as a secret.
 fn secret_of(alloc: Global, text: &Text) -> Result<Secret, AllocError>
     requires { IsTrue (is_name NameKind.Secret text.now) }
     ensures { IfOk result (λ secret. secret ≡ text.now) }

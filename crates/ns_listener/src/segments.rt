@@ -1,4 +1,4 @@
-//! The text of a segment, written line by line: it takes no memory of the segment's size.
+//! Writes the text of a segment line by line: it takes no memory of the segment's size.
 
 ghost use Rattle.std.specs.Result.{result_err};
 ghost use Rattle.std.specs.Prelude.{flat_map};
@@ -30,7 +30,7 @@ fn write_lines<W: Write>(
     Ok(())
 }
 
-/// Writes the text of a segment before which come so many entries.
+/// Writes the text of a segment that comes after `start` entries.
 #[tactic(auto, unfolding(ns_json::specs::Logs::segment_text))]
 pub(crate) fn write_segment<W: Write>(
     alloc: Global,

@@ -1,12 +1,12 @@
-//! What a server is asked to be.
+//! The settings of a server.
 
 use ns_types::name::Secret;
 use std::net::SocketAddr;
 
-/// What a server is asked to be.
+/// The settings of a server.
 #[derive(Drop)]
 pub struct Service {
-    /// Where it listens.
+    /// The address that it listens on.
     pub address: SocketAddr,
     /// The secret of the first management token. None: it is drawn, and printed.
     pub bootstrap: Option<Secret>,
@@ -18,10 +18,10 @@ pub struct Service {
     pub accept: Option<u64>,
     /// How many seconds a client may leave its connection idle, from 1 on: the server then closes it. None: no bound.
     pub idle: Option<u64>,
-    /// How many entries the log has at most, from 1 on.
+    /// How many entries the log can have, from 1 on.
     pub log_limit: u64,
-    /// With how many entries the log is rotated, from 1 on and below the limit. None: never.
+    /// At how many entries the log is rotated, from 1 on and below the limit. None: never.
     pub rotate: Option<u64>,
-    /// It is rotated as well where its entries have more than so many bytes of text, from 1 on. None where it is not by entries.
+    /// The log is also rotated when its entries have more than this many bytes of text, from 1 on. None if `rotate` is None.
     pub rotate_bytes: Option<u64>,
 }

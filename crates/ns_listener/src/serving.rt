@@ -30,7 +30,7 @@ use std::sync::Wait;
 use std::sync::ledger::{Blank, Ledger};
 use std::thread::Threads;
 
-/// Whether the log is settled at the end: not of a server that is to run for ever, whose log is rotated.
+/// Whether the log is settled at the end. It is not where the server runs for ever and its log is rotated.
 fn is_settled(service: &Service) -> bool
     ensures { let s = service.now in result ≡ not (is_none s.accept && is_some s.rotate) }
 {
@@ -86,7 +86,7 @@ fn run_threads<
     }
 }
 
-/// Settles the log with what all threads were answered, unless a thread could not do its duty.
+/// Settles the log with the receipts of all threads, unless a thread could not do its duty.
 fn settled<L: Ledger, W: Drop>(alloc: Global, left: Left<L, W, Retains>) -> Closing<W>
     requires { L.parts ≡ 18446744073709551615 }
     ensures kept { IsLeftBy left.keeper result }
@@ -149,8 +149,8 @@ fn unsettled<L: Ledger, W: Drop>(left: Left<L, W, Forgets>) -> Closing<W>
     }
 }
 
-/// Serves connections and writes the segments that are given out meanwhile, until the threads have ended. Where the log is settled
-/// at the end, it is.
+/// Serves connections and writes the segments that are given out meanwhile, until the threads have ended. Then it settles the
+/// log, if `is_settled` says so.
 fn serve_opened<
     L: Ledger + Send + Sync,
     R: Threads + Wait + Clock + Sync,
@@ -187,11 +187,11 @@ fn serve_opened<
     }
 }
 
-/// Serves connections until as many were served as are asked for, and says the exit status. Where the log is rotated its segments
-/// are written meanwhile. Then all that the threads were answered has to settle with the log, the rest of which is printed. Every
-/// fault is printed as a line, behind the lines that say where the server listens and which secret was drawn; that of a segment
-/// that could not be written comes last of all. Of the drawers the last draws the secret, and each other one has a thread that
-/// serves one connection after another.
+/// Serves connections until `service.accept` of them were served, and returns the exit status and the writer. Where the log is
+/// rotated, its segments are written meanwhile. At the end the log has to settle with the receipts of all threads, and its rest
+/// is printed. Each fault is printed as a line, after the lines that say where the server listens and which secret was drawn.
+/// The line of a segment that could not be written comes last. The last drawer draws the secret. Each other drawer has a thread
+/// that serves one connection after another.
 pub fn serve<
     L: Ledger + Send + Sync,
     R: Threads + Wait + Clock + Sync + Net<Listener = TcpListener, Stream = TcpStream>,

@@ -2,7 +2,7 @@
 
 use std::sync::{Condvar, Mutex, Wait};
 
-/// Lets threads begin together, or sends all of them home.
+/// Lets all threads begin together, or none of them.
 #[derive(Drop)]
 pub struct Start {
     goes: Mutex<Option<bool>>,
@@ -17,7 +17,7 @@ impl Start {
         }
     }
 
-    /// Waits until it is known whether to begin.
+    /// Waits until it is known whether the threads begin, and returns that.
     pub fn wait<R: Wait>(&self, rt: &R) -> bool {
         let goes = self
             .is_known
@@ -25,6 +25,7 @@ impl Start {
         *goes == Some(true)
     }
 
+    /// Says whether the threads begin, and wakes those that wait.
     pub fn set<R: Wait>(&self, rt: &R, goes: bool) {
         *self.goes.lock(rt) = Some(goes);
         self.is_known.notify_all();

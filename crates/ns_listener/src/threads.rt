@@ -24,10 +24,10 @@ use std::sync::ledger::Ledger;
 use std::thread;
 use std::thread::{JoinHandle, Threads};
 
-/// A thread, and what it gives back.
+/// A running thread, which returns its seat.
 type Running<L, M> = JoinHandle<Result<Seat<L, M>, HostFault>>;
 
-/// Keeps the seat that a thread gave back.
+/// Keeps the seat that a thread returned.
 fn keep<L: Ledger, M: Retention>(
     seats: &mut Vec<Seat<L, M>>,
     ended: Result<Seat<L, M>, HostFault>,
@@ -40,7 +40,7 @@ fn keep<L: Ledger, M: Retention>(
     }
 }
 
-/// The fault of both, of which one came before: want of memory, if it is one of them.
+/// The fault to report, of an earlier one and the next: want of memory if either is that, otherwise the next.
 fn worse_of(before: Option<HostFault>, next: HostFault) -> HostFault
     ensures memory { before ≡ Some HostFault.Memory → result ≡ HostFault.Memory }
     ensures next { before ≢ Some HostFault.Memory → result ≡ next }
@@ -51,7 +51,7 @@ fn worse_of(before: Option<HostFault>, next: HostFault) -> HostFault
     }
 }
 
-/// Joins the threads, and gives their seats in their order.
+/// Joins the threads, and returns their seats in their order.
 fn join<L: Ledger, R: Threads + Wait, M: Retention>(
     rt: &R,
     alloc: Global,
@@ -72,7 +72,8 @@ fn join<L: Ledger, R: Threads + Wait, M: Retention>(
     }
 }
 
-/// Joins the threads, and gives their seats in their order and the applier's behind. It fails where a thread could not be made.
+/// Joins the threads, and returns their seats in their order, with the applier's seat last. It fails where a thread could not
+/// be made.
 fn gather<L: Ledger, R: Threads + Wait, M: Retention>(
     rt: &R,
     alloc: Global,
@@ -114,8 +115,8 @@ fn apply_beside<L: Ledger, K: Keep + Drop, R: Threads + Wait + Clock, M: Retenti
     (gather(rt, alloc, running, is_full, seat), keeper)
 }
 
-/// Runs a thread for each job beside the applier, and gives the seats back, of which the applier's is the last. Where a thread
-/// cannot be made, none begins.
+/// Runs a thread for each job beside the applier, and returns the seats, with the applier's seat last. Where a thread cannot be
+/// made, none begins.
 fn run<
     L: Ledger + Send + Sync,
     R: Threads + Wait + Clock + Sync,
@@ -175,8 +176,8 @@ fn prepare<L: Ledger, R: Wait, D: Draws + Drop, M: Retention>(
     Ok((jobs, seat))
 }
 
-/// Serves connections of a shared server by threads, one for each drawer, beside so many workers and the applier, and gives
-/// a seat for each thread and for the applier. The keeper takes the segments that are given out meanwhile.
+/// Serves connections of a shared server: one thread for each drawer, beside the workers of the service and the applier.
+/// Returns a seat for each thread and for the applier. The keeper takes the segments that are given out meanwhile.
 pub fn host<
     'a,
     L: Ledger + Send + Sync,

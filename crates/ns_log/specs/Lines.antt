@@ -9,11 +9,11 @@ use Rattle.ns_json.specs.Replies.{Entry}
 abbrev pub entry_text : Entry → Name
 entry_text e = compact_text (entry_json e)
 
--- the first line of the text is this one, line feed included; it has no other line feed
+-- the text begins with this line and its line feed
 abbrev pub BeginsWith : Name → Name → Type 0
 BeginsWith text line = (rest : Name) × (text ≡ line_of line ++ rest)
 
--- so many bytes has this line, if the text begins with it
+-- the length of this line with its line feed, if the text begins with it
 abbrev pub IsLineLen : Name → Name → Option ℕ → Type 0
 IsLineLen text line (Some len) = (text ≡ line_of line ++ drop len text) × (0 < len) × (len ≤ length text)
 IsLineLen text line None = BeginsWith text line → ⊥

@@ -1,4 +1,4 @@
--- Members of objects, and the tokens of what is asked.
+-- Members of objects, and the tokens of commands.
 use Rattle.std.specs.Prelude.{List, [], ◌∷◌, ◌++◌, codes}
 use Rattle.json.specs.Token.{Token}
 use Rattle.json.specs.Tree.{members_tokens}
@@ -35,7 +35,7 @@ member_tokens m = Token.key m.0 ∷ tokens_of m.1
 abbrev pub end_tokens : List (Name × Data) → List Token
 end_tokens ms = members_tokens (members_outline (members_of ms))
 
--- the members that say what is asked
+-- the tokens of the members that a command has
 abbrev pub call_tokens : Call → List Token
 call_tokens call = Token.key (codes "Args") ∷ (tokens_of (object_of call.1) ++
     Token.key (codes "Do") ∷ Token.string call.0 ∷ [])

@@ -3,7 +3,7 @@ use Rattle.std.specs.Prelude.{◌≡◌, ◌≢◌, ◌<◌, ◌⊎◌, ℕ, Lis
 use Rattle.ns_json.specs.Replies.{Entry}
 use Rattle.ns_log.specs.declared.receipts.receipt.Receipt.{Receipt}
 
--- the entry that a receipt tells of
+-- the entry that a receipt is of
 abbrev pub entry_of : Receipt → Entry
 entry_of r = (r.step, r.rendered)
 
@@ -17,23 +17,24 @@ pub record IsAt (seats : List (List Receipt)) (i j : ℕ) (r : Receipt) : Type 0
 abbrev pub IsNamed : List (List Receipt) → ℕ → Type 0
 IsNamed seats p = (i : ℕ) × (j : ℕ) × (r : Receipt) × IsAt seats i j r × (r.place ≡ p)
 
--- ---- yes
+-- ---- when receipts and a log settle
 
 pub record Settles (log : List Entry) (seats : List (List Receipt)) : Type 0 where
   -- within each seat the places rise
   pub rises : (i j k : ℕ) (r q : Receipt) → IsAt seats i j r → IsAt seats i k q → j < k → r.place < q.place
-  -- each receipt tells of the entry at its place
+  -- each receipt is of the entry at its place
   pub tells : (i j : ℕ) (r : Receipt) → IsAt seats i j r → slice_get log r.place ≡ Some (entry_of r)
-  -- no two name one place
+  -- no two receipts name the same place
   pub once : (i j h k : ℕ) (r q : Receipt) → IsAt seats i j r → IsAt seats h k q → r.place ≡ q.place →
       (i ≡ h) × (j ≡ k)
-  -- and each place is named
+  -- each place of the log is named
   pub all : (p : ℕ) → p < length log → IsNamed seats p
 
 -- ---- the first fault
 
--- against the log and the receipts before it, by seat and then in its order: it tells of the entry at its place, which
--- is past those that its seat has named, and which no earlier seat names
+-- The receipt at j of seat i fits the log and the receipts before it, which are those of earlier seats and the earlier
+-- ones of its seat. It is of the entry at its place. That place comes after those that its seat named before, and no
+-- earlier seat names it.
 pub record Fits (log : List Entry) (seats : List (List Receipt)) (i j : ℕ) (r : Receipt) : Type 0 where
   pub tells : slice_get log r.place ≡ Some (entry_of r)
   pub rises : (k : ℕ) (q : Receipt) → k < j → IsAt seats i k q → q.place < r.place

@@ -1,4 +1,4 @@
-//! What is asked of a server: its arguments and its name.
+//! A command to a server: its arguments and its name.
 
 ghost use Rattle.std.specs.Prelude.{OnOk, map, codes, ◌∷◌, []};
 ghost use Rattle.serde_json.specs.Data.{string};

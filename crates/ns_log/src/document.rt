@@ -1,4 +1,4 @@
-//! Documents, as commands hold them.
+//! The documents in commands.
 
 ghost use Rattle.std.specs.Prelude.{OnOk};
 ghost use Rattle.ns_json.specs.Logs.{offer_json};

@@ -16,7 +16,8 @@ use ns_types::step::Step;
 use std::alloc::{AllocError, Global};
 use std::marker::Model;
 
-/// A step with its answer as bytes. The step has several owners: its receipts, and what is given out. Contracts see the pair.
+/// A step with its answer as bytes. The step has several owners: receipts share it, and what is given out. Contracts see the
+/// pair.
 pub struct Entry {
     step: Shared<Step>,
     rendered: Owned<Rendered>,
@@ -60,7 +61,7 @@ impl Entry {
     }
 }
 
-/// The number, or null where there is none.
+/// The number, or null if there is none.
 fn number_part<'a>(number: Option<u64>) -> Part<'a>
     ensures { tokens_of (number_or_null number) ≡ token_of result ∷ [] }
 {
@@ -97,7 +98,7 @@ fn write_entry(
     write_parts(out, &[Part::EndObject])
 }
 
-/// The line of a step and its answer, with its line feed.
+/// The line of a step and its answer, with its line feed. Want of memory is the only error.
 pub fn entry_line(alloc: Global, step: &Step, rendered: &Rendered) -> Result<String, AllocError>
     ensures { IfOk result (λ line.
         string_bytes line ≡ line_of (compact_text (entry_json (step.now, rendered.now)))) }

@@ -10,14 +10,14 @@ use crate::log::head_line;
 use ns_types::name::Secret;
 use std::alloc::{AllocError, Global};
 
-/// How many bytes the line has, if the text begins with it. It is given with its line feed.
+/// The length of the line, if the text begins with it. `line` has its line feed.
 fn begun_len(text: &[u8], line: &[u8]) -> Option<usize>
     ensures { (alone : Name) → line.now ≡ line_of alone → IsLineLen text.now alone result }
 {
     text.starts_with(line).then_some(line.len())
 }
 
-/// How many bytes the line of the entry has, if the text begins with that line.
+/// The length of the entry's line, if the text begins with that line. Want of memory is the only error.
 pub fn line_len(alloc: Global, text: &[u8], entry: &Entry) -> Result<Option<usize>, AllocError>
     ensures { IfOk result (IsLineLen text.now (entry_text entry.now)) }
 {
@@ -25,7 +25,7 @@ pub fn line_len(alloc: Global, text: &[u8], entry: &Entry) -> Result<Option<usiz
     Ok(begun_len(text, line.as_bytes()))
 }
 
-/// How many bytes the line in front of a segment has, if the text begins with that line.
+/// The length of the line in front of a segment, if the text begins with that line. Want of memory is the only error.
 pub fn head_len(
     alloc: Global,
     text: &[u8],

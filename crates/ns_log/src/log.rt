@@ -21,7 +21,7 @@ fn push_lines(text: &mut String, alloc: Global, entries: &[Entry]) -> Result<(),
     Ok(())
 }
 
-/// The line in front of a segment before which come so many entries, with its line feed.
+/// The line in front of a segment before which come `start` entries, with its line feed. Want of memory is the only error.
 pub fn head_line(alloc: Global, bootstrap: &Secret, start: u64) -> Result<String, AllocError>
     ensures { IfOk result (λ line. string_bytes line ≡ line_of (head_text start bootstrap.now)) }
 {
@@ -31,7 +31,8 @@ pub fn head_line(alloc: Global, bootstrap: &Secret, start: u64) -> Result<String
     Ok(line)
 }
 
-/// The text of a segment before which come so many entries: the line of the secret, then one line for each entry.
+/// The text of a segment before which come `start` entries: the line of the secret, then one line for each entry. Want of
+/// memory is the only error.
 #[tactic(auto, unfolding(ns_json::specs::Logs::segment_text))]
 pub fn segment_text(
     alloc: Global,
@@ -47,7 +48,7 @@ pub fn segment_text(
     Ok(text)
 }
 
-/// The text of a log that is one segment.
+/// The text of a log that is one segment. Want of memory is the only error.
 pub fn log_text(alloc: Global, bootstrap: &Secret, entries: &[Entry]) -> Result<String, AllocError>
     ensures { IfOk result (λ text. string_bytes text ≡ log_text bootstrap.now entries.now) }
 {

@@ -24,7 +24,7 @@ pub enum Member<'a> {
     Document(Document<'a>),
 }
 
-/// The number, or null where there is none.
+/// A member with the number, or null if there is none.
 pub fn number_or_null(name: &str, number: Option<u64>) -> Member<'_>
     ensures { member_of result ≡ (name.now, number_or_null number) }
 {
@@ -34,7 +34,7 @@ pub fn number_or_null(name: &str, number: Option<u64>) -> Member<'_>
     }
 }
 
-/// The secret, or null where there is none.
+/// The member with the secret, or null if there is none.
 pub fn secret_or_null(secret: &Option<Text>) -> Member<'_>
     ensures { member_of result ≡ with_secret secret.now }
 {
@@ -79,7 +79,7 @@ fn write_each(out: &mut Writer, alloc: Global, members: &[Member<'_>]) -> Result
     Ok(())
 }
 
-/// The last members of an object, and its end.
+/// Writes the last members of an object, and its end.
 pub fn write_end(out: &mut Writer, alloc: Global, members: &[Member<'_>]) -> Result<(), AllocError>
     ensures { OnOk result (Follows out.old out.new (end_tokens (map member_of members.now))) }
 {
@@ -87,7 +87,7 @@ pub fn write_end(out: &mut Writer, alloc: Global, members: &[Member<'_>]) -> Res
     write_parts(out, &[Part::EndObject])
 }
 
-/// An object with these members.
+/// Writes an object with these members.
 pub fn write_object(
     out: &mut Writer,
     alloc: Global,

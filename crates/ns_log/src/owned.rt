@@ -6,14 +6,14 @@ use ns_types::shared::Shared;
 use std::alloc::{AllocError, Global};
 use std::marker::Model;
 
-/// Who owns a value.
+/// The owners of a value.
 #[derive(Drop)]
 enum Owner<T> {
     Alone(Box<T>),
     Together(Shared<T>),
 }
 
-/// A value that one owner has alone, or that several have and none changes, in memory of its own. Contracts see the value.
+/// A value in memory of its own. It has one owner, or several, of which none changes it. Contracts see the value.
 pub struct Owned<T> {
     owner: Owner<T>,
 }
@@ -33,7 +33,7 @@ impl<T> Model for Owned<T> {
 }
 
 impl<T: Drop> Owned<T> {
-    /// In a box that is made for it.
+    /// The value in a new box, with one owner. Want of memory is the only error.
     pub fn boxed(alloc: Global, value: T) -> Result<Owned<T>, AllocError>
         ensures { IfOk result (λ owned. owned ≡ value) }
     {

@@ -1,4 +1,4 @@
-//! Registrations.
+//! The registrations in commands.
 
 ghost use Rattle.std.specs.Prelude.{OnOk, codes, ◌∷◌, []};
 ghost use Rattle.json.specs.Token.{end_array, end_object, key, string};
@@ -12,7 +12,7 @@ use ns_replies::words::text_or_empty;
 use ns_types::job::Registration;
 use std::alloc::{AllocError, Global};
 
-/// The last member, after the groups.
+/// Writes the end of the groups, the last member, and the end of the object.
 fn write_kind(out: &mut Writer, kind: &str) -> Result<(), AllocError>
     ensures { Adds result out.old out.new
         (end_array ∷ key (codes "Type") ∷ string kind.now ∷ end_object ∷ []) }

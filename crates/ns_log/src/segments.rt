@@ -1,4 +1,4 @@
-//! Decides whether logs that were given out one after the other follow each other, and joins them.
+//! Decides whether segments, which are logs that were given out, follow each other, and joins them.
 
 mod following;
 mod joining;

@@ -41,7 +41,7 @@ abbrev pub node_command_fits : NodeCommand → Bool
 node_command_fits (NodeCommand.Report name report) = fits report.number
 node_command_fits _ = true
 
--- the numbers that no limit of a step bounds fit 64 bits
+-- the step's numbers for which there is no other limit fit in 64 bits
 abbrev pub step_fits : Step → Bool
 step_fits (Step.Ask ns secret command) = ask_fits command
 step_fits (Step.Admin secret command) = true
@@ -56,7 +56,7 @@ step_fits (Step.Nack worker ns) = fits worker
 abbrev pub answer_fits : Rendered → Bool
 answer_fits r = nat_lt r.status (2 ^ 16) && fits_if_any r.index
 
--- a policy has the rules that its text says
+-- where the command puts a policy, the policy's rules are those that its text gives
 abbrev pub HasReadRules : AdminCommand → Type 0
 HasReadRules (AdminCommand.PutPolicy name policy) = rules_of policy.text ≡ Ok policy.rules
 HasReadRules _ = Unit {0}
@@ -65,7 +65,7 @@ abbrev pub IsAsRead : Step → Type 0
 IsAsRead (Step.Admin secret command) = HasReadRules command
 IsAsRead _ = Unit {0}
 
--- Its step is within the limits of every step, and its numbers are those of values that a program holds.
+-- The entry's step is within the limits of steps, and its numbers fit the program's integers.
 pub record IsWithin (e : Entry) : Type 0 where
   pub good : IsGoodStep e.0
   pub as_read : IsAsRead e.0
@@ -75,12 +75,12 @@ pub record IsWithin (e : Entry) : Type 0 where
 -- A log may hold the entry.
 pub record IsWritable (e : Entry) : Type 0 where
   pub within : IsWithin e
-  -- so are its texts
+  -- its line is UTF-8
   pub text : IsUtf8 (entry_text e)
 
 -- ---- logs
 
--- a line after the first: the one in front of the next segment, or an entry's
+-- a line after the first: the head of a later segment, or an entry
 pub data LogLine : Type 0 where
   head : LogLine
   entry : Entry → LogLine
@@ -94,12 +94,12 @@ entries_of [] = []
 entries_of (LogLine.head ∷ lines) = entries_of lines
 entries_of (LogLine.entry e ∷ lines) = e ∷ entries_of lines
 
--- of a line before which come so many entries: its text without the line feed
+-- the text of a line without its line feed, where `start` entries come before the line
 abbrev pub line_text : Name → ℕ → LogLine → Name
 line_text secret start LogLine.head = head_text start secret
 line_text secret start (LogLine.entry e) = entry_text e
 
--- and how many come before the next line
+-- the number of entries before the next line, where `start` come before this one
 abbrev pub next : ℕ → LogLine → ℕ
 next start LogLine.head = start
 next start (LogLine.entry e) = start + 1
@@ -109,15 +109,15 @@ lines_text secret start [] = []
 lines_text secret start (line ∷ lines) =
     line_of (line_text secret start line) ++ lines_text secret (next start line) lines
 
--- the text is that of the secret and of these lines: a line in front of a segment names the same secret, and says how many
--- entries come before it
+-- The text is a first line with the secret, and then these lines. The head of each later segment names the same secret, and the
+-- number of entries before it.
 pub record HasLines (text secret : Name) (lines : List LogLine) : Type 0 where
   pub is_secret : IsTrue (is_name NameKind.Secret secret)
   pub writable : Each CanStand lines
   pub few : length (entries_of lines) < 2 ^ 64
   pub is_text : text ≡ line_of (first_text secret) ++ lines_text secret 0 lines
 
--- the text is that of the secret and of the entries, in one segment or more
+-- the text is a log with this secret and these entries, in one segment or more
 pub record IsLogOf (text secret : Name) (entries : List Entry) : Type 0 where
   pub lines : List LogLine
   pub has_lines : HasLines text secret lines
@@ -125,20 +125,20 @@ pub record IsLogOf (text secret : Name) (entries : List Entry) : Type 0 where
 
 -- ---- the first bad line
 
--- the text begins with the first line of no log
+-- the text does not begin with the first line of a log
 abbrev pub HasBadHead : Name → Type 0
 HasBadHead text = (secret : Name) → IsTrue (is_name NameKind.Secret secret) → BeginsWith text (first_text secret) → ⊥
 
--- the text begins with the line of no entry
+-- the text does not begin with the line of an entry
 abbrev pub HasBadEntry : Name → Type 0
 HasBadEntry text = (e : Entry) → IsWritable e → BeginsWith text (entry_text e) → ⊥
 
--- nor with the one in front of a segment
+-- the text begins neither with the line of an entry nor with the head of a segment after `start` entries
 pub record HasBadLine (secret : Name) (start : ℕ) (text : Name) : Type 0 where
   pub no_entry : HasBadEntry text
   pub no_head : BeginsWith text (head_text start secret) → ⊥
 
--- The lines before the n-th are a log's text. Something comes after them, and its first line is no line of that log.
+-- The lines before line `n` are a log's text. More text comes after them, and it does not begin with a line of that log.
 pub record IsBadAfter (text : Name) (n : ℕ) : Type 0 where
   pub secret : Name
   pub lines : List LogLine
@@ -150,6 +150,6 @@ pub record IsBadAfter (text : Name) (n : ℕ) : Type 0 where
   pub is_more : rest ≢ []
   pub is_bad : HasBadLine secret (length (entries_of lines)) rest
 
--- lines are counted from 1
+-- line `n` of the text, counted from 1, is its first bad line
 abbrev pub IsFault : Name → ℕ → Type 0
 IsFault text n = ((n ≡ 1) × HasBadHead text) ⊎ IsBadAfter text n

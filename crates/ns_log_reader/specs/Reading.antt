@@ -1,4 +1,4 @@
--- For private clauses: the entry that the JSON of a line stands for, if it is one that a log writes.
+-- For private clauses: reads the entry of a line from the line's JSON.
 use Rattle.std.specs.Prelude.{ℕ, ◌^◌, ◌∷◌, [], nat_lt, List, Bool, true, false, Option, Some, None, is_some, option_and_then, Result, Ok, Err}
 use Rattle.std.specs.Prelude.{◌≡◌, ◌≢◌, ◌<◌, ◌≤◌, ◌==◌, ◌+◌, ◌++◌, drop, length, codes, IsTrue, if◌then◌else◌}
 use Rattle.std.specs.Str.{bytes_eq}
@@ -39,7 +39,7 @@ abbrev pub ◌>>=◌ : {A B : Type 0} → Read A → (A → Read B) → Read B
 (Ok x) >>= f = f x
 (Err e) >>= f = Err e
 
--- What a function returned, seen by view, is what reading gives, unless memory ran out.
+-- A function's result, through `view`, is the result of the reading, unless no memory was left.
 abbrev pub Fails : {Y : Type 0} → LineFault → Read Y → Type 0
 Fails Memory read = Unit {0}
 Fails Bad read = read ≡ Err Bad
@@ -96,7 +96,7 @@ text_or_null_in name d = member_in name d >>= λ v. if_any as_str (unless_null v
 unfoldable pub number_or_null_in : Name → Data → Read (Option ℕ)
 number_or_null_in name d = member_in name d >>= λ v. if_any (λ x. option_and_then as_u64 (as_number x)) (unless_null v)
 
--- ---- what is asked
+-- ---- commands about a namespace
 
 unfoldable pub registered_in : Data → Read AskCommand
 registered_in d = do
@@ -138,7 +138,7 @@ usage_in d = text_in (codes "Name") d >>= λ quota. Ok (AskCommand.QuotaUsage qu
 unfoldable pub events_in : Data → Read AskCommand
 events_in d = number_in (codes "From") d >>= λ index. Ok (AskCommand.Events index)
 
--- the arguments tell which commands it can be
+-- the arguments decide which commands the word can name
 unfoldable pub asked_in : Name → Data → Read AskCommand
 asked_in word d =
     if has (codes "Prefix") d then with_prefix_in word d
@@ -150,7 +150,7 @@ asked_in word d =
     else if has (codes "From") d then events_in d
     else Ok AskCommand.ReadNamespace
 
--- ---- what administrators ask
+-- ---- commands of administrators
 
 unfoldable pub put_policy_in : Data → Read AdminCommand
 put_policy_in d = do
@@ -211,7 +211,7 @@ administered_in word d =
     then text_in (codes "AccessorID") d >>= (λ accessor. Ok (AdminCommand.DeleteToken accessor))
     else listing word
 
--- ---- what is asked of a pool
+-- ---- commands about a pool
 
 unfoldable pub put_node_in : Data → Read NodeCommand
 put_node_in d = do
@@ -350,37 +350,37 @@ entry_in d = do
 abbrev pub is_feed : ℕ → Bool
 is_feed b = b == 10
 
--- where the line is that of an entry, it is read as that entry
+-- if the line is the line of an entry, it is read as that entry
 abbrev pub ReadsBack : Name → Read Entry → Type 0
 ReadsBack line result = (e : Entry) → IsWritable e → line ≡ entry_text e → Gives same result (Ok e)
 
--- the text begins with the line of the entry, which has so many bytes
+-- the text begins with the line of the entry, which is `len` bytes long
 pub record BeginsWithLine (text : Name) (e : Entry) (len : ℕ) : Type 0 where
   pub writable : IsWritable e
   pub is_text : text ≡ line_of (entry_text e) ++ drop len text
   pub some : 0 < len
   pub within : len ≤ length text
 
--- the first line spelled out
+-- the first line of a log, spelled out
 abbrev pub opening_text : Name → Name
 opening_text secret = codes "nsd-log 3 0 " ++ secret
 
 abbrev pub IsNoFirst : Name → Type 0
 IsNoFirst line = (secret : Name) → IsTrue (is_name Kind.Secret secret) → line ≡ opening_text secret → ⊥
 
--- the text is that of these lines, before which comes no entry, and more
+-- the text is these lines, with no entry before them, and then `rest`
 pub record HasLinesThen (text secret rest : Name) (lines : List LogLine) : Type 0 where
   pub writable : Each CanStand lines
   pub is_text : text ≡ lines_text secret 0 lines ++ rest
 
--- the text is that of these entries, in one segment or more
+-- the text is the lines of these entries, in one segment or more
 pub record HasEntries (text secret : Name) (entries : List Entry) : Type 0 where
   pub lines : List LogLine
   pub has_lines : HasLinesThen text secret [] lines
   pub are_entries : entries ≡ entries_of lines
   pub few : length entries < 2 ^ 64
 
--- after lines something comes that begins with none
+-- the text begins with lines of a log, and goes on with line `n`, which is bad
 pub record StopsAfter (text secret : Name) (n : ℕ) : Type 0 where
   pub lines : List LogLine
   pub rest : Name
@@ -394,14 +394,14 @@ abbrev pub line_from : Option Entry → LogLine
 line_from None = LogLine.head
 line_from (Some e) = LogLine.entry e
 
--- the text begins with this line, before which come so many entries, and which has so many bytes
+-- the text begins with this line, which comes after `start` entries and is `len` bytes long
 pub record IsNext (text secret : Name) (start : ℕ) (line : LogLine) (len : ℕ) : Type 0 where
   pub writable : CanStand line
   pub is_text : text ≡ line_of (line_text secret start line) ++ drop len text
   pub some : 0 < len
   pub within : len ≤ length text
 
--- so far: lines with these entries, the next one being of this number
+-- the lines that were read so far have these entries, and the next line has this number
 pub record HasSoFar (text secret rest : Name) (entries : List Entry) (number : ℕ) : Type 0 where
   pub lines : List LogLine
   pub before : HasLinesThen text secret rest lines

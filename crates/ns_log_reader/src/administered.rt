@@ -1,4 +1,4 @@
-//! What administrators ask.
+//! Reads the commands of administrators.
 
 ghost use Rattle.std.specs.Prelude.{◌≤◌, IfOk, IsTrue};
 ghost use Rattle.serde_json.specs.Data.{depth};
@@ -81,7 +81,7 @@ fn put_pool(alloc: Global, value: &Value) -> Result<AdminCommand, LineFault>
     Ok(AdminCommand::PutPool(put.name, put.pool))
 }
 
-/// A document that is put.
+/// Reads a command that puts a document.
 #[tactic(auto, unfolding(crate::specs::Reading::put_in))]
 fn put(alloc: Global, word: &str, value: &Value) -> Result<AdminCommand, LineFault>
     requires { depth (view value.now) ≤ max_depth }
@@ -99,7 +99,7 @@ fn put(alloc: Global, word: &str, value: &Value) -> Result<AdminCommand, LineFau
     }
 }
 
-/// What is done to the row of a name.
+/// Reads a command about the row of that name.
 #[tactic(auto, unfolding(crate::specs::Reading::with_name))]
 fn with_name(word: &str, name: Text) -> Result<AdminCommand, LineFault>
     ensures value { Gives same result (with_name word.now name) }
@@ -131,7 +131,7 @@ fn listing(word: &str) -> Result<AdminCommand, LineFault>
     }
 }
 
-/// The command of that name. The arguments tell which it can be.
+/// Reads the command with this word. The arguments decide which commands the word can name.
 #[tactic(auto, unfolding(crate::specs::Reading::administered_in))]
 pub fn administered(alloc: Global, word: &str, arguments: &Value) -> Result<AdminCommand, LineFault>
     requires { depth (view arguments.now) ≤ max_depth }

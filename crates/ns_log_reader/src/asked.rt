@@ -1,4 +1,4 @@
-//! What is asked in a namespace.
+//! Reads the commands about a namespace.
 
 ghost use Rattle.std.specs.Prelude.{◌<◌, IfOk, IsTrue};
 ghost use Rattle.serde_json.specs.Data.{depth};
@@ -104,7 +104,7 @@ fn events(arguments: &Value) -> Result<AskCommand, LineFault>
     Ok(AskCommand::Events(number(arguments, "From")?))
 }
 
-/// The command of that name. The arguments tell which it can be.
+/// Reads the command with this word. The arguments decide which commands the word can name.
 #[tactic(auto, unfolding(crate::specs::Reading::asked_in))]
 pub fn asked(alloc: Global, word: &str, arguments: &Value) -> Result<AskCommand, LineFault>
     requires { depth (view arguments.now) < max_depth }

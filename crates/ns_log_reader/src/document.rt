@@ -1,4 +1,4 @@
-//! Documents, by the readers that requests are read by. These take a document's text, so it is written again.
+//! Reads documents with the readers that also read requests. These take text, so a document is written as text first.
 
 ghost use Rattle.std.specs.Prelude.{◌≡◌, ◌<◌, ◌≤◌, ◌&&◌, ◌∷◌, [], None, Some, Ok, codes, IfOk, IsTrue, string_bytes, List, ℕ};
 ghost use Rattle.serde_json.specs.Data.{depth};
@@ -26,7 +26,7 @@ use ns_types::node::Offer;
 use serde_json::{Map, Value};
 use std::alloc::{AllocError, Global};
 
-/// The document's text, which is read as the document.
+/// Writes the document as text that is read as the same document. Want of memory is the only error.
 fn text_of(alloc: Global, document: &Value) -> Result<String, AllocError>
     requires { depth (view document.now) ≤ max_depth }
     ensures { IfOk result (λ s. read (string_bytes s) ≡ Some (view document.now)) }

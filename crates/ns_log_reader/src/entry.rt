@@ -1,4 +1,4 @@
-//! Entries.
+//! Reads entries.
 
 ghost use Rattle.std.specs.Prelude.{◌≤◌, ◌^◌, nat_lt, IfOk, IsTrue};
 ghost use Rattle.serde_json.specs.Data.{depth};
@@ -43,6 +43,7 @@ fn answer(alloc: Global, entry: &Value) -> Result<Rendered, LineFault>
     })
 }
 
+/// Reads the entry of a line from the line's JSON.
 #[tactic(auto, unfolding(crate::specs::Reading::entry_in))]
 pub fn entry(alloc: Global, value: &Value) -> Result<Entry, LineFault>
     requires { depth (view value.now) ≤ max_depth }

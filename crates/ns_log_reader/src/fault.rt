@@ -1,4 +1,4 @@
-//! Why a text is no log.
+//! The faults of texts that are not logs, and of their lines.
 
 ghost use Rattle.std.specs.Prelude.{◌≡◌};
 ghost use Rattle.ns_log_reader.specs.declared.fault.LineFault.TheVariants as LineFault;
@@ -9,6 +9,7 @@ use ns_types::refusal::Refusal;
 use std::alloc::AllocError;
 use thiserror::Error;
 
+/// Why a text is not a log.
 #[derive(Clone, Copy, Debug, PartialEq, Eq, Error)]
 pub enum LogFault {
     /// The first bad line, counted from 1.
@@ -50,7 +51,7 @@ fn fault_of(refusal: Refusal) -> LineFault
     }
 }
 
-/// What was read of a document. A line whose document is refused is bad.
+/// The document that was read, or the fault of its line. A refused document makes the line bad.
 pub fn accepted<T>(read: Result<T, Refusal>) -> Result<T, LineFault>
     ensures { result ≡ accepted read }
 {

@@ -30,13 +30,14 @@ fn secret_of(alloc: Global, line: &[u8]) -> Result<Secret, LineFault>
     }
 }
 
-/// The bootstrap secret, and how many bytes the first line has.
+/// The bootstrap secret, and the length of the first line in bytes.
 #[derive(Drop)]
 pub struct Head {
     pub secret: Secret,
     pub len: usize,
 }
 
+/// Reads the first line of a log at the front of the text.
 pub fn read_head(alloc: Global, text: &[u8]) -> Result<Head, LineFault>
     ensures text { IfOk result (λ h.
         text.now ≡ line_of (first_text h.secret) ++ drop h.len text.now) }

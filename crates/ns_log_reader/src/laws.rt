@@ -2,7 +2,7 @@
 
 ghost use Rattle.ns_log_reader.specs.Laws.{OneLog, LogHasNoFault, OneFault};
 
-/// Two logs with one text are the same.
+/// Two logs that have the same text have the same secret and the same entries.
 pub fn one_log()
     ensures { OneLog }
 {}
@@ -12,7 +12,7 @@ pub fn log_has_no_fault()
     ensures { LogHasNoFault }
 {}
 
-/// At most one line is the first bad one.
+/// A text has at most one first bad line.
 pub fn one_fault()
     ensures { OneFault }
 {}

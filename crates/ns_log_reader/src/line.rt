@@ -1,4 +1,4 @@
-//! Lines, one after the other.
+//! Reads a log line by line.
 
 ghost use Rattle.std.specs.Prelude.{◌≡◌, ◌<◌, ◌≤◌, None, Some, Err, IfOk, IfSome, IsUtf8, length};
 ghost use Rattle.std.specs.List.{position};
@@ -17,7 +17,7 @@ use ns_types::name::Secret;
 use serde_json::Value;
 use std::alloc::Global;
 
-/// Where the first line feed stands.
+/// The position of the first line feed, if there is one.
 pub fn line_end(text: &[u8]) -> Option<usize>
     ensures value { result ≡ position is_feed text.now }
     ensures within { IfSome result (λ end. end < length text.now) }
@@ -43,7 +43,7 @@ fn value_of(alloc: Global, line: &[u8]) -> Result<Value, LineFault>
     }
 }
 
-/// The only entry whose line it can be. The line may spell it otherwise.
+/// The only entry that the line can stand for. A log may still spell its line otherwise.
 fn candidate(alloc: Global, line: &[u8]) -> Result<Entry, LineFault>
     ensures within { IfOk result IsWithin }
     ensures text { IfOk result (λ e. IsUtf8 line.now) }
@@ -53,14 +53,14 @@ fn candidate(alloc: Global, line: &[u8]) -> Result<Entry, LineFault>
     entry(alloc, &value)
 }
 
-/// An entry, and how many bytes its line has.
+/// An entry, and the length of its line in bytes.
 #[derive(Drop)]
 struct NextEntry {
     entry: Entry,
     len: usize,
 }
 
-/// The entry with whose line the text begins.
+/// Reads the entry whose line is at the front of the text.
 fn next_entry(alloc: Global, text: &[u8]) -> Result<NextEntry, LineFault>
     ensures ok { IfOk result (λ l. BeginsWithLine text.now l.entry l.len) }
     ensures bad { result ≡ Err LineFault.Bad → HasBadEntry text.now }
@@ -82,14 +82,14 @@ fn next_entry(alloc: Global, text: &[u8]) -> Result<NextEntry, LineFault>
     }
 }
 
-/// A line: its entry, unless it stands in front of a segment, and how many bytes it has.
+/// A line: its entry, or none for the head of a segment, and its length in bytes.
 #[derive(Drop)]
 pub struct Next {
     pub entry: Option<Entry>,
     pub len: usize,
 }
 
-/// The line in front of a segment before which come so many entries, if the text begins with it.
+/// Reads the head of a segment after `start` entries, if the text begins with it.
 fn next_head(alloc: Global, text: &[u8], secret: &Secret, start: u64) -> Result<Next, LineFault>
     ensures none { IfOk result (λ l. l.entry ≡ None) }
     ensures ok { IfOk result (λ l. IsNext text.now secret.now start LogLine.head l.len) }
@@ -102,7 +102,7 @@ fn next_head(alloc: Global, text: &[u8], secret: &Secret, start: u64) -> Result<
     }
 }
 
-/// The line that the text begins with, where so many entries come before it.
+/// Reads the line at the front of the text, which comes after `start` entries.
 pub fn next_line(alloc: Global, text: &[u8], secret: &Secret, start: u64) -> Result<Next, LineFault>
     ensures ok { IfOk result (λ l. IsNext text.now secret.now start (line_from l.entry) l.len) }
     ensures bad { result ≡ Err LineFault.Bad → HasBadLine secret.now start text.now }

@@ -1,4 +1,4 @@
-//! A whole log.
+//! Reads a whole log.
 
 ghost use Rattle.std.specs.Prelude.{◌≡◌, ◌++◌, ◌∷◌, [], IfOk, IsErrOf, OnOk, ℕ};
 ghost use Rattle.ns_log_reader.specs.Lines.{IsFault, IsLogOf, entries_of};
@@ -27,7 +27,7 @@ impl Drop for Log {
     }
 }
 
-/// Adds the entry of a line, if it has one.
+/// Adds the entry of a line, if the line has one. Want of memory is the only error.
 fn push_entry(entries: &mut Rows<Entry>, entry: Option<Entry>) -> Result<(), AllocError>
     ensures { OnOk result (entries.new ≡ entries.old ++ entries_of (line_from entry ∷ [])) }
 {
@@ -37,7 +37,7 @@ fn push_entry(entries: &mut Rows<Entry>, entry: Option<Entry>) -> Result<(), All
     Ok(())
 }
 
-/// The entries of the lines after the first. Those are counted from the second of the log on.
+/// Reads the entries of the lines after the first. A bad line is counted from the first line of the log.
 fn read_entries(alloc: Global, text: &[u8], secret: &Secret) -> Result<Rows<Entry>, LogFault>
     ensures ok { IfOk result (λ entries. HasEntries text.now secret.now entries) }
     ensures bad { (n : ℕ) → IsErrOf result (LogFault.Line n) → StopsAfter text.now secret.now n }
@@ -72,9 +72,9 @@ fn read_entries(alloc: Global, text: &[u8], secret: &Secret) -> Result<Rows<Entr
     Ok(entries)
 }
 
-/// The log that a text is, or its first bad line. A line is bad unless it is what `ns_log` writes for an entry, or in front
-/// of a segment before which come as many entries as before the line, its line feed included. Fails also where memory runs
-/// out.
+/// Reads the log that a text is. A line is good only if it is, line feed included, what `ns_log` writes for an entry, or for
+/// the head of a segment after as many entries as come before the line. The errors are the first bad line, counted from 1, and
+/// want of memory.
 pub fn log_read(alloc: Global, text: &[u8]) -> Result<Log, LogFault>
     ensures ok { IfOk result (λ log. IsLogOf text.now log.secret log.entries) }
     ensures bad { (n : ℕ) → IsErrOf result (LogFault.Line n) → IsFault text.now n }

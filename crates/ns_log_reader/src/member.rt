@@ -1,4 +1,4 @@
-//! Members of an object, by their names.
+//! Reads members of an object by their names.
 
 ghost use Rattle.std.specs.Prelude.{◌≡◌, ◌<◌, IfOk, IsTrue};
 ghost use Rattle.serde_json.specs.Data.{depth};
@@ -13,13 +13,14 @@ use ns_types::text::Text;
 use serde_json::Value;
 use std::alloc::Global;
 
+/// Whether the object has the member.
 pub fn has(object: &Value, name: &str) -> bool
     ensures { result ≡ has name.now (view object.now) }
 {
     object.get(name).is_some()
 }
 
-/// The member, which nests less deep.
+/// The member, which is nested less deeply than the object. The line is bad without it.
 #[tactic(auto, unfolding(crate::specs::Reading::member_in))]
 pub fn member<'v>(object: &'v Value, name: &str) -> Result<&'v Value, LineFault>
     ensures value { Gives (λ v. view v.now) result (member_in name.now (view object.now)) }
@@ -44,7 +45,7 @@ pub fn text(alloc: Global, object: &Value, name: &str) -> Result<Text, LineFault
     Ok(Text::from_str(alloc, word(object, name)?)?)
 }
 
-/// A name of that kind.
+/// Reads the member as a name of that kind.
 #[tactic(auto, unfolding(crate::specs::Reading::name_in))]
 pub fn name(alloc: Global, object: &Value, member: &str, kind: NameKind) -> Result<Text, LineFault>
     ensures value { Gives same result (name_in kind member.now (view object.now)) }
@@ -74,7 +75,7 @@ pub fn flag(object: &Value, name: &str) -> Result<bool, LineFault>
     member(object, name)?.as_bool().ok_or(LineFault::Bad)
 }
 
-/// A text, or none where it is null.
+/// Reads the member as a text, or as none where it is null.
 #[tactic(auto, unfolding(crate::specs::Reading::text_or_null_in))]
 pub fn text_or_null(alloc: Global, object: &Value, name: &str) -> Result<Option<Text>, LineFault>
     ensures { Gives same result (text_or_null_in name.now (view object.now)) }
@@ -88,7 +89,7 @@ pub fn text_or_null(alloc: Global, object: &Value, name: &str) -> Result<Option<
     }
 }
 
-/// A number, or none where it is null.
+/// Reads the member as a number, or as none where it is null.
 #[tactic(auto, unfolding(crate::specs::Reading::number_or_null_in))]
 pub fn number_or_null(object: &Value, name: &str) -> Result<Option<u64>, LineFault>
     ensures value { Gives same result (number_or_null_in name.now (view object.now)) }

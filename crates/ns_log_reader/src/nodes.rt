@@ -1,4 +1,4 @@
-//! What is asked of a pool and its nodes.
+//! Reads the commands about a pool and its nodes.
 
 ghost use Rattle.std.specs.Prelude.{◌≤◌, IfOk, IsTrue};
 ghost use Rattle.serde_json.specs.Data.{depth};
@@ -108,7 +108,7 @@ fn of_pool(word: &str) -> Result<NodeCommand, LineFault>
     }
 }
 
-/// The command of that name. The arguments tell which it can be.
+/// Reads the command with this word. The arguments decide which commands the word can name.
 #[tactic(auto, unfolding(crate::specs::Reading::node_command_in))]
 pub fn node_command(alloc: Global, word: &str, arguments: &Value) -> Result<NodeCommand, LineFault>
     requires { depth (view arguments.now) ≤ max_depth }

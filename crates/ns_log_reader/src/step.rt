@@ -1,4 +1,4 @@
-//! Steps.
+//! Reads steps.
 
 ghost use Rattle.std.specs.Prelude.{◌≤◌, IfOk, IsTrue};
 ghost use Rattle.serde_json.specs.Data.{depth};
@@ -66,7 +66,7 @@ fn node(alloc: Global, step: &Value) -> Result<Step, LineFault>
     Ok(Step::Node(pool, secret, GoodNodeCommand::new(command)))
 }
 
-/// The step of a worker that goes on.
+/// Reads a worker's step other than a dequeue, by its kind.
 #[tactic(auto, unfolding(crate::specs::Reading::work_of))]
 fn work_of(kind: &str, worker: u64, namespace: Text) -> Result<Step, LineFault>
     requires { IsTrue (fits worker) }
@@ -127,6 +127,7 @@ fn step_of(alloc: Global, kind: &str, step: &Value) -> Result<Step, LineFault>
     }
 }
 
+/// Reads the step of an entry.
 #[tactic(auto, unfolding(crate::specs::Reading::step_in))]
 pub fn step(alloc: Global, value: &Value) -> Result<Step, LineFault>
     requires { depth (view value.now) ≤ max_depth }

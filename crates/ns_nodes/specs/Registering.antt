@@ -5,7 +5,7 @@ use Rattle.ns_types.specs.declared.node.Offer.{Offer}
 use Rattle.ns_types.specs.Settling.Releases.{same_offer}
 use Rattle.ns_types.specs.State.Rows.{is_free}
 
--- a new node does, and one that is free where it offers otherwise
+-- a new node gives room, and so does a free node with another offer
 abbrev pub gives_room : Offer → Option Node → Bool
 gives_room offer None = true
 gives_room offer (Some old) = is_free old && not (same_offer old.offer offer)

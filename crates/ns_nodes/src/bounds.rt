@@ -1,5 +1,5 @@
-//! Whether a counter passes its bound once a step on one node has settled. It takes no memory, so that this is judged
-//! before anything that does.
+//! Whether a counter passes its bound once a step on one node has settled. It takes no memory, so it can be decided before
+//! anything that takes memory.
 
 ghost use Rattle.std.specs.Prelude.{◌≡◌, ◌&&◌, ◌||◌, not, option_copied};
 ghost use Rattle.std.specs.List.{list_any};
@@ -25,7 +25,7 @@ use ns_types::text::Text;
 
 // ---- room that is given
 
-/// Whether a node gives room by this registration: a new one does, and one that is free where it offers otherwise.
+/// Whether the node gives room by this registration: a new node does, and so does a free node with another offer.
 fn gives_room(offer: &Offer, old: Option<&Node>) -> bool
     ensures { result ≡ gives_room offer.now (option_copied old.entry) }
 {
@@ -35,7 +35,7 @@ fn gives_room(offer: &Offer, old: Option<&Node>) -> bool
     }
 }
 
-/// Whether a counter passes its bound once the node has registered with such an offer.
+/// Whether a counter passes its bound once the node has registered with this offer.
 pub(crate) fn registering_passes(
     tables: &Tables,
     pool: &Text,
@@ -48,7 +48,7 @@ pub(crate) fn registering_passes(
     gives_room(offer, old) && given_room_passes(tables, pool, offer)
 }
 
-/// Whether a counter passes its bound once the node, which offers the same, has such a status and eligibility.
+/// Whether a counter passes its bound once the node has this status and eligibility, with the same offer.
 pub(crate) fn freed_passes(
     tables: &Tables,
     pool: &Text,
@@ -73,7 +73,7 @@ fn is_live_at(pool: &Text, node: &Text, tenant: &TenantRows, slot: &NumberSlot<(
     }
 }
 
-/// Whether the namespace has an allocation that is live on the node, by the numbers that the index has of it.
+/// Whether one of these numbers of the namespace is that of an allocation that is live on the node.
 fn any_is_live(pool: &Text, node: &Text, tenant: &TenantRows, slots: &[NumberSlot<()>]) -> bool
     ensures { result ≡ list_any (is_live_at pool.now node.now (tenant_of tenant.now)) slots.now }
 {
@@ -143,8 +143,8 @@ fn any_loss_passes(
 }
 
 /// Whether a counter passes its bound once the node has gone down: the index of a namespace that loses an allocation, the
-/// number of an evaluation in it, or one by the release of its quota. Its work grows with the number of the node's live
-/// allocations, and with that of the blocked evaluations.
+/// number of an evaluation in it, or a counter that the release of its quota raises. Its work grows with the number of live
+/// allocations on the node, and with that of the blocked evaluations.
 pub(crate) fn loss_passes(tables: &Tables, live: &Live, pool: &Text, node: &Text) -> bool
     requires right { IsRight (world_of tables.now) live.now }
     ensures { result ≡ loss_passes (world_of tables.now) pool.now node.now }

@@ -16,8 +16,8 @@ use ns_types::node::NodeStatus;
 use ns_types::refusal::Refusal;
 use ns_types::text::Text;
 
-/// The node is eligible for allocations, or is not. `NotFound`: there is no such pool, or no such node in it. `Full`: a
-/// counter would pass its bound, since the node gives room.
+/// Prepares a change of the node's eligibility for allocations. `NotFound`: there is no such pool, or no such node in it.
+/// `Full`: a counter would pass its bound, because the node gives room. Want of memory comes last.
 pub fn set_eligible(
     tables: &Tables,
     pool: &Text,
@@ -40,8 +40,8 @@ pub fn set_eligible(
     put_alone(tables, pool, name, row)
 }
 
-/// The node is up: it is ready, whatever it was. `NotFound`: there is no such pool, or no such node in it. `Full`: a
-/// counter would pass its bound, since the node gives room.
+/// Prepares the node's return to ready, whatever its status was. `NotFound`: there is no such pool, or no such node in it.
+/// `Full`: a counter would pass its bound, because the node gives room. Want of memory comes last.
 pub fn set_ready(tables: &Tables, pool: &Text, name: &Text) -> Result<Prepared, Refusal>
     requires { is_past_bound (world_of tables.now) ≡ false }
     ensures { let command = NodeCommand.SetStatus name.now NodeStatus.Ready in

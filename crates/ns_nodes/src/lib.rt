@@ -1,6 +1,6 @@
-//! Prepares commands on nodes. Each looks at the tables and says what it replies and what it changes itself; settling and
-//! committing come after, the same for every step. A command by which a counter would pass its bound once it has
-//! settled is refused here, before any memory is taken: so want of memory is answered where the step would be made.
+//! Prepares commands on nodes. Each reads the tables, and returns its reply and its own change. Settling and committing come
+//! after, the same for every step. A command is refused here if a counter would pass its bound once the command has settled,
+//! before any memory is taken. So a command that is refused for want of memory would otherwise have been done.
 #![tactic(auto)]
 
 mod bounds;

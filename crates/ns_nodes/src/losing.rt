@@ -23,14 +23,14 @@ use std::alloc::{AllocError, Global};
 
 // ---- numbers
 
-/// Whether it is of the job, and live on the node.
+/// Whether the allocation is of the job, and live on the node.
 fn is_of_job(pool: &Text, node: &Text, job: &Text, row: &Allocation) -> bool
     ensures { result ≡ (same_name job.now row.now.job && is_live_on pool.now node.now row.now) }
 {
     same_text(job, &row.job) && is_live_on(pool, node, row)
 }
 
-/// Whether the row at the number is of the job, and live on the node.
+/// Whether the allocation at the number is of the job, and live on the node.
 fn is_losing(
     pool: &Text,
     node: &Text,
@@ -62,7 +62,7 @@ fn any_is_losing(
         .any(|slot| is_losing(pool, node, job, tenant, slot))
 }
 
-/// Whether it is live on the node, and none of the later ones is of its job.
+/// Whether the allocation is live on the node, and no later one that is live there is of its job.
 fn is_last(
     pool: &Text,
     node: &Text,
@@ -78,7 +78,7 @@ fn is_last(
     is_live_on(pool, node, row) && !any_is_losing(pool, node, &row.job, tenant, later)
 }
 
-/// The same of the row at the number.
+/// Whether the allocation at the number is live on the node, and no later one that is live there is of its job.
 fn is_last_of_job(
     pool: &Text,
     node: &Text,
@@ -95,8 +95,8 @@ fn is_last_of_job(
     }
 }
 
-/// Whether the namespace has too few numbers for an evaluation of each of the jobs that lose an allocation, by the numbers of
-/// those that are live on the node. It takes no memory.
+/// Whether the namespace has too few numbers for an evaluation of each of the jobs that lose an allocation, given the numbers
+/// of its live allocations on the node. It takes no memory.
 pub(crate) fn numbers_pass_at(
     pool: &Text,
     node: &Text,
@@ -121,7 +121,7 @@ pub(crate) fn numbers_pass_at(
 
 // ---- keys
 
-/// Puts the number of an allocation under its job, where that is live on the node and the job has none yet.
+/// Puts the number of an allocation under its job, if the allocation is live on the node and the job has no number yet.
 fn put_losing(
     losing: &mut NameTable<u64>,
     pool: &Text,
@@ -139,7 +139,7 @@ fn put_losing(
     Ok(())
 }
 
-/// The same of the row at the number.
+/// Puts the slot's number under the job of its allocation, if that is live on the node and the job has no number yet.
 fn put_losing_at(
     losing: &mut NameTable<u64>,
     pool: &Text,
@@ -156,7 +156,7 @@ fn put_losing_at(
     }
 }
 
-/// Of each job the first allocation that is live on the node, by the numbers of those that are.
+/// For each job the number of its first allocation that is live on the node, given the numbers of the live allocations on it.
 fn losing_numbers(
     alloc: Global,
     pool: &Text,
@@ -236,8 +236,8 @@ fn add_all_keys(
     Ok(())
 }
 
-/// Of each job that has live allocations on the node the one with the least number, by namespace, then job id. Its work
-/// grows with the number of the node's live allocations, and with no other.
+/// For each job that has live allocations on the node, the key of the one with the least number, by namespace, then job id.
+/// Its work grows only with the number of live allocations on the node.
 pub(crate) fn losing_keys(
     tables: &Tables,
     live: &Live,

@@ -95,8 +95,8 @@ fn lose_each(tables: &Tables, change: &mut Change, keys: &[EvalKey]) -> Result<(
     Ok(())
 }
 
-/// The live allocations on the node are lost. The premises are that no namespace was changed before, and that the index is
-/// right. Its work grows with the number of those allocations, and with no other.
+/// Marks the live allocations on the node as lost. The premises are that no namespace was changed before, and that the index
+/// is right. Its work grows only with the number of these allocations.
 pub(crate) fn lose(
     tables: &Tables,
     live: &Live,

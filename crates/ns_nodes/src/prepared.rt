@@ -15,7 +15,7 @@ use ns_types::refusal::Refusal;
 use ns_types::reply::Content;
 use ns_types::text::Text;
 
-/// The node is put into its pool, and nothing else changes.
+/// Prepares a put of the node into its pool. Nothing else changes.
 pub(crate) fn put_alone(
     tables: &Tables,
     pool: &Text,

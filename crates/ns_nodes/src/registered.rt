@@ -1,4 +1,4 @@
-//! A node that says what it offers.
+//! A node that registers what it offers.
 
 ghost use Rattle.std.specs.Prelude.{◌≡◌, ◌&&◌, false, is_none, nat_le, option_copied};
 ghost use Rattle.std.specs.FinMap.{len};
@@ -20,10 +20,10 @@ use ns_types::refusal::Refusal;
 use ns_types::resources::{Resources, is_within};
 use ns_types::text::Text;
 
-/// No pool has more nodes.
+/// The greatest number of nodes in a pool.
 const MOST_NODES: usize = 1000;
 
-/// A new node is ready and eligible. One that is there offers something else from now on.
+/// The node with the offer. A new node is ready and eligible. A node that is there keeps all else.
 fn with_offer(offer: Offer, old: Option<&Node>) -> Node
     ensures { result ≡ with_offer offer (option_copied old.entry) }
 {
@@ -43,7 +43,7 @@ fn with_offer(offer: Offer, old: Option<&Node>) -> Node
     }
 }
 
-/// Whether the node is new, and the pool has no place for it.
+/// Whether the node is new, and its pool can have no more nodes.
 fn is_full(nodes: &NameTable<Node>, old: Option<&Node>) -> bool
     ensures { result ≡ (is_none (option_copied old.entry)
         && nat_le most_nodes (len (rows nodes.now))) }
@@ -51,9 +51,10 @@ fn is_full(nodes: &NameTable<Node>, old: Option<&Node>) -> bool
     old.is_none() && MOST_NODES <= nodes.len()
 }
 
-/// A node registers, for the first time or again. `load` is what the live allocations on it take together.
-/// `NotFound`: there is no such pool. `InUse`: it offers less than the load. `Full`: it is new, and the pool has 1,000
-/// nodes; or a counter would pass its bound, since the node gives room. In this order.
+/// Prepares the registration of a node, for the first time or again. `load` is what the live allocations on the node take
+/// together. `NotFound`: there is no such pool. `InUse`: the node offers less than the load. `Full`: the node is new, and the
+/// pool has 1,000 nodes; or a counter would pass its bound, because the node gives room. In this order. Want of memory comes
+/// last.
 pub fn register_node(
     tables: &Tables,
     pool: &Text,

@@ -1,4 +1,4 @@
-//! A node that goes.
+//! A node that is removed.
 
 ghost use Rattle.std.specs.Prelude.{◌≡◌, false};
 ghost use Rattle.ns_types.specs.declared.step.NodeCommand.TheVariants as NodeCommand;
@@ -24,8 +24,8 @@ pub(crate) fn is_ready(status: NodeStatus) -> bool
     }
 }
 
-/// The node is taken away, which gives no room. `NotFound`: there is no such pool, or no such node in it. `InUse`: it is
-/// not down.
+/// Prepares the removal of the node, which gives no room. `NotFound`: there is no such pool, or no such node in it. `InUse`:
+/// the node is not down. Want of memory comes last.
 pub fn remove_node(tables: &Tables, pool: &Text, name: &Text) -> Result<Prepared, Refusal>
     requires { is_past_bound (world_of tables.now) ≡ false }
     ensures { let w = world_of tables.now in

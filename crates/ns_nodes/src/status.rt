@@ -1,4 +1,4 @@
-//! A node that goes down, with what that takes along.
+//! A node that goes down, the allocations that are lost by that, and the evaluations of their jobs.
 
 ghost use Rattle.std.specs.Prelude.{◌≡◌, false};
 ghost use Rattle.ns_types.specs.declared.reply.Content.TheVariants as Content;
@@ -28,7 +28,7 @@ use ns_types::reply::Content;
 use ns_types::text::Text;
 use std::alloc::AllocError;
 
-/// The live allocations on the node are lost, and each job that had one gets an evaluation. The premises are that no
+/// Marks the live allocations on the node as lost, and makes an evaluation for each job that had one. The premises are that no
 /// namespace was changed before, that each has the numbers for its evaluations, and that the index is right.
 fn go_down(
     tables: &Tables,
@@ -47,7 +47,7 @@ fn go_down(
     renew_each(tables, change, keys.as_slice(), Trigger::NodeUpdate)
 }
 
-/// The node is put, and then it goes down.
+/// Puts the node into its pool, marks the live allocations on it as lost, and makes the evaluations of their jobs.
 fn put_down(
     tables: &Tables,
     live: &Live,
@@ -83,10 +83,10 @@ fn put_down_alone(
     prepare(Content::Written, change, made)
 }
 
-/// The node is down, the live allocations on it are lost, and each job that had one gets an evaluation, by namespace, then
-/// job id. `NotFound`: there is no such pool, or no such node in it. `Full`: a counter would pass its bound: the index of a
-/// namespace that loses an allocation, the number of its last evaluation, or a counter that rises since its quota is
-/// released.
+/// Prepares the step in which the node goes down: the live allocations on it are lost, and each job that had one gets an
+/// evaluation, by namespace, then job id. `NotFound`: there is no such pool, or no such node in it. `Full`: a counter would
+/// pass its bound: the index of a namespace that loses an allocation, the number of its last evaluation, or a counter that the
+/// release of its quota raises. Want of memory comes last.
 pub fn set_down(tables: &Tables, live: &Live, pool: &Text, name: &Text) -> Result<Prepared, Refusal>
     requires bounds { is_past_bound (world_of tables.now) ≡ false }
     requires right { IsRight (world_of tables.now) live.now }

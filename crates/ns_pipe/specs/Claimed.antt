@@ -14,18 +14,18 @@ quota_list None = []
 abbrev pub quotas_of : Namespace → List Name
 quotas_of namespace = quota_list namespace.quota
 
--- those that are named; where none is, what the lists have in the base
+-- the names of one list; if neither list names any, the default
 abbrev pub named_or : List Name → List Name → List Name → List Name
 named_or [] [] default = default
 named_or (name ∷ names) others default = name ∷ names
 named_or [] (other ∷ others) default = []
 
--- the pools to which the namespace is confined in the base, if none of either is named
+-- the named pools; if no pool and no quota is named, the pools to which the namespace is confined in the base
 abbrev pub pools_for : Replay → State → List Name
 pools_for replay base =
     named_or replay.pools replay.quotas (option_map_or pools_of (namespace_at base.world replay.namespace) [])
 
--- its quota there, if none of either is named
+-- the named quotas; if no pool and no quota is named, the namespace's quota in the base
 abbrev pub quotas_for : Replay → State → List Name
 quotas_for replay base =
     named_or replay.quotas replay.pools (option_map_or quotas_of (namespace_at base.world replay.namespace) [])

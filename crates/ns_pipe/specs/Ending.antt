@@ -22,25 +22,25 @@ IsEnd status = (status ≡ SERVED) ⊎ (status ≡ READ_FAULT) ⊎ (status ≡ W
 abbrev pub uncounted : {T : Type 0} → T → Counted T
 uncounted inner = record { inner = inner; counts = no_counts }
 
--- a new server, which drives whom `driven` names
+-- a new server, which drives the worker that `driven` names
 abbrev pub opened : {D : Type 0} → Name → D → Driven → Holding State D Driver
 opened secret draws driven = record { taker = opening secret; draws = draws; follower = driver_of driven }
 
 module _ {D R W : Type 0} (draws : D → List ℕ → D → Type 0) (remaining : R → Option (List ℕ))
     (contents : W → Option (List ℕ)) where
-  -- served to the end, from what was held at first
+  -- the connection was served to its end, beginning with `old`
   abbrev pub EndsServed : Holding State D Driver → Counted R → Counted R → Counted W → Counted W → Type 0
   EndsServed old reader reader' writer writer' = (end : End) × (last : Holding State D Driver)
       × ServedByCore draws old last (streams_between remaining contents reader reader' writer writer') end
       × EndsWell end (remaining reader'.inner) reader'.counts
 
-  -- served up to a fault of the reader
+  -- the connection was served up to a fault of the reader
   abbrev pub EndsByReader : Holding State D Driver → Counted R → Counted R → Counted W → Counted W → Type 0
   EndsByReader old reader reader' writer writer' = (end : End) × (last : Holding State D Driver)
       × ServedByCore draws old last (streams_between remaining contents reader reader' writer writer') end
       × IsReadFault end (remaining reader'.inner) reader.counts reader'.counts
 
-  -- served up to a fault of the writer, which failed or was interrupted too often
+  -- the connection was served up to a fault of the writer, which failed or was interrupted too often
   abbrev pub EndsByWriter : Holding State D Driver → Counted R → Counted R → Counted W → Counted W → Type 0
   EndsByWriter old reader reader' writer writer' = (last : Holding State D Driver)
       × ServedByCoreInPart draws old last (streams_between remaining contents reader reader' writer writer')

@@ -16,25 +16,25 @@ use Rattle.ns_endpoints.specs.Asking.{asked}
 use Rattle.ns_endpoints.specs.Drawing.{DrawsFor}
 use Rattle.ns_pipe.specs.Readable.{AreAsRead, IsTyped}
 
--- ---- rules are the reading of their text
+-- ---- the rules of a policy are those that its text says
 
--- in each step that a request asks for, with what is drawn for it
+-- so they are in each step that a request asks for, with what is drawn for it
 abbrev pub RequestedIsAsRead : {D : Type 0} → (D → List ℕ → D → Type 0) → Type 0
 RequestedIsAsRead {D} draws = (request : Asked) (wanted made : Step) (drawer drawn : D) → asked request ≡ Ok wanted →
     DrawsFor draws wanted drawer made drawn → IsAsRead made
 
--- in each step that no request asks for
+-- so they are in each step that no request asks for
 abbrev pub WorkedIsAsRead : Type 0
 WorkedIsAsRead = (step : Step) → served step ≡ None → IsAsRead step
 
--- in a log with which receipts settle
+-- so they are in a log with which receipts settle, if they are in the receipts
 abbrev pub SettledIsAsRead : Type 0
 SettledIsAsRead = (log : List Entry) (seats : List (List Receipt)) → Settles log seats →
     ((i j : ℕ) (r : Receipt) → IsAt seats i j r → IsAsRead r.step) → AreAsRead log
 
 -- ---- and such a log is read back
 
--- in segments that follow each other, and the rest, whose text is UTF-8
+-- the text of such a log, in segments that follow each other and the rest, is read back as the log, if it is UTF-8
 abbrev pub SegmentsAreReadBack : Type 0
 SegmentsAreReadBack = (secret : Name) (segments : List Given) (rest : List Entry) (given : ℕ) →
     IsTrue (is_name NameKind.Secret secret) → Follows 0 segments given → length (joined segments rest) < 2 ^ 64 →

@@ -19,39 +19,39 @@ use Rattle.ns_faults.specs.Lines.{FailsToWrite}
 use Rattle.ns_pipe.specs.declared.logging.TheConstants.{LOG_LIMIT}
 use Rattle.ns_faults.specs.declared.status.TheConstants.{SERVED, READ_FAULT, WRITE_FAULT, OUT_OF_MEMORY}
 
--- a new server with a log, which drives whom `driven` names
+-- a new server with a log, which drives the worker that `driven` names
 abbrev pub opened_log : {D : Type 0} → Name → D → Driven → Holding History D Driver
 opened_log secret draws driven =
     record { taker = history_of secret LOG_LIMIT; draws = draws; follower = driver_of driven }
 
--- what takes the replies failed, and no log was written
+-- the writer of the replies failed, and no log was written
 abbrev pub LogsNothing : {V W : Type 0} → Counted V → Counted V → Counted W → Counted W → Type 0
 LogsNothing replies replies' writer writer' = IsWriteFault replies.counts replies'.counts × (writer' ≡ writer)
 
 module _ {D R W V : Type 0} (draws : D → List ℕ → D → Type 0) (remaining : R → Option (List ℕ))
     (contents : W → Option (List ℕ)) (replied : V → Option (List ℕ)) where
-  -- The requests were served, from what was held at first. The log has the steps that they made, with all that followed
-  -- them, each with its answer as bytes, in their order, and nothing else.
+  -- The requests were served, beginning with `old`. The log has the steps that they made, with all that followed them, each
+  -- with its answer as bytes, in their order, and nothing else.
   pub record IsLogged (old last : Holding History D Driver) (reader reader' : Counted R) (replies replies' : Counted V)
       (end : End) : Type 0 where
     pub served : ServedByHeld draws old last (streams_between remaining replied reader reader' replies replies') end
     pub noted : AreNoted old.taker served.made.steps served.made.answers last.taker
 
-  -- from that server: the reader and what takes the replies, each before and after
+  -- for that server: the reader and the writer of the replies, each before and after
   module _ (old : Holding History D Driver) (reader reader' : Counted R) (replies replies' : Counted V) where
-    -- The text of the log is read back as that log, and so has no bad line, where each policy that the log put at first has the
+    -- The text of the last log is read back as that log, and so has no bad line, if each policy that the first log put has the
     -- rules that its text says. A new server's log is empty.
     abbrev pub HasGoodLines : Name → Holding History D Driver → Type 0
     HasGoodLines secret last = AreAsRead old.taker.log → IsReadBack secret last.taker.log
 
-    -- served to the end, and the log was written
+    -- the connection was served to its end, and the log was written
     abbrev pub LogsServed : Name → Counted W → Counted W → Type 0
     LogsServed secret writer writer' = (end : End) × (last : Holding History D Driver)
         × IsLogged old last reader reader' replies replies' end
         × EndsWell end (remaining reader'.inner) reader'.counts
         × WritesAll contents writer writer' (log_text secret last.taker.log) × HasGoodLines secret last
 
-    -- served up to a fault of the reader, and the log was written
+    -- the connection was served up to a fault of the reader, and the log was written
     abbrev pub LogsToReadFault : Name → Counted W → Counted W → Type 0
     LogsToReadFault secret writer writer' = (end : End) × (last : Holding History D Driver)
         × IsLogged old last reader reader' replies replies' end

@@ -1,4 +1,4 @@
--- What a log comes to for a namespace alone.
+-- The result of replaying a log for a namespace alone.
 use Rattle.std.specs.Prelude.{◌≡◌, ℕ, ◌+◌, min, List, [], ◌++◌, Option, Some, None, drop, length, slice_get, take}
 use Rattle.ns_types.specs.Isolation.{part_of}
 use Rattle.ns_types.specs.State.Names.{Name}
@@ -18,7 +18,7 @@ use Rattle.ns_pipe.specs.Text.{last_line, own_lines, status_of}
 
 -- ---- the base
 
--- how many entries make the base: so many, or all if there are fewer
+-- how many entries make the base: `from`, or all if there are fewer
 abbrev pub base_len : ℕ → List Entry → ℕ
 base_len from entries = min from (length entries)
 
@@ -28,9 +28,9 @@ IsBaseFault s entries (Fault.NotARun place) = IsNoRunAt s entries place
 IsBaseFault s entries Fault.Memory = Unit {0}
 IsBaseFault s entries _ = ⊥
 
--- ---- the replay after it
+-- ---- the replay after the base
 
--- where the entry of a fault stands among those replayed
+-- the place of a fault's entry among the replayed entries
 abbrev pub place_of : ReplayFault → ℕ
 place_of (Fault.Premise i) = i
 place_of (Fault.Differs i) = i
@@ -53,7 +53,7 @@ pub data ReplaysTo (ns : Name) (pools quotas : List Name) (base : State) (first 
       ending_of first fault ≡ Some ending → ReplaysTo ns pools quotas base first entries
       (own_lines (part_of ns pools quotas) first (take (place_of fault) entries)) ending
 
--- ---- the whole
+-- ---- the whole log
 
 -- the lines and the ending of a log, whose first entries make the base
 pub data ComesTo (bytes : Name) (replay : Replay) : Name → ReplayEnd → Type 0 where
@@ -66,7 +66,7 @@ pub data ComesTo (bytes : Name) (replay : Replay) : Name → ReplayEnd → Type 
       ReplaysTo replay.namespace (pools_for replay base) (quotas_for replay base) base (base_len replay.from entries)
       (drop (base_len replay.from entries) entries) lines ending → ComesTo bytes replay lines ending
 
--- the text that is printed of it, and the exit status
+-- the text that is printed for the replay, and the exit status
 pub record IsPrintout (bytes : Name) (replay : Replay) (text : Name) (status : ℕ) : Type 0 where
   pub lines : Name
   pub ending : ReplayEnd

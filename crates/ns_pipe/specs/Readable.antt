@@ -7,8 +7,7 @@ use Rattle.ns_json.specs.Logs.{log_text}
 use Rattle.ns_json.specs.Replies.{Entry}
 use Rattle.ns_log_reader.specs.Lines.{IsAsRead, IsLogOf, answer_fits, step_fits}
 
--- What the type of an entry keeps of it: its step is within the limits of every step, and its numbers are those of values
--- that a program holds.
+-- What the type of an entry guarantees: its step is within the limits of steps, and its numbers fit the program's integers.
 pub record IsTyped (e : Entry) : Type 0 where
   pub good : IsGoodStep e.0
   pub step : IsTrue (step_fits e.0)

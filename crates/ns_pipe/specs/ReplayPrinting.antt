@@ -10,7 +10,7 @@ use Rattle.ns_pipe.specs.Outcome.{IsPrintout}
 use Rattle.ns_pipe.specs.declared.replay.replay.Replay.{Replay}
 
 module _ {R W : Type 0} (remaining : R → Option (List ℕ)) (contents : W → Option (List ℕ)) where
-  -- all of the input was read, and the text was written of what it comes to
+  -- all of the input was read, and the text of its replay was written
   pub record Prints
       (replay : Replay) (reader reader' : Counted R) (writer writer' : Counted W) (status : ℕ) : Type 0 where
     pub bytes : Name
@@ -19,7 +19,7 @@ module _ {R W : Type 0} (remaining : R → Option (List ℕ)) (contents : W → 
     pub is_printout : IsPrintout bytes replay text status
     pub writes : WritesAll contents writer writer' text
 
-  -- the same, up to a fault of the writer
+  -- all of the input was read, and the text of its replay was written up to a fault of the writer
   pub record PrintsPart
       (replay : Replay) (reader reader' : Counted R) (writer writer' : Counted W) : Type 0 where
     pub bytes : Name

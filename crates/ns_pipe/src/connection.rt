@@ -13,7 +13,7 @@ use ns_types::name::Secret;
 use std::alloc::Global;
 use std::io::{Read, Write};
 
-/// Serves one connection with a new server, which drives the worker that `driven` names after each request, and says the exit
+/// Serves one connection with a new server, which drives the worker that `driven` names after each request. Returns the exit
 /// status. The steps of the requests, and those that follow each, are one run.
 pub fn pipe<D: Draws + Drop, R: Read, W: Write, E: Write>(
     alloc: Global,

@@ -1,5 +1,5 @@
-//! Runs one connection over a reader and a writer, on a server of its own, or replays a log. `written` says, as laws, that the
-//! text of a log is read back as that log, and `replay` prints line by line what a replay comes to.
+//! Runs one connection over a reader and a writer, on a server of its own, or replays a log. `written` has laws that the text
+//! of a log is read back as that log, and `replay` prints the result of a replay line by line.
 #![tactic(auto)]
 
 mod asked;

@@ -21,7 +21,7 @@ use ns_work_log::laws::chain_is_noted;
 use std::alloc::Global;
 use std::io::{Read, Write};
 
-/// How many entries the log of a connection has at most.
+/// The most entries that the log of a connection has.
 pub const LOG_LIMIT: u64 = 1_000_000;
 
 /// Writes the text of the log, which is read back as that log.
@@ -49,7 +49,7 @@ fn write_log<W: Write>(
     }
 }
 
-/// Serves the connection, and then writes the log of all that the server did: after a fault of the reader too.
+/// Serves the connection, and then writes the log of all that the server did, also after a fault of the reader.
 fn serve_and_log<D: Draws, R: Read, W: Write, V: Write>(
     alloc: Global,
     bootstrap: &Secret,
@@ -83,8 +83,8 @@ fn serve_and_log<D: Draws, R: Read, W: Write, V: Write>(
     }
 }
 
-/// Serves one connection with a new server, which drives the worker that `driven` names after each request, and then writes the log
-/// of all that the server did, after a fault of the reader too. The replies go elsewhere. Says the exit status.
+/// Serves one connection with a new server, which drives the worker that `driven` names after each request, and then writes the
+/// log of all that the server did, also after a fault of the reader. The replies go to `replies`. Returns the exit status.
 pub fn pipe_log<D: Draws + Drop, R: Read, W: Write, V: Write, E: Write>(
     alloc: Global,
     bootstrap: &Secret,

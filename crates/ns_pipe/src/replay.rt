@@ -1,4 +1,4 @@
-//! Reads a log, replays it for a namespace alone, and prints line by line what it comes to.
+//! Reads a log, replays it for a namespace alone, and prints the result line by line.
 
 mod base;
 mod claimed;

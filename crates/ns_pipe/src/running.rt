@@ -1,4 +1,4 @@
-//! What the program does, by what it is asked.
+//! Does what the words of the command line ask for.
 
 ghost use Rattle.std.specs.Prelude.{◌≡◌, ℕ, List, ◌⊎◌};
 ghost use Rattle.ns_http.specs.Output.{WritesAll};
@@ -27,7 +27,7 @@ use ns_types::name::Secret;
 use std::alloc::Global;
 use std::io::{Read, Write};
 
-/// How a run ended, with its reader, its writer, and what took the replies that are not printed.
+/// How a run ended, with its reader, its writer, and the writer of the replies that are not printed.
 #[derive(Drop)]
 pub struct EndedRun<R, W> {
     pub status: u8,
@@ -36,7 +36,7 @@ pub struct EndedRun<R, W> {
     pub unprinted: Counted<Nowhere>,
 }
 
-/// Writes the help, and says the exit status.
+/// Writes the help, and returns the exit status.
 fn show<W: Write, E: Write>(help: &str, writer: &mut Counted<W>, errors: &mut Counted<E>) -> u8
     ensures status { (result ≡ SERVED) ⊎ (result ≡ WRITE_FAULT) }
     ensures shown { result ≡ SERVED → WritesAll W.contents writer.old writer.new help.now }
@@ -52,7 +52,7 @@ fn show<W: Write, E: Write>(help: &str, writer: &mut Counted<W>, errors: &mut Co
     }
 }
 
-/// Serves one connection, and prints what it says.
+/// Serves one connection, and prints its replies or its log.
 fn converse<D: Draws + Drop, R: Read + Drop, W: Write + Drop, E: Write>(
     alloc: Global,
     secret: &Secret,
@@ -112,7 +112,7 @@ fn converse<D: Draws + Drop, R: Read + Drop, W: Write + Drop, E: Write>(
     }
 }
 
-/// Reads a log, and replays what the namespace did alone.
+/// Reads a log, and replays it for the namespace alone.
 fn replay<R: Read + Drop, W: Write + Drop, E: Write>(
     alloc: Global,
     replay: &Replay,
@@ -137,7 +137,7 @@ fn replay<R: Read + Drop, W: Write + Drop, E: Write>(
     }
 }
 
-/// Does what the words ask for, and says how that ended. Only a connection and a replay read input.
+/// Does what the words ask for, and returns how that ended. Only a connection and a replay read input.
 pub fn run<D: Draws + Drop, R: Read + Drop, W: Write + Drop, E: Write>(
     alloc: Global,
     asked: &WordsRead,
@@ -167,7 +167,7 @@ pub fn run<D: Draws + Drop, R: Read + Drop, W: Write + Drop, E: Write>(
     ensures unread { IsNoConnection asked.now → IsNoReplay asked.now
         → result.reader ≡ uncounted reader }
 
-    // What is written on the errors goes by the status.
+    // The status decides what is written to `errors`.
     ensures silent { result.status ≡ SERVED → errors.new ≡ errors.old }
     ensures fault_line { (fault : ConnFault) → result.status ≡ status_of fault
         → TriesToWrite E.contents errors.old errors.new (line_of fault) }

@@ -1,4 +1,4 @@
-//! Says, as laws, that what is written of a log is read back as that log: it has no bad line.
+//! Laws that the text of a log is read back as that log, and so has no bad line.
 
 pub mod laws;
 mod text;

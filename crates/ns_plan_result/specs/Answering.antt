@@ -1,4 +1,4 @@
--- What an Apply answers, and what becomes of the worker.
+-- The answer of an Apply, and the row of its worker afterwards.
 use Rattle.std.specs.Prelude.{◌≡◌, ℕ, Option, Some}
 use Rattle.std.specs.FinMap.{insert}
 use Rattle.keyed.specs.Table.{with_slot}
@@ -11,11 +11,11 @@ use Rattle.ns_types.specs.Working.Work.{with_worker, without_key}
 use Rattle.ns_types.specs.Working.Worker.{Worker}
 use Rattle.ns_plan_result.specs.declared.answering.Effect.{Effect}
 
--- a table of names has that one too
+-- the table of names with this name added
 abbrev pub with_name : ByName (Option Unit) → Name → ByName (Option Unit)
 with_name table name = insert (with_slot table name) name (Some tt)
 
--- the row of a worker whose plan was applied so, and its plan is out of the list
+-- the worker's row says that its plan was applied so, and the plan has left the list of plans
 abbrev pub marked : ℕ → Name → Worker → Evaluation → Applied → World → World
 marked number ns worker e a w = record (change_tenant ns (with_worker number (applied_worker a worker e)) w)
     { plans = without_key (ns, worker.evaluation) w.plans }

@@ -1,4 +1,4 @@
--- All that is written of a plan that stands. Here t is the snapshot's namespace, in the state before it.
+-- All that is written of a plan that stands. Here t is the snapshot's namespace in the state before the step.
 use Rattle.std.specs.Prelude.{◌≡◌, ℕ, List}
 use Rattle.ns_types.specs.declared.plan.Eviction.{Eviction}
 use Rattle.ns_types.specs.declared.plan.Plan.{Plan}
@@ -9,13 +9,13 @@ use Rattle.ns_renewal.specs.Losing.{CanMakeUp}
 use Rattle.ns_plan_result.specs.Placing.{CanPlace}
 use Rattle.ns_types.specs.Working.Parts.{placed_on, stopped}
 
--- those nodes do their part, and there are numbers and places for all that is new
+-- these are the nodes that do their part, and numbers and places are left for all new rows
 pub record CanWrite (kept : Snapshot) (p : Plan) (w : World) (t : Tenant) (nodes : List ℕ) : Type 0 where
   pub committed : nodes ≡ (done kept p w t).checked.committed
   pub place : CanPlace kept (placed_on nodes p.placing.placements) w
   pub make_up : CanMakeUp (evicted_rows (stopped kept p w t) kept (placed_on nodes p.placing.placements)) w
 
--- in x the stops and the victims of those nodes went
+-- x is the world without the stops and the victims of these nodes
 pub record IsCleared (kept : Snapshot) (p : Plan) (w : World) (t : Tenant) (nodes : List ℕ) (victims : List Eviction) (x : World) : Type 0 where
   pub victims_are : victims ≡ victims_of (stopped kept p w t) kept (placed_on nodes p.placing.placements)
   pub world_is : x ≡ evict_all (stopped kept p w t) victims

@@ -1,4 +1,4 @@
-//! What an Apply answers, and the row of its worker.
+//! The answer of an Apply, and the row of its worker afterwards.
 
 ghost use Rattle.std.specs.Prelude.{◌≡◌, ◌+◌, ◌<◌, ◌^◌, ◌++◌, ◌||◌, not, false, IfOk, OnOk, fold, length, map};
 ghost use Rattle.std.specs.FinMap.{empty, get};
@@ -34,7 +34,7 @@ use std::alloc::{AllocError, Global};
 
 // ---- the answer
 
-/// The numbers of the allocations that are placed, in the plan's order, where the namespace's last one is `last`.
+/// The numbers of the new allocations, in the plan's order. `last` is the namespace's last number before.
 pub(crate) fn numbers_made(committed: &Committed, last: u64) -> Result<Rows<u64>, AllocError>
     requires { let placements = committed.now.plan.now.placing.placements in
         last + length (placed_on committed.now.nodes.now placements) < 2 ^ 64 }
@@ -132,7 +132,7 @@ fn any_placed(nodes: &Places<'_>, placements: &[Placement]) -> bool
     placements.iter().any(|placement| nodes.has(placement.node))
 }
 
-/// What becomes of a plan that stands, where these of its nodes are dropped.
+/// The effect of a plan that stands and of which these nodes are dropped.
 pub(crate) fn effect_of(committed: &Committed, tenant: &TenantRows, dropped: &[u16]) -> Effect
     ensures { let p = committed.now.plan.now in
         let placed = placed_on committed.now.nodes.now p.placing.placements in
@@ -159,7 +159,7 @@ fn tries_for(kind: JobKind) -> u64
     }
 }
 
-/// What was done resets the tries, and a drop without it uses one.
+/// The worker's tries afterwards. If something was done, they are reset; if nothing was and something was dropped, one is used.
 fn tries_after(turn: &Turn, effect: Effect) -> u64
     ensures { (a : Applied) → IsEffect a effect →
         result ≡ tries_after a turn.now.worker.now turn.now.evaluation.now }
@@ -173,7 +173,8 @@ fn tries_after(turn: &Turn, effect: Effect) -> u64
     }
 }
 
-/// The worker's plan was applied: its row says so, with the tries that remain, and the plan is out of the list.
+/// Marks the worker's plan as applied: the worker's row gets its new phase and the tries that remain, and the plan leaves the
+/// list of plans.
 pub(crate) fn mark(
     tables: &Tables,
     change: &mut Change,

@@ -1,4 +1,4 @@
-//! What an Apply comes to: the answer with the change, once it is known which nodes do their part.
+//! The answer and the change of an Apply, once it is known which nodes do their part.
 
 ghost use Rattle.std.specs.Prelude.{◌≡◌, IfOk, Some, true};
 ghost use Rattle.keyed.specs.Table.{row_at};
@@ -24,7 +24,7 @@ use ns_types::rows::Rows;
 use ns_types::snapshot::Snapshot;
 use std::alloc::AllocError;
 
-/// The answer with the change, where there was memory for both.
+/// The answer with the change, if there was memory for both.
 fn prepared(change: Change, told: Result<Content, AllocError>) -> Result<Prepared, Refusal>
     ensures { (t : Tables) → (outcome : Outcome World) → is_done outcome ≡ true →
         IfOk told (λ content. outcome ≡ Done content (view t change)) →
@@ -39,7 +39,7 @@ fn prepared(change: Change, told: Result<Content, AllocError>) -> Result<Prepare
     }
 }
 
-/// Writes what is done of a plan that stands, with the worker's row, and tells it.
+/// Writes what is done of a plan that stands, and the worker's row. It returns the answer.
 fn write_told(
     committed: &Committed,
     change: &mut Change,
@@ -71,11 +71,11 @@ fn write_told(
     Ok(Content::Applied(numbers, names))
 }
 
-/// What the Apply of a plan that stands answers and changes. The nodes that do their part, and those that are dropped,
-/// were found before; so was that no number or place passes its bound. `Memory` is the only refusal.
+/// The answer and the change of the Apply of a plan that stands. It was decided before which nodes do their part and which are
+/// dropped, and that no number or place passes its bound. `Memory` is the only refusal.
 ///
-/// It costs what the parts of the plan cost: for each stop, each eviction and each placement of the nodes that do their
-/// part a few look-ups and the copy of a row, and for each job that loses an allocation by preemption its evaluation.
+/// It costs a few look-ups and the copy of a row for each stop, and for each eviction and placement of the nodes that do their
+/// part; and an evaluation for each job that loses an allocation by preemption.
 pub fn apply_standing(
     committed: &Committed,
     tenant: &TenantRows,
@@ -104,7 +104,7 @@ pub fn apply_standing(
 
 // ---- a plan that no longer stands
 
-/// Nothing of a plan that no longer stands is done, and all its nodes are dropped.
+/// The effect of a plan that no longer stands: nothing of it is done, and all its nodes are dropped.
 const REFUSED: Effect = Effect {
     has_committed: false,
     has_dropped: true,
@@ -129,7 +129,7 @@ fn mark_told(
     Ok(Content::Applied(Rows::new(tables.alloc), names))
 }
 
-/// What the Apply of a plan that no longer stands answers and changes: nothing of it is done, and all its nodes are
+/// The answer and the change of the Apply of a plan that no longer stands: nothing of it is done, and all its nodes are
 /// dropped. `Memory` is the only refusal.
 pub fn apply_refused(
     tables: &Tables,

@@ -17,7 +17,7 @@ use ns_types::snapshot::Snapshot;
 use ns_types::text::Text;
 use std::alloc::AllocError;
 
-/// Whether the eviction counts on the node, as the change leaves its allocation.
+/// Whether the eviction counts on the node, in the state that the change leaves.
 #[tactic(auto, unfolding(ns_types::specs::Working::Commit::counts))]
 fn counts(tables: &Tables, change: &Change, pool: &Text, node: &Text, eviction: &Eviction) -> bool
     ensures { result ≡ counts (view tables.now change.now) pool.now node.now eviction.now }
@@ -63,8 +63,8 @@ fn add_victims<'a>(
     add_counting(victims, tables, change, &snapshot.pool, name, evictions)
 }
 
-/// The evictions of the nodes that do their part, of those that count as the change leaves their allocations: in the
-/// plan's order, and an allocation may be named twice. It costs a look-up for each eviction of these nodes.
+/// The evictions of the nodes that do their part, if they count in the state that the change leaves. They are in the plan's
+/// order, and two of them may name the same allocation. It costs a look-up for each eviction of these nodes.
 pub(crate) fn victims<'a>(
     committed: &Committed<'a>,
     change: &Change,
@@ -90,7 +90,7 @@ pub(crate) fn victims<'a>(
     Ok(victims)
 }
 
-/// Evicts the allocations that the evictions name, of those that are there. Each costs a look-up and the copy of a row.
+/// Evicts the allocations that the evictions name and that exist. Each costs a look-up and the copy of a row.
 pub(crate) fn evict(
     tables: &Tables,
     change: &mut Change,

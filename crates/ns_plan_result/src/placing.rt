@@ -27,7 +27,7 @@ fn group_name(alloc: Global, job: &Job, group: u64) -> Result<Text, AllocError>
     }
 }
 
-/// The row of a placement on the node, as the node is before it.
+/// The new allocation's row. `node` is its node as it is before the placement.
 fn new_allocation(
     alloc: Global,
     snapshot: &Snapshot,
@@ -100,9 +100,9 @@ fn place_all(committed: &Committed, change: &mut Change, job: &Job) -> Result<()
     Ok(())
 }
 
-/// Places what the plan places on the nodes that do their part, in its order: each is a new allocation, pending under
-/// the next number of the snapshot's namespace, and has the next place of its node. It costs a few look-ups for each of
-/// them, and the copy of a node for the first on it.
+/// Makes the plan's placements on the nodes that do their part, in the plan's order. Each becomes a new allocation: it is
+/// pending, and has the next number of the snapshot's namespace and the next place of its node. It costs a few look-ups for
+/// each placement, and the copy of a node for the first placement there.
 pub(crate) fn place(committed: &Committed, change: &mut Change) -> Result<(), AllocError>
     requires { let placements = committed.now.plan.now.placing.placements in
         let placed = placed_on committed.now.nodes.now placements in

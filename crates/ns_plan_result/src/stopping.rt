@@ -44,8 +44,8 @@ fn stop_in(
     Ok(())
 }
 
-/// Stops each allocation that the plan stops and that is live in the tables. Each stop costs a look-up, and one that is
-/// live the copy of its row.
+/// Stops each allocation that the plan stops and that is live in the tables. Each stop costs a look-up, and the copy of a row
+/// if the allocation is live.
 pub(crate) fn stop(committed: &Committed, change: &mut Change) -> Result<(), AllocError>
     ensures { let kept = committed.now.snapshot.now in
         let w = world_of committed.now.tables.now in

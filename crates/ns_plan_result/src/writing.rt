@@ -17,7 +17,8 @@ use ns_tables::TenantRows;
 use ns_types::plan::Eviction;
 use std::alloc::AllocError;
 
-/// Stops what the plan stops and is live, and evicts the victims of the nodes that do their part, which are the answer.
+/// Stops the live allocations that the plan stops, and evicts the victims of the nodes that do their part. It returns these
+/// victims.
 fn clear<'a>(
     committed: &Committed<'a>,
     change: &mut Change,
@@ -37,8 +38,8 @@ fn clear<'a>(
     Ok(victims)
 }
 
-/// Writes all that is done of a plan that stands, into a change of nothing: the live stops, the victims of the nodes that
-/// do their part, what is placed on them, and an evaluation of each job that loses an allocation by preemption.
+/// Writes all that is done of a plan that stands into an empty change: the live stops, the victims of the nodes that do their
+/// part, the placements on these nodes, and an evaluation for each job that loses an allocation by preemption.
 pub(crate) fn write(
     committed: &Committed,
     change: &mut Change,

@@ -1,4 +1,4 @@
--- Reading rules: one token after the other.
+-- How rules are read, one token after the other.
 use Rattle.std.specs.Prelude.{ℕ, zero, suc, ◌+◌, ◌-◌, ◌^◌, ◌==◌, ◌&&◌, ◌||◌, nat_lt, nat_le, List, [], ◌∷◌, ◌++◌}
 use Rattle.std.specs.Prelude.{length, Bool, true, false, Option, Some, None, is_some, Ok, Err, codes, if◌then◌else◌}
 use Rattle.std.specs.Str.{bytes_eq}
@@ -19,7 +19,7 @@ use Rattle.ns_policy.specs.Rules.{Read, ◌>>=◌, with_policy, with_capability,
 abbrev pub max_depth : ℕ
 max_depth = 16
 
--- what the word of an item says, in so many open blocks
+-- what the first word of an item means, in `depth` open blocks
 unfoldable pub role_of : ℕ → Bool → List ℕ → ItemRole
 role_of depth in_rule w =
     if depth == 0 then (if bytes_eq w (codes "namespace") then ItemRole.Block Namespace
@@ -37,7 +37,7 @@ at s p = record s { place = p }
 unfoldable pub enter : State → Read State
 enter s = if nat_le max_depth s.depth then Err Syntax else Ok (record s { depth = s.depth + 1; place = Place.Item })
 
--- the rule of a block that closes
+-- the rules with that of the block that closes, if it states one
 abbrev pub with_rule : List Rule → Option OpenRule → List Rule
 with_rule rules None = rules
 with_rule rules (Some d) = rules ++ record { kind = d.kind; pattern = d.pattern; grants = d.grants } ∷ []
@@ -53,7 +53,7 @@ step_item s (word w) = Ok (at s (Place.Name (role_of s.depth (is_some s.draft) w
 step_item s close_block = leave s
 step_item s _ = Err Syntax
 
--- a rule begins, which gives nothing yet
+-- a new rule, which gives nothing yet
 abbrev pub begun : State → RuleKind → Pattern → State
 begun s kind pattern = record s {
   draft = Some (record {
@@ -118,7 +118,7 @@ is_plain ItemRole.Policy = false
 is_plain ItemRole.Capabilities = false
 is_plain ItemRole.Other = true
 
--- a value that says nothing, where the role allows one
+-- a value without meaning, if the role allows one
 abbrev pub plain : State → ItemRole → Place → Read State
 plain s role p = if is_plain role then Ok (at s p) else Err Value
 
@@ -134,7 +134,7 @@ step_value s role _ = Err Syntax
 abbrev pub close_list : State → ItemRole → ℕ → State
 close_list s role open_lists = at s (if nat_lt 1 open_lists then Place.After role (open_lists - 1) else Place.Item)
 
--- more than any text holds
+-- more open lists than any text has
 abbrev pub max_lists : ℕ
 max_lists = 2 ^ 64 - 1
 
@@ -185,7 +185,7 @@ or_syntax (Some x) = Ok x
 unfoldable pub next : List ℕ → Read (RulesToken × List ℕ)
 next s = or_syntax (token_at s)
 
--- The number bounds the turns. The length of the text is always enough.
+-- The number bounds how many tokens are read. The length of the text is always enough.
 unfoldable pub read_on : ℕ → State → List ℕ → Read State
 read_on n s [] = Ok s
 read_on zero s (x ∷ xs) = Err Syntax

@@ -52,7 +52,7 @@ capabilities_from kind g (Some d) = or_value (as_array d) >>= each_capability ki
 unfoldable pub capabilities_in : RuleKind → Grants → Data → Read Grants
 capabilities_in kind g d = capabilities_from kind g (present (codes "capabilities") d)
 
--- one pattern and what stands for it
+-- the rule of one pattern and its value
 unfoldable pub rule_in : RuleKind → List ℕ → Data → Read Rule
 rule_in kind label d = do
   pattern ← pattern_of kind label
@@ -65,7 +65,7 @@ abbrev pub with_rule_from : RuleKind → List Rule → List ℕ → Option Data 
 with_rule_from kind done label None = Ok done
 with_rule_from kind done label (Some d) = rule_in kind label d >>= λ r. Ok (done ++ r ∷ [])
 
--- the rules with the one of the next pattern, if anything stands for it
+-- the rules with the one of the next pattern, unless its value is null
 unfoldable pub with_rule : RuleKind → List Rule → List ℕ → Data → Read (List Rule)
 with_rule kind done label d = with_rule_from kind done label (unless_null d)
 
@@ -93,6 +93,6 @@ json_text text = elim (read text) [ None ↦ Err Syntax | Some d ↦ Ok d ]
 abbrev pub json_form : List ℕ → Read (List Rule)
 json_form text = json_text text >>= json_rules
 
--- the rules of a text
+-- the rules of a text of either form
 abbrev pub rules_of : List ℕ → Read (List Rule)
 rules_of text = if is_json text then json_form text else blocks text

@@ -1,4 +1,4 @@
--- How tokens lie in a text, between blanks and comments.
+-- How a text is made of tokens, blanks and comments.
 use Rattle.std.specs.Prelude.{◌≡◌, ℕ, ◌==◌, List, [], ◌∷◌, ◌++◌, Bool, true, false, not, codes}
 use Rattle.std.specs.List.{list_all}
 use Rattle.ns_policy.specs.Lex.{RulesToken, open_block, close_block, begin_list, end_list, comma, equals, word, string}
@@ -6,7 +6,7 @@ use Rattle.ns_policy.specs.Lex.{number, is_blank, is_digit, begins_word, is_word
 
 pub data Piece : Type 0 where
   blank : ℕ → Piece
-  -- after `#` or, where it is true, `//`, up to the end of the line
+  -- a comment after `#`, or after `//` if the flag is set, up to the end of the line
   comment : Bool → List ℕ → Piece
   part : RulesToken → List ℕ → Piece
 
@@ -54,7 +54,7 @@ Apart (word w) rest = first_is is_word_byte rest ≡ false
 Apart number rest = first_is is_digit rest ≡ false
 Apart _ rest = Unit {0}
 
--- a piece that may stand before that text
+-- the piece may stand in front of that text
 abbrev pub Stands : Piece → List ℕ → Type 0
 Stands (blank b) rest = is_blank b ≡ true
 Stands (comment slashes line) rest = (list_all in_line line ≡ true) × (first_is in_line rest ≡ false)

@@ -38,7 +38,7 @@ abbrev pub begins_with : ℕ → List ℕ → Bool
 begins_with b [] = false
 begins_with b (x ∷ xs) = x == b
 
--- a text that holds `${`
+-- whether a text has `${`
 unfoldable pub has_template : List ℕ → Bool
 has_template [] = false
 has_template (x ∷ xs) = ((x == 36) && begins_with 123 xs) || has_template xs
@@ -52,14 +52,14 @@ skip false (x ∷ xs) =
     else if is_blank x then skip false xs
     else x ∷ xs
 
--- the longest front whose bytes pass, and the rest
+-- the longest front whose bytes all pass the test, and the rest
 abbrev pub front : (ℕ → Bool) → List ℕ → List ℕ
 front test s = take (prefix_len test s) s
 
 abbrev pub after : (ℕ → Bool) → List ℕ → List ℕ
 after test s = drop (prefix_len test s) s
 
--- the string whose opening quote was read
+-- the string whose opening quote was read, and the text behind it
 unfoldable pub string_at : List ℕ → Option (RulesToken × List ℕ)
 string_at s =
     if begins_with 34 (after is_string_byte s) && not (has_template (front is_string_byte s))
@@ -79,6 +79,6 @@ token_at (x ∷ xs) =
     else if is_digit x then Some (number, after is_digit (x ∷ xs))
     else None
 
--- a text is JSON where its first byte that is not blank opens an object
+-- a text is JSON if its first byte that is not blank is `{`
 abbrev pub is_json : List ℕ → Bool
 is_json s = begins_with 123 (after is_blank s)

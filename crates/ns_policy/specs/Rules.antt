@@ -36,7 +36,7 @@ abbrev pub name_kind : RuleKind → NameKind
 name_kind Namespace = NameKind.Namespace
 name_kind Pool = NameKind.Pool
 
--- `policy` of a namespace
+-- what the word of a namespace's `policy` adds
 abbrev pub namespace_policy : List ℕ → Grants → Read Grants
 namespace_policy w g =
     if bytes_eq w (codes "deny") then Ok (record g { deny = true })
@@ -46,7 +46,7 @@ namespace_policy w g =
     else if bytes_eq w (codes "scale") then Ok g
     else Err Value
 
--- `policy` of a pool
+-- what the word of a pool's `policy` adds
 abbrev pub pool_policy : List ℕ → Grants → Read Grants
 pool_policy w g =
     if bytes_eq w (codes "deny") then Ok (record g { deny = true })
@@ -57,7 +57,7 @@ pool_policy w g =
 unfoldable pub with_policy : RuleKind → List ℕ → Grants → Read Grants
 with_policy kind w g = elim kind [ Namespace ↦ namespace_policy w g | Pool ↦ pool_policy w g ]
 
--- one of the capabilities of a namespace, where a word that is none gives nothing
+-- what a capability of a namespace adds; an unknown word adds nothing
 abbrev pub namespace_capability : List ℕ → Grants → Grants
 namespace_capability w g =
     if bytes_eq w (codes "deny") then record g { deny = true }
@@ -67,7 +67,7 @@ namespace_capability w g =
     else if bytes_eq w (codes "alloc-lifecycle") then record g { alloc_lifecycle = true }
     else g
 
--- one of the capabilities of a pool: the words of its policy, and one that gives nothing
+-- what a capability of a pool adds: as the same word of its `policy` does, and `delete` adds nothing
 abbrev pub pool_capability : List ℕ → Grants → Read Grants
 pool_capability w g = if bytes_eq w (codes "delete") then Ok g else pool_policy w g
 
@@ -84,7 +84,7 @@ ends_in_star s = slice_index s (length s - 1) == star
 abbrev pub pattern_text : List ℕ → List ℕ
 pattern_text s = if ends_in_star s then take (length s - 1) s else s
 
--- a name, or what names begin with and then a star
+-- a name, or the beginning of names and then a star
 unfoldable pub pattern_of : RuleKind → List ℕ → Read Pattern
 pattern_of kind s =
     if nat_lt 0 (length s) && nat_le (length s) 128 && list_all (is_name_byte (name_kind kind)) (pattern_text s)

@@ -1,4 +1,4 @@
--- The grammar of a text of blocks: its trees, how they are spelled, and what they mean.
+-- The grammar of a text of blocks: its trees, how tokens spell them, and which rules they mean.
 use Rattle.std.specs.Prelude.{ℕ, List, [], ◌∷◌, ◌++◌, map, is_some, Bool, true, false, Ok, Err, codes}
 use Rattle.ns_policy.specs.declared.fault.RuleFault.TheVariants.{Value}
 use Rattle.ns_types.specs.declared.acl.Rule.{Rule}
@@ -101,7 +101,7 @@ abbrev mutual
   items_in s no_items = Ok s
   items_in s (item i is) = item_in s i >>= λ a. items_in a is
 
--- the tokens, one after the other
+-- the state after these tokens, one after the other
 unfoldable pub run : State → List RulesToken → Read State
 run s [] = Ok s
 run s (t ∷ ts) = step s t >>= λ a. run a ts
@@ -110,6 +110,6 @@ run s (t ∷ ts) = step s t >>= λ a. run a ts
 abbrev pub rules_in : Items → Read (List Rule)
 rules_in is = items_in start is >>= λ a. Ok a.rules
 
--- the rules of tokens
+-- the rules that tokens are read as
 abbrev pub read_tokens : List RulesToken → Read (List Rule)
 read_tokens ts = run start ts >>= finish

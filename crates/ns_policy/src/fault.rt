@@ -1,4 +1,4 @@
-//! Why a text has no rules.
+//! Why a text is refused as the rules of a policy.
 
 ghost use Rattle.std.specs.Prelude.{◌≡◌};
 ghost use Rattle.ns_policy.specs.declared.fault.RuleFault.TheVariants.{Memory};
@@ -8,10 +8,10 @@ use thiserror::Error;
 
 #[derive(Clone, Copy, Debug, PartialEq, Eq, Error)]
 pub enum RuleFault {
-    /// The text is not of the grammar.
+    /// The text does not follow the grammar.
     #[error("the text is not a list of rules")]
     Syntax,
-    /// A pattern, a policy or a capability is none.
+    /// A pattern, a policy or a capability is not valid.
     #[error("a pattern, a policy or a capability is not valid")]
     Value,
     #[error("out of memory")]

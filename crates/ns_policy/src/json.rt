@@ -13,7 +13,7 @@ use ns_types::rows::Rows;
 use serde_json::{Map, Value};
 use std::alloc::Global;
 
-/// The member, where it is there and not null.
+/// The member, if it is present and not null.
 #[tactic(auto, unfolding(crate::specs::Json::present))]
 fn present<'v>(object: &'v Value, name: &str) -> Option<&'v Value>
     ensures { option_map (λ v. view v.now) result ≡ present name.now (view object.now) }
@@ -93,7 +93,7 @@ fn rule_of(alloc: Global, kind: RuleKind, label: &str, value: &Value) -> Result<
     })
 }
 
-/// The rules with that of the pattern, which is absent where its value is null.
+/// The rules with the one of this pattern added, unless its value is null.
 #[tactic(auto, unfolding(crate::specs::Json::with_rule))]
 fn add_rule(
     alloc: Global,
@@ -185,7 +185,7 @@ fn value_of(alloc: Global, text: &str) -> Result<Value, RuleFault>
     }
 }
 
-/// The rules of a text of the JSON form.
+/// The rules of a text in the JSON form, or the first fault.
 pub fn read_json(alloc: Global, text: &str) -> Result<Rows<Rule>, RuleFault>
     ensures { Gives same result (json_form text.now) }
 {

@@ -2,12 +2,12 @@
 
 ghost use Rattle.ns_policy.specs.Laws.{ReadIsSpelled, SpelledIsRead};
 
-/// What items spell is read as what they mean.
+/// A text that spells items is read as the rules that they mean, or refused with the fault that they mean.
 pub fn spelled_is_read()
     ensures { SpelledIsRead }
 {}
 
-/// What is read is spelled by items that mean it.
+/// If a text is read as rules, it spells items that mean these rules.
 pub fn read_is_spelled()
     ensures { ReadIsSpelled }
 {}

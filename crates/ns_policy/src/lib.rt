@@ -17,7 +17,7 @@ use ns_types::acl::Rule;
 use ns_types::rows::Rows;
 use std::alloc::Global;
 
-/// The rules of a text, which is JSON or a list of blocks, in their order there.
+/// The rules of a text, which is JSON or a list of blocks, in their order there; or the first fault.
 pub fn read_rules(alloc: Global, text: &str) -> Result<Rows<Rule>, RuleFault>
     ensures value { Gives same result (rules_of text.now) }
     ensures meaning { Reads result text.now }

@@ -1,4 +1,4 @@
-//! Reading rules: one token after the other.
+//! Reads rules, one token after the other.
 
 ghost use Rattle.std.specs.Prelude.{◌≡◌, Ok, Err};
 ghost use Rattle.ns_policy.specs.Tokens.{seen};
@@ -12,7 +12,7 @@ use ns_types::acl::{Grants, NO_GRANTS, Pattern, Rule, RuleKind};
 use ns_types::rows::Rows;
 use std::alloc::Global;
 
-/// What the word of an item says.
+/// What the first word of an item means.
 #[derive(Clone, Copy, PartialEq, Eq)]
 pub enum ItemRole {
     Block(RuleKind),
@@ -21,7 +21,7 @@ pub enum ItemRole {
     Other,
 }
 
-/// Where the next token stands.
+/// What was read before the next token.
 #[derive(Clone, Copy, PartialEq, Eq)]
 pub enum Place {
     /// An item may begin here, or the block or the text end.
@@ -32,13 +32,13 @@ pub enum Place {
     Label(ItemRole),
     /// After `=`.
     Value(ItemRole),
-    /// In so many open lists, before a value.
+    /// Before a value, in that many open lists.
     Before(ItemRole, u64),
-    /// In so many open lists, after a value.
+    /// After a value, in that many open lists.
     After(ItemRole, u64),
 }
 
-/// A rule whose block is open, or is about to be.
+/// A rule whose block is open, or is about to open.
 #[derive(Drop)]
 pub struct OpenRule {
     pub kind: RuleKind,
@@ -48,7 +48,7 @@ pub struct OpenRule {
     pub has_capabilities: bool,
 }
 
-/// What has been read.
+/// What has been read so far.
 #[derive(Drop)]
 pub struct State {
     pub rules: Rows<Rule>,
@@ -89,7 +89,7 @@ fn is_flag(word: &[u8]) -> bool
     word == b"true".as_slice() || word == b"false".as_slice()
 }
 
-/// What was read is let go.
+/// Drops what was read, and returns the fault.
 fn refused(state: State, fault: RuleFault) -> Result<State, RuleFault>
     ensures { result ≡ Err fault }
 {
@@ -97,7 +97,7 @@ fn refused(state: State, fault: RuleFault) -> Result<State, RuleFault>
     Err(fault)
 }
 
-/// What was read is let go, with the rule whose block is open.
+/// Drops what was read and the rule whose block is open, and returns the fault.
 fn refused_in_rule(rules: Rows<Rule>, draft: OpenRule, fault: RuleFault) -> Result<State, RuleFault>
     ensures { result ≡ Err fault }
 {
@@ -106,7 +106,7 @@ fn refused_in_rule(rules: Rows<Rule>, draft: OpenRule, fault: RuleFault) -> Resu
     Err(fault)
 }
 
-/// A block opens.
+/// Opens a block.
 #[tactic(auto, unfolding(crate::specs::Grammar::enter))]
 fn enter(state: State) -> Result<State, RuleFault>
     ensures { Gives same result (enter state) }
@@ -121,7 +121,7 @@ fn enter(state: State) -> Result<State, RuleFault>
     })
 }
 
-/// The rule of a block that closes comes last.
+/// Adds the rule of the block that closes, if it states one, behind the others.
 fn with_rule(rules: Rows<Rule>, draft: Option<OpenRule>) -> Result<Rows<Rule>, RuleFault>
     ensures { Gives same result (Ok (with_rule rules draft)) }
 {
@@ -138,7 +138,7 @@ fn with_rule(rules: Rows<Rule>, draft: Option<OpenRule>) -> Result<Rows<Rule>, R
     }
 }
 
-/// A block closes, and with it the rule that it states.
+/// Closes a block, and completes the rule that it states.
 #[tactic(auto, unfolding(crate::specs::Grammar::leave))]
 fn leave(state: State) -> Result<State, RuleFault>
     ensures { Gives same result (leave state) }
@@ -178,7 +178,7 @@ fn step_item(state: State, token: RulesToken<'_>) -> Result<State, RuleFault>
     }
 }
 
-/// A rule begins, which gives nothing yet.
+/// Begins a rule, which gives nothing yet.
 fn begun(state: State, kind: RuleKind, pattern: Pattern) -> State
     ensures { result ≡ begun state kind pattern }
 {
@@ -203,7 +203,7 @@ fn begun(state: State, kind: RuleKind, pattern: Pattern) -> State
     }
 }
 
-/// The label of a block that states a rule.
+/// Reads the label of a block that states a rule.
 #[tactic(auto, unfolding(crate::specs::Grammar::named))]
 fn named(alloc: Global, state: State, kind: RuleKind, label: &[u8]) -> Result<State, RuleFault>
     ensures { Gives same result (named state kind label.now) }
@@ -251,7 +251,7 @@ fn step_label(state: State, role: ItemRole, token: RulesToken<'_>) -> Result<Sta
     }
 }
 
-/// The policy of the rule whose block is open.
+/// Reads the policy of the rule whose block is open.
 #[tactic(auto, unfolding(crate::specs::Grammar::set_policy))]
 fn set_policy(state: State, word: &[u8]) -> Result<State, RuleFault>
     ensures { Gives same result (set_policy state word.now) }
@@ -284,7 +284,7 @@ fn set_policy(state: State, word: &[u8]) -> Result<State, RuleFault>
     }
 }
 
-/// The list of capabilities begins.
+/// Begins the list of capabilities.
 #[tactic(auto, unfolding(crate::specs::Grammar::begin_capabilities))]
 fn begin_capabilities(state: State) -> Result<State, RuleFault>
     ensures { Gives same result (begin_capabilities state) }
@@ -313,7 +313,7 @@ fn begin_capabilities(state: State) -> Result<State, RuleFault>
     })
 }
 
-/// One capability of the list that is open.
+/// Adds one capability of the list that is open.
 #[tactic(auto, unfolding(crate::specs::Grammar::add_capability))]
 fn add_capability(state: State, word: &[u8]) -> Result<State, RuleFault>
     ensures { Gives same result (add_capability state word.now) }
@@ -366,7 +366,7 @@ fn step_value(state: State, role: ItemRole, token: RulesToken<'_>) -> Result<Sta
     }
 }
 
-/// A list closes, the last of so many open ones.
+/// Closes the innermost of `lists` open lists.
 fn close_list(state: State, role: ItemRole, lists: u64) -> State
     ensures { result ≡ close_list state role lists }
 {
@@ -442,7 +442,7 @@ fn step(alloc: Global, state: State, token: RulesToken<'_>) -> Result<State, Rul
     }
 }
 
-/// The rules, where no item is begun and no block is open.
+/// The rules, once the text has ended. It is a fault if an item is begun or a block is open.
 #[tactic(auto, unfolding(crate::specs::Grammar::finish))]
 fn finish(state: State) -> Result<Rows<Rule>, RuleFault>
     ensures { Gives same result (finish state) }
@@ -462,7 +462,7 @@ fn finish(state: State) -> Result<Rows<Rule>, RuleFault>
     }
 }
 
-/// The first token of a text, and what follows it.
+/// The first token of a text, and the text behind it.
 #[tactic(auto, unfolding(crate::specs::Grammar::next))]
 fn next(text: &[u8]) -> Result<(RulesToken<'_>, &[u8]), RuleFault>
     ensures { Gives (λ x. (seen x.0, x.1.now)) result (next text.now) }
@@ -470,7 +470,7 @@ fn next(text: &[u8]) -> Result<(RulesToken<'_>, &[u8]), RuleFault>
     token_at(text).ok_or(RuleFault::Syntax)
 }
 
-/// The rules of a text of blocks.
+/// The rules of a text of blocks, or the first fault.
 #[tactic(auto, unfolding(crate::specs::Grammar::blocks))]
 pub fn read_blocks(alloc: Global, text: &[u8]) -> Result<Rows<Rule>, RuleFault>
     ensures { Gives same result (blocks text.now) }

@@ -1,4 +1,4 @@
-//! What the words of a rule give, and on which names.
+//! Which rights the words of a rule give, and for which names.
 
 ghost use Rattle.std.specs.Prelude.{◌≡◌, ◌∷◌, ◌++◌, [], Ok};
 ghost use Rattle.ns_policy.specs.Rules.{Gives, same, name_kind, namespace_policy, pool_policy, with_policy, namespace_capability, pool_capability, with_capability, pattern_of};
@@ -66,7 +66,7 @@ fn pool_policy(grants: Grants, word: &[u8]) -> Result<Grants, RuleFault>
     Err(RuleFault::Value)
 }
 
-/// What a rule gives with that policy.
+/// The rights that a rule gives once it has this policy. `Value`: there is no such policy.
 #[tactic(auto, unfolding(crate::specs::Rules::with_policy))]
 pub fn with_policy(kind: RuleKind, grants: Grants, word: &[u8]) -> Result<Grants, RuleFault>
     ensures { Gives same result (with_policy kind word.now grants) }
@@ -122,7 +122,8 @@ fn pool_capability(grants: Grants, word: &[u8]) -> Result<Grants, RuleFault>
     pool_policy(grants, word)
 }
 
-/// What a rule gives with one more capability.
+/// The rights that a rule gives with one more capability. `Value`: a pool has no such capability; for a namespace an unknown
+/// one gives nothing.
 #[tactic(auto, unfolding(crate::specs::Rules::with_capability))]
 pub fn with_capability(kind: RuleKind, grants: Grants, word: &[u8]) -> Result<Grants, RuleFault>
     ensures { Gives same result (with_capability kind word.now grants) }
@@ -144,7 +145,7 @@ fn name_kind(kind: RuleKind) -> NameKind
 
 const MAX_NAME: usize = 128;
 
-/// The rules with one more, which stands last.
+/// The rules with one more at their end. Want of memory is the only error.
 pub fn one_more(rules: Rows<Rule>, rule: Rule) -> Result<Rows<Rule>, RuleFault>
     ensures { Gives same result (Ok (rules ++ rule ∷ [])) }
 {
@@ -158,7 +159,7 @@ pub fn one_more(rules: Rows<Rule>, rule: Rule) -> Result<Rows<Rule>, RuleFault>
     }
 }
 
-/// The pattern that a label is.
+/// The pattern that a label spells. `Value`: it is no name, and no beginning of names with a star behind it.
 #[tactic(auto, using(crate::proofs::Patterns::names_are_utf8), unfolding(crate::specs::Rules::pattern_of))]
 pub fn read_pattern(alloc: Global, kind: RuleKind, label: &[u8]) -> Result<Pattern, RuleFault>
     ensures { Gives same result (pattern_of kind label.now) }

@@ -1,4 +1,4 @@
--- The nodes with victims, ranked by what those cost.
+-- The nodes with victims, ranked by what the victims cost.
 use Rattle.std.specs.Prelude.{◌≡◌, ◌≢◌, ◌<◌, ⊤, ℕ, Bool, IsTrue, List, MatchOption, Some, length}
 use Rattle.std.specs.BTreeSet.{BTreeSet, contains}
 use Rattle.std.specs.List.{HoldsAt}
@@ -25,17 +25,17 @@ compare_ranks =
 abbrev pub has : BTreeSet Rank → Rank → Bool
 has ranks rank = contains compare_ranks ranks rank
 
--- the rank says what the victims on the node cost, and its name
+-- the rank has what the victims on the node cost, and the node's name
 pub record IsRank (size : Resources) (rank : Rank) (c : Candidate) : Type 0 where
   pub cost : cost_of size c ≡ Some rank.cost
   pub name : rank.name.now ≡ c.name
 
--- the rank is that of the node at its place, as it is now
+-- the rank is right for the node at its place, as that node is now
 pub record IsRankOf (size : Resources) (cs : List Candidate) (rank : Rank) : Type 0 where
   pub inside : rank.node < length cs
   pub is : HoldsAt (IsRank size rank) cs rank.node
 
--- what was ranked is so still, and the node at k is ranked
+-- what was ranked is still ranked, and the node at place k is ranked too
 pub record Adds (size : Resources) (k : ℕ) (c : Candidate) (old new : BTreeSet Rank) : Type 0 where
   pub kept : (rank : Rank) → IsTrue (has old rank) → IsTrue (has new rank)
   pub added : (rank : Rank) → rank.node ≡ k → IsRank size rank c → IsTrue (has new rank)
@@ -44,14 +44,14 @@ pub record Adds (size : Resources) (k : ℕ) (c : Candidate) (old new : BTreeSet
 abbrev pub AreRanked : Resources → List Candidate → BTreeSet Rank → Type 0
 AreRanked size cs ranks = (rank : Rank) → IsRankOf size cs rank → IsTrue (has ranks rank)
 
--- each but the one at k
+-- each node with victims, except the one at place k, is ranked as it is now
 abbrev pub AreRankedBut : ℕ → Resources → List Candidate → BTreeSet Rank → Type 0
 AreRankedBut k size cs ranks = (rank : Rank) → rank.node ≢ k → IsRankOf size cs rank → IsTrue (has ranks rank)
 
--- it ranks each node with victims, for the size that it is for
+-- for its size, the ranking ranks each node with victims as it is now
 abbrev pub IsRanking : Ranking → List Candidate → Type 0
 IsRanking ranking cs = MatchOption ranking.size ⊤ (λ size. AreRanked size cs ranking.ranks)
 
--- each but the one at k
+-- for its size, the ranking ranks each node with victims, except the one at place k, as it is now
 abbrev pub IsRankingBut : ℕ → Ranking → List Candidate → Type 0
 IsRankingBut k ranking cs = MatchOption ranking.size ⊤ (λ size. AreRankedBut k size cs ranking.ranks)

@@ -9,7 +9,7 @@ use ns_place::Candidate;
 use ns_types::resources::Resources;
 use ns_types::snapshot::LiveAllocation;
 
-/// The highest priority among the victims on a node, and how many they are. The lesser one is cheaper.
+/// The highest priority among the victims on a node, and how many they are. The lesser cost is the cheaper one.
 #[derive(Clone, Copy, PartialEq, Eq, PartialOrd, Ord)]
 pub(crate) struct Cost {
     highest_priority: u64,
@@ -26,7 +26,7 @@ fn highest_priority(allocations: &[&LiveAllocation]) -> u64
     highest
 }
 
-/// What the victims on the node cost, where some make room. It takes no memory.
+/// What the victims on the node cost. None where it has no victims. It takes no memory.
 pub(crate) fn cost_of(candidate: &Candidate<'_>, size: Resources) -> Option<Cost>
     ensures { result ≡ cost_of size candidate.now }
 {

@@ -1,4 +1,4 @@
-//! Whom a job may evict on a node, the first to go first.
+//! The allocations that a job may evict on a node, in the order in which they are evicted.
 
 ghost use Rattle.std.specs.Prelude.{◌≡◌, ◌-◌, IfOk, filter, map, nat_lt, reverse};
 ghost use Rattle.ns_types.specs.Placing.Preemption.{evictable};
@@ -7,7 +7,7 @@ use ns_types::live_rows::LiveRows;
 use ns_types::snapshot::LiveAllocation;
 use std::alloc::{AllocError, Global};
 
-/// Those whose priority is lower than the job's by 10 or more, the last placed first.
+/// The allocations whose priority is lower than the job's by 10 or more, the last placed first.
 fn lower<'a>(
     alloc: Global,
     live: &'a [LiveAllocation],
@@ -25,8 +25,8 @@ fn lower<'a>(
     Ok(lower)
 }
 
-/// The allocations whose priority is lower than the job's by 10 or more: lowest priority first, then the last placed
-/// first. Where none has a priority as low, it looks at none of them.
+/// The allocations whose priority is lower than the job's by 10 or more: lowest priority first, then the last placed first.
+/// Where none has so low a priority, it looks at none of them. Want of memory is the only error.
 pub fn evictable<'a>(
     alloc: Global,
     live: &'a LiveRows,

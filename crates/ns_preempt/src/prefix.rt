@@ -7,8 +7,8 @@ ghost use Rattle.ns_preempt.specs.Fewest.{IsFewest};
 use ns_place::Candidate;
 use ns_types::resources::{Resources, is_within, plus};
 
-/// How many of those whom the job may evict on the node have to go, the first ones, so that the size has room. None
-/// where the job may not use the node, or where all of them are too few. It takes no memory.
+/// How many of the allocations that the job may evict on the node have to go, from the first on, so that the size has room.
+/// None where the job may not use the node, or where the size would have no room even without all of them. It takes no memory.
 pub fn victims(candidate: &Candidate<'_>, size: Resources) -> Option<usize>
     ensures { MatchOption result
         (victims size candidate.now ≡ None)

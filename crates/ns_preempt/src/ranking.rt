@@ -1,5 +1,5 @@
-//! The nodes with victims, ranked by what those cost. Equal demands take the first, in place of a look at every node for
-//! each.
+//! The nodes with victims, ranked by what the victims cost. Demands of one size take the first node of the ranking, so that not
+//! every node has to be looked at for each of them.
 
 ghost use Rattle.std.specs.Prelude.{◌≡◌, ◌<◌, ◌↔◌, List, None, Some, length};
 ghost use Rattle.std.specs.Prelude.{IfOk, IsTrue, MatchOption, OnOk};
@@ -37,7 +37,7 @@ fn rank_of<'a>(candidate: &Candidate<'a>, node: usize, size: Resources) -> Optio
     })
 }
 
-/// Whether the rank is that of the node at its place, as it is now.
+/// Whether the rank is still right for the node at its place.
 fn is_current(rank: &Rank<'_>, candidates: &[Candidate<'_>], size: Resources) -> bool
     ensures yes { IsTrue result → IsRankOf size candidates.now rank.now }
     ensures no { IsRankOf size candidates.now rank.now → IsTrue result }
@@ -51,7 +51,7 @@ fn is_current(rank: &Rank<'_>, candidates: &[Candidate<'_>], size: Resources) ->
     }
 }
 
-/// Ranks the node as it is now. What was ranked stays.
+/// Ranks the node as it is now. Ranks that were there stay.
 fn add<'a>(
     ranks: &mut BTreeSet<Rank<'a>>,
     candidate: &Candidate<'a>,
@@ -80,7 +80,8 @@ fn add_all<'a>(
     Ok(())
 }
 
-/// Takes the first rank out that is a node's as it is now, and those before it.
+/// Takes out the first rank that is still right for its node, and all ranks before it. It returns that node's place, or None
+/// where no node has victims.
 fn take_first<'a>(
     ranks: &mut BTreeSet<Rank<'a>>,
     candidates: &[Candidate<'a>],
@@ -100,19 +101,18 @@ fn take_first<'a>(
     None
 }
 
-/// The nodes with victims, the one first whose victims are cheapest, for allocations of one size. It is right for the
-/// candidates that it was made for, as placements change them, if each node where something was placed is added anew
-/// (`IsRanking`).
+/// The nodes with victims for allocations of one size, the node with the cheapest victims first. It is right for the candidates
+/// that it was made for, as placements change them, if each node where something was placed is added again (`IsRanking`).
 #[derive(Drop)]
 pub struct Ranking<'a> {
-    /// Of what size. None: nothing was asked for yet.
+    /// The size that it is for. None: nothing was asked of it yet.
     size: Option<Resources>,
-    /// A rank that is not a node's as it is now is passed over.
+    /// A rank that is no longer right for its node is passed over.
     ranks: BTreeSet<Rank<'a>>,
 }
 
 impl<'a> Ranking<'a> {
-    /// For no size yet. It takes no memory.
+    /// A ranking for no size yet. It takes no memory.
     pub fn new(alloc: Global) -> Ranking<'a>
         ensures { (cs : List Candidate) → IsRanking result cs }
     {
@@ -131,7 +131,7 @@ impl<'a> Ranking<'a> {
         }
     }
 
-    /// From now on for allocations of `size`. All nodes are ranked anew where it is another size.
+    /// Makes the ranking one for allocations of `size`. If that is another size than before, all nodes are ranked anew.
     fn turn_to(&mut self, candidates: &[Candidate<'a>], size: Resources) -> Result<(), AllocError>
         requires { IsRanking self.old candidates.now }
         ensures size { OnOk result (self.new.size ≡ Some size) }
@@ -147,8 +147,9 @@ impl<'a> Ranking<'a> {
         Ok(())
     }
 
-    /// Takes the node out whose victims cost least: least by the highest priority among them, then by their number,
-    /// then by the node's name. None only where no node has victims. Until the node is added, the others are ranked.
+    /// Takes out the node whose victims cost least: by the highest priority among them, then by their number, then by the
+    /// node's name. None only where no node has victims. Until the node is added again, all nodes but this one are ranked. Want
+    /// of memory is the only error.
     pub fn take_best(
         &mut self,
         candidates: &[Candidate<'a>],
@@ -164,7 +165,7 @@ impl<'a> Ranking<'a> {
         Ok(take_first(&mut self.ranks, candidates, size))
     }
 
-    /// Ranks the node as it is now. No other node is looked at.
+    /// Ranks the node as it is now. No other node is looked at. Want of memory is the only error.
     pub fn add(&mut self, candidates: &[Candidate<'a>], node: usize) -> Result<(), AllocError>
         requires inside { node < length candidates.now }
         requires others { IsRankingBut node self.old candidates.now }

@@ -1,4 +1,4 @@
--- Evaluations as a step leaves them: which of them move.
+-- Evaluations as a step leaves them, and which of them move in an index.
 use Rattle.std.specs.Prelude.{◌≡◌, ℕ, Bool, false, Option, Some}
 use Rattle.std.specs.FinMap.{FinMap, entries}
 use Rattle.std.specs.List.{list_any}
@@ -9,7 +9,7 @@ use Rattle.ns_types.specs.State.Names.{ByNumber, Key, Name, name_cmp}
 use Rattle.ns_types.specs.State.Rows.{World, evaluation_at}
 use Rattle.ns_tables.specs.declared.tables.TenantRows.{TenantRows}
 
--- whether the evaluation at a key, which was so and is so, moves
+-- whether the evaluation at a key moves, given its row before and its row after the step
 abbrev pub Moves : Type 0
 Moves = Key → Option Evaluation → Option Evaluation → Bool
 
@@ -23,10 +23,10 @@ moves_of moves ns _ _ = false
 abbrev pub moves_in : Moves → FinMap name_cmp (Option TenantRows) → Name × Option SettledTenant → Bool
 moves_in moves tenants slot = moves_of moves slot.0 (row_at tenants slot.0) slot.1
 
--- none moves that stays as it is
+-- an evaluation whose row stays as it is does not move
 abbrev pub StillUnmoved : Moves → Type 0
 StillUnmoved moves = (key : Key) (row : Option Evaluation) → moves key row row ≡ false
 
--- none moves from the one world to the other
+-- no evaluation moves from the one world to the other
 abbrev pub NoneMoves : Moves → World → World → Type 0
 NoneMoves moves before after = (key : Key) → moves key (evaluation_at before key) (evaluation_at after key) ≡ false

@@ -29,12 +29,12 @@ level_at levels priority = items_of (row_at levels priority)
 abbrev pub group_at : Groups → ℕ → List Key
 group_at groups priority = option_map_or (λ keys. keys) (row_at groups priority) []
 
--- the keys can be added to the queue, which is there, without memory
+-- the queue is there, and adding the keys to it takes no memory
 abbrev pub CanAddTo : Option KeyQueue → List Key → Type 0
 CanAddTo None keys = ⊥
 CanAddTo (Some queue) keys = CanAdd keys queue
 
--- each group can be added to its level
+-- adding each group to its level takes no memory
 abbrev pub HasRoomFor : Groups → Levels → Type 0
 HasRoomFor groups levels = (priority : ℕ) (keys : List Key) → row_at groups priority ≡ Some keys →
     CanAddTo (row_at levels priority) keys
@@ -49,17 +49,17 @@ abbrev pub KeepsOthers : ℕ → Levels → Levels → Type 0
 KeepsOthers changed old new = (priority : ℕ) → same_number priority changed ≡ false →
     row_at new priority ≡ row_at old priority
 
--- what is left of a level of which keys are taken out where it has the one
+-- what is left of a level if the keys are taken out where it has the one key
 abbrev pub left_of : Key → List Key → List Key → List Key
 left_of key keys level =
     if has_key level key then without_keys keys level else level
 
--- no level is without the room that it had
+-- no level loses room
 abbrev pub KeepsRoom : Levels → Levels → Type 0
 KeepsRoom old new = (priority : ℕ) (keys : List Key) → CanAddTo (row_at old priority) keys →
     CanAddTo (row_at new priority) keys
 
--- ---- the first
+-- ---- the next key
 
 abbrev pub first_key : Option KeyQueue → Option Key
 first_key queue = slice_get (items_of queue) 0
@@ -67,7 +67,7 @@ first_key queue = slice_get (items_of queue) 0
 abbrev pub preferred : Option Key → ℕ × Option KeyQueue → Option Key
 preferred found slot = option_or (first_key slot.1) found
 
--- of levels that rise, the first key of the last one that has one
+-- the first key of the highest level that has one, where the levels rise
 abbrev pub first_of_highest : List (ℕ × Option KeyQueue) → Option Key
 first_of_highest slots = fold preferred None slots
 
@@ -79,28 +79,28 @@ priority_of row = option_map_or (λ e. e.priority) row 0
 abbrev pub of_priority : World → ℕ → List Key → List Key
 of_priority w priority keys = filter (λ key. nat_eq (priority_at w key) priority) keys
 
--- the keys of the list that have the priority
+-- every key of the list has the priority
 abbrev pub HoldsOnly : World → ℕ → List Key → Type 0
 HoldsOnly w priority keys = (key : Key) → has_key keys key ≡ true → priority_at w key ≡ priority
 
--- the key, where it has that priority
+-- the key alone if it has the priority asked for, and nothing otherwise
 abbrev pub keys_of : ℕ → ℕ → Key → List Key
 keys_of asked own key = if nat_eq own asked then key ∷ [] else []
 
 abbrev pub keys_at : ByPriority → ℕ → List Key
 keys_at b priority = level_at b.levels priority
 
--- each level has the ready ones of its priority, in their order
+-- each level has the ready evaluations of its priority, in the order of the ready list
 abbrev pub IsByPriority : World → ByPriority → Type 0
 IsByPriority w b = (priority : ℕ) → keys_at b priority ≡ of_priority w priority w.ready
 
 -- ---- over a step
 
--- each group has those of its priority, in their order
+-- each group has the added keys of its priority, in their order
 abbrev pub AreArrivals : World → List Key → Arrivals → Type 0
 AreArrivals after added a = (priority : ℕ) → group_at a.by_priority priority ≡ of_priority after priority added
 
--- the arrivals can be put at the end of their levels without memory
+-- putting the arrivals at the end of their levels takes no memory
 abbrev pub HasRoom : ByPriority → Arrivals → Type 0
 HasRoom b a = HasRoomFor a.by_priority b.levels
 

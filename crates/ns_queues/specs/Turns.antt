@@ -1,4 +1,4 @@
--- Whose turn it is, and when that is right.
+-- The three indexes together, and when they are right.
 use Rattle.std.specs.Prelude.{◌≡◌, ℕ, false, [], IsTrue}
 use Rattle.ns_blocked.specs.Blocked.{CanAdd, entries_of}
 use Rattle.ns_change.specs.declared.change.Settled.{Settled}
@@ -11,23 +11,23 @@ use Rattle.ns_queues.specs.Waiting.{IsBlockedIndex, added_entries}
 use Rattle.ns_types.specs.State.Names.{Name}
 use Rattle.ns_types.specs.State.Rows.{World}
 
--- each index is that of the world
+-- each index is right for the world
 pub record AreRight (w : World) (t : Turns) : Type 0 where
   pub busy : IsBusyIndex w t.busy
   pub ready : IsByPriority w t.ready
   pub blocked : IsBlockedIndex w t.blocked
 
--- where they are known they are right
+-- if the indexes are known to be right, they are right
 abbrev pub IsRight : World → Turns → Type 0
 IsRight w t = IsTrue t.is_known → AreRight w t
 
--- nothing stands in them
+-- the indexes are empty
 pub record IsNew (t : Turns) : Type 0 where
   pub idle : (number : ℕ) (ns : Name) → holds t.busy number ns ≡ false
   pub none_ready : (priority : ℕ) → keys_at t.ready priority ≡ []
   pub none_blocked : entries_of t.blocked ≡ []
 
--- what a step brings is what it adds, and there is room for all that it changes
+-- what is coming is what the step adds, and there is room for all that the step changes
 pub record BringsComing (w : World) (s : Settled) (coming : Coming) (t : Turns) : Type 0 where
   pub busy : HasBusyRoom s t.busy
   pub arrivals : AreArrivals (settled_world w s) s.ready.added coming.ready

@@ -1,4 +1,4 @@
--- The list of blocked evaluations beside the tables.
+-- The index of blocked evaluations beside the tables.
 use Rattle.std.specs.Prelude.{◌≡◌, Bool, not, ◌&&◌, List, Option, option_map}
 use Rattle.std.specs.List.{filter_map}
 use Rattle.std.specs.Option.{option_eq}
@@ -14,7 +14,7 @@ use Rattle.ns_types.specs.Settling.Same.{same_flag}
 use Rattle.ns_types.specs.State.Names.{Key, has_key, same_class, same_name}
 use Rattle.ns_types.specs.State.Rows.{World, evaluation_at}
 
--- the list has the entries of the blocked evaluations in their order, and each of these has its row
+-- the index has the entries of the blocked evaluations in the list's order, and each blocked key has its evaluation
 pub record IsBlockedIndex (w : World) (list : BlockedList) : Type 0 where
   pub entries : entries_of list ≡ entries_in w
   pub keys : keys_of list ≡ w.blocked
@@ -23,13 +23,13 @@ pub record IsBlockedIndex (w : World) (list : BlockedList) : Type 0 where
 abbrev pub entries_for : World → List Key → List BlockedEvaluation
 entries_for w keys = filter_map (λ key. option_map (entry_of key) (evaluation_at w key)) keys
 
--- those of the keys that a step adds, as it leaves them
+-- the entries of the keys that a step adds, with the rows that the step leaves
 abbrev pub added_entries : World → Settled → List BlockedEvaluation
 added_entries w s = entries_for (settled_world w s) s.blocked.added
 
--- ---- who gets another entry
+-- ---- evaluations whose entry changes
 
--- both wait for the same, and the same classes wake them
+-- both wait for the same quota and pool, and the same classes wake them
 abbrev pub waits_alike : Evaluation → Evaluation → Bool
 waits_alike a b = option_eq same_name a.quota b.quota && same_name a.pool b.pool && same_flag a.escapes b.escapes
     && pointwise same_class a.infeasible b.infeasible
@@ -37,6 +37,6 @@ waits_alike a b = option_eq same_name a.quota b.quota && same_name a.pool b.pool
 abbrev pub rows_alike : Option Evaluation → Option Evaluation → Bool
 rows_alike = option_eq waits_alike
 
--- one of the list gets another entry
+-- an evaluation of the list gets another entry
 abbrev pub moves_entry : BlockedList → Moves
 moves_entry list key before after = has_key (keys_of list) key && not (rows_alike before after)

@@ -1,4 +1,4 @@
--- What the indexes of this crate are of, and when it is the same in two worlds.
+-- The work that the indexes of this crate hold, and when it is the same in two worlds.
 use Rattle.std.specs.Prelude.{◌≡◌, ℕ, true, ◌||◌, Option, Result}
 use Rattle.ns_types.specs.declared.refusal.Refusal.{Refusal}
 use Rattle.ns_types.specs.declared.reply.Content.{Content}
@@ -10,7 +10,7 @@ use Rattle.ns_types.specs.State.Rows.{State, World, evaluation_at}
 use Rattle.ns_types.specs.Validity.{IsValid}
 use Rattle.ns_types.specs.Working.Looks.{worker_at}
 
--- the same workers are busy, and of the same lists of evaluations each entry has its row
+-- the same workers are busy, both lists have the same keys, and the evaluations in them have the same rows
 pub record SameWork (w w' : World) : Type 0 where
   pub worker : (number : ℕ) (ns : Name) → worker_at w' number ns ≡ worker_at w number ns
   pub evaluation : (key : Key) → (has_key w.ready key || has_key w.blocked key) ≡ true →
@@ -18,7 +18,7 @@ pub record SameWork (w w' : World) : Type 0 where
   pub ready : w'.ready ≡ w.ready
   pub blocked : w'.blocked ≡ w.blocked
 
--- of a valid state administrators change no work
+-- in a valid state, a command of an administrator changes none of this work
 abbrev pub AdministrationKeepsWork : Type 0
 AdministrationKeepsWork = (secret : Option Name) (command : AdminCommand) (s s' : State)
     (result : Result Content Refusal) → IsValid s → Changes (administer secret command s) s result s' →

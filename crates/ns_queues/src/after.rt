@@ -35,12 +35,12 @@ pub(crate) fn evaluation_after<'a>(
     }
 }
 
-/// Who watches whether evaluations move.
+/// A test of whether a step moves an evaluation in an index.
 pub(crate) trait WatchesMoves {
-    /// Whether the evaluation at that key, which was so and is so after the step, moves.
+    /// Whether the evaluation at that key moves, given its row before and its row after the step.
     ghost moves: { Self → Key → Option Evaluation → Option Evaluation → Bool };
 
-    /// The answer for the evaluation of that number.
+    /// Whether the evaluation of that number moves, given its row before and its row after the step.
     fn moves(
         &self,
         namespace: &Text,
@@ -52,7 +52,7 @@ pub(crate) trait WatchesMoves {
             (option_copied before.entry) (option_copied after.entry) };
 }
 
-/// Whether the change of one evaluation moves it.
+/// Whether the changed row of one evaluation moves it.
 fn moves_slot<W: WatchesMoves>(
     watch: &W,
     namespace: &Text,
@@ -78,7 +78,7 @@ fn any_moves<W: WatchesMoves>(
         .any(|slot| moves_slot(watch, namespace, before, slot))
 }
 
-/// Whether a changed evaluation of the namespace moves.
+/// Whether a changed evaluation of one namespace moves.
 fn moves_in<W: WatchesMoves>(watch: &W, tables: &Tables, slot: &NameSlot<SettledTenant>) -> bool
     ensures { result ≡ moves_in (W.moves watch.now) tables.now.tenants slot.now }
 {
@@ -103,8 +103,8 @@ fn any_moves_in<W: WatchesMoves>(
     slots.iter().any(|slot| moves_in(watch, tables, slot))
 }
 
-/// Whether a changed evaluation moves, of whatever namespace. Where none does, and none moves that stays as it is, none
-/// moves at all.
+/// Whether a changed evaluation of any namespace moves. If none does, and no evaluation moves whose row stays as it is, then
+/// the step moves no evaluation at all.
 pub(crate) fn any_moved<W: WatchesMoves>(watch: &W, tables: &Tables, settled: &Settled) -> bool
     ensures { result ≡ false → StillUnmoved (W.moves watch.now) → let w = world_of tables.now in
         NoneMoves (W.moves watch.now) w (settled_world w settled.now) }

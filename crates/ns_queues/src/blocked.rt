@@ -1,4 +1,4 @@
-//! The list of blocked evaluations beside the tables, by what they wait for.
+//! The index of blocked evaluations by what they wait for, kept in step with the tables.
 
 ghost use Rattle.std.specs.Prelude.{◌≡◌, ◌&&◌, IfOk, not, option_copied, true};
 ghost use Rattle.std.specs.Cmp.Lexicographic.{pointwise};
@@ -43,7 +43,7 @@ fn entry_of(key: &EvalKey, evaluation: &Evaluation) -> Result<BlockedEvaluation,
     })
 }
 
-/// The entries of the keys that the step adds, as it leaves them.
+/// The entries of the keys that the step adds, with the rows that the step leaves.
 fn added_entries(tables: &Tables, settled: &Settled) -> Result<Rows<BlockedEvaluation>, AllocError>
     ensures { IfOk result (λ entries. entries ≡ added_entries (world_of tables.now) settled.now) }
 {
@@ -57,7 +57,7 @@ fn added_entries(tables: &Tables, settled: &Settled) -> Result<Rows<BlockedEvalu
     Ok(entries)
 }
 
-/// The entries that the step adds, with room for them. Want of memory is the only error, or of places.
+/// Returns the entries that the step adds, and makes room for them. Want of memory is an error, and so is want of places.
 pub(crate) fn reserve(
     list: &mut BlockedList,
     tables: &Tables,
@@ -76,7 +76,7 @@ pub(crate) fn reserve(
     Ok(entries)
 }
 
-// ---- who gets another entry
+// ---- evaluations whose entry changes
 
 fn same_classes(a: &[Class], b: &[Class]) -> bool
     ensures { result ≡ pointwise same_class a.now b.now }
@@ -90,7 +90,7 @@ fn same_classes(a: &[Class], b: &[Class]) -> bool
     }
 }
 
-/// Whether both wait for the same, and the same classes wake them.
+/// Whether both wait for the same quota and pool, and the same classes wake them.
 fn waits_alike(a: &Evaluation, b: &Evaluation) -> bool
     ensures { result ≡ waits_alike a.now b.now }
 {
@@ -110,13 +110,13 @@ fn rows_alike(a: Option<&Evaluation>, b: Option<&Evaluation>) -> bool
     }
 }
 
-/// Those that stand in a list.
+/// The evaluations that are in a list.
 #[derive(Drop)]
 struct Standing<'a> {
     list: &'a BlockedList,
 }
 
-/// Whether one of them gets another entry.
+/// An evaluation of the list moves when its entry changes.
 impl WatchesMoves for Standing<'_> {
     ghost moves = { λ s key before after. moves_entry s.list.now key before after };
 
@@ -131,8 +131,8 @@ impl WatchesMoves for Standing<'_> {
     }
 }
 
-/// The list goes along with a step before the tables do, and answers whether it is right for them afterwards; where it is
-/// not, it may be anything. It takes no memory, and looks at no entry but those of evaluations that change.
+/// Makes the list follow a step before the tables do, and returns whether the list is right for the tables afterwards. If it
+/// returns false, the list may hold anything. It takes no memory, and looks only at the entries of evaluations that change.
 pub(crate) fn follow(
     list: &mut BlockedList,
     tables: &Tables,

@@ -1,4 +1,4 @@
-//! For which namespaces each worker is busy.
+//! The namespaces for which each worker is busy.
 
 ghost use Rattle.std.specs.Prelude.{◌≡◌, ℕ, IsTrue, OnOk, false, find, is_some, option_copied, option_map, true};
 ghost use Rattle.keyed.specs.Table.{row_at};
@@ -17,7 +17,7 @@ use ns_types::text::Text;
 use ns_types::worker::Worker;
 use std::alloc::{AllocError, Global};
 
-/// The namespaces for which each worker is busy, by its number. A vacant slot is room.
+/// The namespaces for which each worker is busy, by the worker's number. A vacant slot is room.
 #[derive(Drop)]
 pub struct BusyWorkers {
     workers: NumberTable<NameTable<()>>,
@@ -62,7 +62,7 @@ impl BusyWorkers {
         Ok(())
     }
 
-    /// The worker is busy for the namespace from now on. It takes no memory.
+    /// Makes the worker busy for the namespace. It takes no memory.
     fn insert(&mut self, number: u64, namespace: &Text)
         requires { IsTrue (has_room self.old number namespace.now) }
         ensures { Puts number namespace.now true self.old self.new }
@@ -72,7 +72,7 @@ impl BusyWorkers {
         }
     }
 
-    /// The worker is busy for the namespace no longer. Its table goes with the last name. It takes no memory.
+    /// Makes the worker idle for the namespace, and drops the worker's table with its last name. It takes no memory.
     fn remove(&mut self, number: u64, namespace: &Text)
         ensures { Puts number namespace.now false self.old self.new }
     {
@@ -85,7 +85,7 @@ impl BusyWorkers {
         }
     }
 
-    /// The worker is busy for the namespace from now on, or no longer, as its changed row says. It takes no memory.
+    /// Makes the worker busy or idle for the namespace, as its changed row says. It takes no memory.
     fn put(&mut self, namespace: &Text, slot: &NumberSlot<Worker>)
         requires { IsTrue (is_some slot.now.1)
             → IsTrue (has_room self.old slot.now.0 namespace.now) }
@@ -117,7 +117,7 @@ impl BusyWorkers {
         Ok(())
     }
 
-    /// Follows the changed rows. It takes no memory.
+    /// Follows the changed rows of one namespace. It takes no memory.
     fn put_all(&mut self, namespace: &Text, changes: &NumberTable<Worker>)
         requires { HasRoomIn namespace.now changes.now self.old }
         ensures { PutsAll namespace.now changes.now self.old self.new }
@@ -142,7 +142,7 @@ impl BusyWorkers {
         Ok(())
     }
 
-    /// Follows the step, which changes the tables afterwards. It takes no memory.
+    /// Follows the step, before the tables do. It takes no memory.
     pub(crate) fn follow(&mut self, tables: &Tables, settled: &Settled)
         requires { HasBusyRoom settled.now self.old }
         ensures { let w = world_of tables.now in IsBusyIndex w self.old →
@@ -169,7 +169,7 @@ impl BusyWorkers {
     }
 }
 
-/// The first name that is there.
+/// The first name whose slot is not vacant.
 fn first_name(slots: &[NameSlot<()>]) -> Option<&Text>
     ensures { option_copied result ≡ option_map (λ e. e.0) (find (λ e. is_some e.1) slots.now) }
 {

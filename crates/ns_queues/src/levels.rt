@@ -1,4 +1,4 @@
-//! Queues of keys by priority.
+//! Queues of keys by priority. The queue of one priority is a level.
 
 ghost use Rattle.std.specs.Prelude.{◌≡◌, ◌++◌, ℕ, IsTrue, OnOk, is_some, option_copied};
 ghost use Rattle.std.specs.FinMap.{entries};
@@ -83,7 +83,7 @@ pub(crate) fn append_all(levels: &mut NumberTable<KeyQueue>, groups: NumberTable
     }
 }
 
-/// Takes those keys out of the level, where it has the one key. Room for them stays. It takes no memory.
+/// Takes those keys out of the level, if `key` is in it. Room for them stays. It takes no memory.
 pub(crate) fn take_out(
     levels: &mut NumberTable<KeyQueue>,
     priority: u64,
@@ -102,7 +102,7 @@ pub(crate) fn take_out(
     }
 }
 
-/// Takes the room for those keys away again, with the level where it is empty.
+/// Gives the room for those keys back, and drops the level if it is empty.
 pub(crate) fn clear(levels: &mut NumberTable<KeyQueue>, priority: u64, keys: &[EvalKey])
     ensures { SameKeys levels.old levels.new }
 {

@@ -1,8 +1,8 @@
-//! Finds by look-up for which namespace a worker is busy, which evaluation is next, and which blocked evaluations wait for what a
-//! step releases.
+//! Looks up the namespace for which a worker is busy, the next evaluation to dequeue, and the blocked evaluations that wait
+//! for what a step releases.
 //!
-//! The tables say the same, to whoever goes through them. So an index that is no longer known to be right is given up, and
-//! the tables are searched. Room is made before a step, and no step takes memory here.
+//! A search of the tables finds the same. So an index that is no longer known to be right is given up, and the tables are
+//! searched instead. Room is made before a step, and following the step takes no memory here.
 #![tactic(auto)]
 
 mod after;

@@ -25,7 +25,7 @@ use std::alloc::{AllocError, Global};
 
 // ---- priorities
 
-/// The priority of an evaluation, and 0 for none.
+/// The priority of an evaluation, or 0 if there is none.
 fn priority(row: Option<&Evaluation>) -> u64
     ensures { result ≡ priority_of (option_copied row.entry) }
 {
@@ -47,7 +47,7 @@ fn priority_after(tables: &Tables, settled: &Settled, key: &EvalKey) -> u64
     priority(evaluation_after(tables, settled, key.namespace(), key.number()))
 }
 
-/// A ready evaluation that gets another priority.
+/// An evaluation of the ready queue moves when its priority changes.
 impl WatchesMoves for KeyQueue {
     ghost moves = { moves_ready };
 
@@ -87,7 +87,7 @@ fn put(
     Ok(())
 }
 
-/// Copies of the keys that the step adds.
+/// Copies of the keys that the step adds, by the priority that each has after it.
 fn find_arrivals(alloc: Global, tables: &Tables, settled: &Settled) -> Result<Arrivals, AllocError>
     ensures { let after = settled_world (world_of tables.now) settled.now in
         IfOk result (AreArrivals after settled.now.ready.added) }
@@ -102,7 +102,7 @@ fn find_arrivals(alloc: Global, tables: &Tables, settled: &Settled) -> Result<Ar
 
 // ---- keys that are taken
 
-/// Takes those keys out of the levels of the priorities that they have in the tables. Room for them stays.
+/// Takes those keys out of the levels of the priorities that they have in the tables. Room for the keys stays.
 fn take_all(levels: &mut NumberTable<KeyQueue>, tables: &Tables, keys: &[EvalKey])
     ensures keys { (priority : ℕ) → HoldsOnly (world_of tables.now) priority
         (level_at levels.old priority) → level_at levels.new priority
@@ -114,7 +114,7 @@ fn take_all(levels: &mut NumberTable<KeyQueue>, tables: &Tables, keys: &[EvalKey
     }
 }
 
-/// Takes the room for those keys away again, and the levels that are left empty.
+/// Gives the room for those keys back, and drops the levels that are left empty.
 fn clear_all(levels: &mut NumberTable<KeyQueue>, tables: &Tables, keys: &[EvalKey])
     ensures { SameKeys levels.old levels.new }
 {
@@ -125,14 +125,14 @@ fn clear_all(levels: &mut NumberTable<KeyQueue>, tables: &Tables, keys: &[EvalKe
 
 // ---- the index
 
-/// The ready evaluations by priority, each priority's in their order.
+/// The ready evaluations by priority, and those of one priority in the order of the ready list.
 #[derive(Drop)]
 pub struct ByPriority {
     levels: NumberTable<KeyQueue>,
 }
 
 impl ByPriority {
-    /// None. It takes no memory.
+    /// No ready evaluation. It takes no memory.
     pub fn new(alloc: Global) -> ByPriority
         ensures { (priority : ℕ) → keys_at result priority ≡ [] }
     {
@@ -158,8 +158,8 @@ impl ByPriority {
         Ok(arrivals)
     }
 
-    /// Takes out what the step takes, puts the arrivals at the end of their levels, and answers whether it is still right,
-    /// which it is unless an evaluation that is ready gets another priority. It takes no memory.
+    /// Takes out the keys that the step takes, puts the arrivals at the end of their levels, and returns whether the index is
+    /// still right. It is, unless a ready evaluation gets another priority. It takes no memory.
     pub fn follow(&mut self, tables: &Tables, settled: &Settled, arrivals: Arrivals) -> bool
         requires room { HasRoom self.old arrivals }
         requires arrivals { let after = settled_world (world_of tables.now) settled.now in
@@ -174,7 +174,7 @@ impl ByPriority {
         !any_moved(&tables.ready, tables, settled)
     }
 
-    /// The first of the greatest priority that has one. It goes through the levels, of which there are no more than
+    /// The first key of the highest priority that has one. It goes through the levels, of which there are at most as many as
     /// priorities, and not through the keys.
     pub fn first(&self) -> Option<&EvalKey>
         ensures { (w : World) → IsByPriority w self.now → option_copied result ≡ served_ready w }

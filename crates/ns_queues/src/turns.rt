@@ -1,4 +1,4 @@
-//! The indexes together, as long as they are right.
+//! The three indexes together, and whether they are known to be right.
 
 ghost use Rattle.std.specs.Prelude.{◌≡◌, IfOk, false, option_copied, option_map};
 ghost use Rattle.ns_change.specs.Settled.{settled_world};
@@ -18,8 +18,8 @@ use ns_types::rows::Rows;
 use ns_types::text::Text;
 use std::alloc::{AllocError, Global};
 
-/// For which namespaces workers are busy, the ready evaluations by priority, and the blocked ones by what they wait for. Where
-/// they are not known they say nothing, and whoever asks goes through the tables.
+/// The namespaces for which workers are busy, the ready evaluations by priority, and the blocked evaluations by what they wait
+/// for. While these are not known to be right, callers search the tables instead.
 pub struct Turns {
     alloc: Global,
     is_known: bool,
@@ -40,7 +40,7 @@ impl Drop for Turns {
     }
 }
 
-/// What a step brings: evaluations that are ready from then on, and those that are blocked.
+/// What a step adds to the indexes: evaluations that become ready, and evaluations that become blocked.
 #[derive(Drop)]
 pub struct Coming {
     ready: Arrivals,
@@ -61,14 +61,15 @@ impl Turns {
         }
     }
 
-    /// Those of a server that has just begun: no worker is busy, and no evaluation is ready or blocked. It takes no memory.
+    /// The indexes of a server that has just started: no worker is busy, and no evaluation is ready or blocked. It takes no
+    /// memory.
     pub fn new(alloc: Global) -> Turns
         ensures { IsNew result }
     {
         Turns::all_idle(alloc, true)
     }
 
-    /// Those that are not known. It takes no memory.
+    /// Indexes that are not known to be right. It takes no memory.
     pub fn unknown(alloc: Global) -> Turns
         ensures { result.is_known ≡ false }
     {
@@ -81,7 +82,7 @@ impl Turns {
         self.is_known
     }
 
-    /// The first namespace for which the worker is busy, where it is.
+    /// The first namespace for which the worker is busy, if there is one.
     pub fn namespace_of(&self, number: u64) -> Option<&Text>
         ensures { (w : World) → AreRight w self.now →
             option_copied result ≡ option_map (λ r. r.0) (row_of w number) }
@@ -89,7 +90,7 @@ impl Turns {
         self.busy.namespace_of(number)
     }
 
-    /// The evaluation that is served next.
+    /// The next evaluation to dequeue, if one is ready.
     pub fn served(&self) -> Option<&EvalKey>
         ensures { (w : World) → AreRight w self.now → option_copied result ≡ served_ready w }
     {
@@ -103,7 +104,7 @@ impl Turns {
         &self.blocked
     }
 
-    /// Makes room for what a step brings. Want of memory is the only error.
+    /// Makes room for what a step adds to the indexes, and returns it. Want of memory is the only error.
     pub fn reserve(&mut self, tables: &Tables, settled: &Settled) -> Result<Coming, AllocError>
         ensures same { (w : World) → IsRight w self.old → IsRight w self.new }
         ensures ok { IfOk result (λ coming.
@@ -116,7 +117,8 @@ impl Turns {
         Ok(Coming { ready, blocked })
     }
 
-    /// Follows a step that is about to go into the tables. It takes no memory.
+    /// Follows a step, before the tables do. If an index is not right afterwards, none is known to be right any more. It takes
+    /// no memory.
     pub fn follow(&mut self, tables: &Tables, settled: &Settled, coming: Coming)
         requires { BringsComing (world_of tables.now) settled.now coming self.old }
         ensures { IsRight (world_of tables.now) self.old →

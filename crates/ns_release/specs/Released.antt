@@ -1,4 +1,4 @@
--- What a step releases, said by its change alone.
+-- What a step releases, found from its change alone.
 use Rattle.std.specs.Prelude.{ℕ, Bool, true, false, not, ◌&&◌, ◌||◌, if◌then◌else◌, List, [], ◌∷◌, ◌++◌, Option, Some}
 use Rattle.std.specs.Prelude.{None, flat_map, filter, map}
 use Rattle.std.specs.Option.{option_map_or}
@@ -41,12 +41,12 @@ at_ended passes e = passes e.0 e.1
 
 -- ---- room on nodes
 
--- a node is new, became free or offers otherwise
+-- the node is new, was not free before, or had another offer
 abbrev pub differs : PoolRows → Name → Node → Bool
 differs p n node = option_map_or (λ old. not (is_free old) || not (same_offer old.offer node.offer))
     (get p.nodes n) true
 
--- a changed node that is free gives room itself, where it differs
+-- a changed node gives room itself if it is free, and is new, was not free before, or had another offer
 abbrev pub gives_itself : PoolRows → Name → Node → Bool
 gives_itself p n node = is_free node && differs p n node
 
@@ -55,14 +55,14 @@ changed_classes w name x = option_map_or
     (λ p. option_map_or (λ x. map (λ e. class_of e.1)
     (filter (λ e. gives_itself p e.0 e.1) (row_list (entries x.nodes)))) x []) (get w.pools name) []
 
--- a free node from which an allocation went gives room
+-- the class of the node that an ended allocation leaves, if the node is free
 abbrev pub room_left : Option Node → List Class
 room_left node = option_map_or (λ node. if is_free node then class_of node ∷ [] else []) node []
 
 abbrev pub in_pool : Name → List Class → List (Name × Class)
 in_pool name classes = map (λ class. (name, class)) classes
 
--- a slot of a node, changed or vacant
+-- the room that the slot of a changed node gives; a vacant slot gives none
 abbrev pub rooms_at : Name → PoolRows → Name × Option Node → List (Name × Class)
 rooms_at name p e = option_map_or (λ node. if gives_itself p e.0 node then (name, class_of node) ∷ [] else []) e.1 []
 
@@ -73,14 +73,15 @@ room_at w a = in_pool a.pool (room_left (node_at w a.pool a.node))
 abbrev pub rooms_left : World → Namespace × Allocation → List (Name × Class)
 rooms_left w e = room_at w e.1
 
--- the same, of a slot of an allocation and of a slot of a namespace
+-- the room that an allocation's slot leaves; below, the room that a namespace's slot leaves
 abbrev pub rooms_ended : World → Tenant → ℕ × Option Allocation → List (Name × Class)
 rooms_ended w t slot = flat_map (rooms_left w) (ended_one t slot.0 slot.1)
 
 abbrev pub rooms_ended_in : World → World → Name × Option TenantChange → List (Name × Class)
 rooms_ended_in w w' slot = flat_map (rooms_left w') (ended_of w slot.0 slot.1)
 
--- the released classes, each with its pool, in no order and perhaps twice
+-- the room that the changed nodes of a pool give; below, all released classes, each with its pool, in any order and perhaps
+-- twice
 abbrev pub rooms_of_pool : World → Name × Option PoolChange → List (Name × Class)
 rooms_of_pool w slot = in_pool slot.0 (changed_classes w slot.0 slot.1)
 
@@ -88,7 +89,7 @@ abbrev pub released_rooms : World → Change → List (Name × Class)
 released_rooms w c = flat_map (rooms_of_pool w) (entries c.pools)
     ++ flat_map (rooms_left (changed w c)) (ended_rows w c)
 
--- a test of a class of that pool
+-- the room is in that pool, and its class passes the test
 abbrev pub at_room : Name → (Class → Bool) → Name × Class → Bool
 at_room name passes r = same_name name r.0 && passes r.1
 
@@ -101,7 +102,7 @@ quota_left namespace = option_map_or (λ quota. quota ∷ []) namespace.quota []
 abbrev pub quotas_left : World → Change → List Name
 quotas_left w c = flat_map (λ e. quota_left e.0) (ended_rows w c)
 
--- the same, of a slot of an allocation and of a slot of a namespace
+-- the quotas that an allocation's slot releases; below, those that a namespace's slot releases
 abbrev pub quotas_ended : Tenant → ℕ × Option Allocation → List Name
 quotas_ended t slot = flat_map (λ e. quota_left e.0) (ended_one t slot.0 slot.1)
 
@@ -119,24 +120,24 @@ quota_relimited w slot = if relimits w slot then slot.0 ∷ [] else []
 abbrev pub quotas_relimited : World → Change → List Name
 quotas_relimited w c = flat_map (quota_relimited w) (entries c.quotas)
 
--- the released quotas, in no order and perhaps twice
+-- the released quotas, in any order and perhaps twice
 abbrev pub released_quotas : World → Change → List Name
 released_quotas w c = quotas_relimited w c ++ quotas_left w c
 
--- ---- whom that wakes
+-- ---- which evaluations the releases wake
 
 abbrev pub woken_by : World → List (Name × Class) → List Name → Evaluation → Option Name → Bool
 woken_by w rooms quotas e (Some quota) = contains_key w.quotas quota && has_name quotas quota
 woken_by w rooms quotas e None = list_any (at_room e.pool (can_use e)) rooms
 
--- whether such releases wake the evaluation, by the quota that limits it
+-- whether such releases wake the evaluation: by its quota if a quota limits it, or else by room in its pool
 abbrev pub releases_wake : World → List (Name × Class) → List Name → Evaluation → Bool
 releases_wake w rooms quotas e = woken_by w rooms quotas e e.quota
 
 abbrev pub releases_wake_at : World → List (Name × Class) → List Name → Key → Bool
 releases_wake_at w rooms quotas key = option_map_or (releases_wake w rooms quotas) (evaluation_at w key) false
 
--- the entries of `blocked` that such releases wake
+-- the entries of `blocked` before the step that are still there and that such releases wake
 abbrev pub woken_from : World → Change → List (Name × Class) → List Name → List Key
 woken_from w c rooms quotas =
     filter (λ key. has_key (changed w c).blocked key && releases_wake_at w rooms quotas key) w.blocked
@@ -144,14 +145,14 @@ woken_from w c rooms quotas =
 abbrev pub woken_keys : World → Change → List Key
 woken_keys w c = woken_from w c (released_rooms w c) (released_quotas w c)
 
--- an entry that was there is there still, by what goes out of the list and what comes in
+-- an entry that was in the list is still there: it is not taken out, or it is added again
 abbrev pub stays : ListChange → Key → Bool
 stays x key = not (has_key x.taken key) || has_key x.added key
 
 abbrev pub is_woken : World → ListChange → List (Name × Class) → List Name → Key → Bool
 is_woken w x rooms quotas key = stays x key && releases_wake_at w rooms quotas key
 
--- the same of the step's own releases
+-- the entry is still in the list, and the step's own releases wake it
 abbrev pub does_wake : World → Change → Key → Bool
 does_wake w c key = is_woken w c.blocked (released_rooms w c) (released_quotas w c) key
 

@@ -1,4 +1,4 @@
--- Which changed rows are shown otherwise than before.
+-- Which changed rows replies show differently than before.
 use Rattle.std.specs.Prelude.{ℕ, Bool, Option}
 use Rattle.std.specs.Option.{option_map_or}
 use Rattle.std.specs.Ordering.{nat_cmp}
@@ -15,7 +15,8 @@ use Rattle.ns_types.specs.Settling.Settle.{is_changed}
 
 -- ---- rows by number: evaluations and allocations
 
--- how replies show a kind of row: which two alike, when it was made, with which indexes, and in what event
+-- how replies show a kind of row: when two rows look alike, a row's creation index, the row with both indexes set, its event's
+-- topic
 pub record Kind (X : Type 0) : Type 0 where
   pub same : X → X → Bool
   pub made : X → ℕ
@@ -39,7 +40,7 @@ allocations_shown = record {
 }
 
 module _ {X : Type 0} (kind : Kind X) where
-  -- a row is new, or shown otherwise than before
+  -- a row is new, or replies show it differently than before
   abbrev pub changes_row : FinMap nat_cmp X → ℕ → X → Bool
   changes_row before n row = is_changed kind.same (get before n) row
 
@@ -48,7 +49,7 @@ module _ {X : Type 0} (kind : Kind X) where
 
 -- ---- jobs
 
--- a job's row is new, shown otherwise or gone
+-- a job's row is new, shown differently, or removed
 abbrev pub changes_job_row : Tenant → Name → Option Job → Bool
 changes_job_row t id row = option_map_or (is_changed same_job (get t.jobs id)) row (contains_key t.jobs id)
 

@@ -1,4 +1,4 @@
-//! What a step releases, asked without memory.
+//! Questions about what a step releases. They take no memory.
 
 ghost use Rattle.std.specs.Prelude.{◌≡◌, Bool, true};
 ghost use Rattle.std.specs.List.{list_any};
@@ -20,14 +20,14 @@ use ns_types::node::{Node, Offer};
 use ns_types::records::Quota;
 use ns_types::text::Text;
 
-/// A question of what is released.
+/// A yes-or-no question about each thing that a step releases.
 pub trait Question {
-    /// Of the room that a class of a pool gives.
+    /// The answer for room that a class of a pool gives.
     ghost of_room: { Self → Name × Class → Bool };
-    /// Of a quota.
+    /// The answer for a quota.
     ghost of_quota: { Self → Name → Bool };
 
-    /// The answer for the class that a node of such an offer has in a pool.
+    /// The answer for room on a node with this offer in the pool.
     fn is_room(&self, pool: &Text, offer: &Offer) -> bool
         ensures { result ≡ of_room self.now (pool.now, offered_class offer.now) };
 
@@ -36,7 +36,7 @@ pub trait Question {
         ensures { result ≡ of_quota self.now quota.now };
 }
 
-/// Whether there is a release at all.
+/// The question that is always answered yes: whether the step releases anything.
 #[derive(Drop)]
 pub struct Anything;
 
@@ -56,7 +56,7 @@ impl Question for Anything {
 
 // ---- room
 
-/// Whether a changed node gives such room.
+/// Whether a changed node gives room for which the answer is yes.
 fn gives<Q: Question>(question: &Q, pool: &Text, rows: &PoolRows, slot: &NameSlot<Node>) -> bool
     ensures { result
         ≡ list_any (Q.of_room question.now) (rooms_at pool.now (pool_of rows.now) slot.now) }
@@ -79,7 +79,7 @@ fn any_gives<Q: Question>(
     slots.iter().any(|slot| gives(question, pool, rows, slot))
 }
 
-/// Whether a changed node of the pool gives such room.
+/// Whether a changed node of the pool gives room for which the answer is yes.
 fn pool_gives<Q: Question>(question: &Q, tables: &Tables, slot: &NameSlot<PoolChange>) -> bool
     ensures { result
         ≡ list_any (Q.of_room question.now) (rooms_of_pool (world_of tables.now) slot.now) }
@@ -93,7 +93,7 @@ fn pool_gives<Q: Question>(question: &Q, tables: &Tables, slot: &NameSlot<PoolCh
     }
 }
 
-/// Whether the node from which an allocation went gives such room.
+/// Whether the node of an allocation that ended gives room for which the answer is yes.
 fn is_left<Q: Question>(
     question: &Q,
     tables: &Tables,
@@ -140,7 +140,7 @@ fn any_leaves<Q: Question>(
         .any(|slot| leaves(question, tables, change, tenant, slot))
 }
 
-/// Whether an allocation of the namespace that ended leaves such room.
+/// Whether an allocation of the namespace ended and leaves room for which the answer is yes.
 fn tenant_leaves<Q: Question>(
     question: &Q,
     tables: &Tables,
@@ -190,7 +190,7 @@ fn any_tenant_leaves<Q: Question>(
         .any(|slot| tenant_leaves(question, tables, change, slot))
 }
 
-/// Whether the step gives such room.
+/// Whether the step releases room for which the answer is yes.
 pub fn releases_room<Q: Question>(question: &Q, tables: &Tables, change: &Change) -> bool
     ensures { result ≡ list_any (Q.of_room question.now)
         (released_rooms (world_of tables.now) change.now) }
@@ -210,7 +210,7 @@ fn is_own<Q: Question>(question: &Q, tenant: &TenantRows) -> bool
     }
 }
 
-/// Whether the allocation ended, in a namespace of such a quota.
+/// Whether the allocation ended, and the answer is yes for the quota of its namespace.
 fn frees<Q: Question>(question: &Q, tenant: &TenantRows, slot: &NumberSlot<Allocation>) -> bool
     ensures { result
         ≡ list_any (Q.of_quota question.now) (quotas_ended (tenant_of tenant.now) slot.now) }
@@ -255,7 +255,7 @@ fn any_tenant_frees<Q: Question>(
         .any(|slot| tenant_frees(question, tables, slot))
 }
 
-/// Whether the record changes the limits of such a quota.
+/// Whether the record changes the limits of its quota, and the answer is yes for that quota.
 fn is_relimited<Q: Question>(question: &Q, tables: &Tables, slot: &NameSlot<Quota>) -> bool
     ensures { result
         ≡ list_any (Q.of_quota question.now) (quota_relimited (world_of tables.now) slot.now) }
@@ -272,7 +272,7 @@ fn any_relimited<Q: Question>(question: &Q, tables: &Tables, slots: &[NameSlot<Q
         .any(|slot| is_relimited(question, tables, slot))
 }
 
-/// Whether the step releases such a quota.
+/// Whether the step releases a quota for which the answer is yes.
 pub fn releases_quota<Q: Question>(question: &Q, tables: &Tables, change: &Change) -> bool
     ensures { result ≡ list_any (Q.of_quota question.now)
         (released_quotas (world_of tables.now) change.now) }

@@ -1,4 +1,4 @@
-//! Whom a step wakes.
+//! Which blocked evaluations a step wakes.
 
 ghost use Rattle.std.specs.Prelude.{◌≡◌, ◌||◌, true};
 ghost use Rattle.std.specs.List.{list_any};
@@ -21,7 +21,7 @@ pub fn releases(tables: &Tables, change: &Change) -> bool
     releases_room(&Anything, tables, change) || releases_quota(&Anything, tables, change)
 }
 
-/// Whether the step's releases wake the evaluation, by the quota that limits it.
+/// Whether the step's releases wake the evaluation: by its quota if a quota limits it, or else by room in its pool.
 fn releases_wake(tables: &Tables, change: &Change, evaluation: &Evaluation) -> bool
     ensures { result ≡ releases_wake (world_of tables.now)
         (released_rooms (world_of tables.now) change.now)
@@ -44,14 +44,14 @@ fn releases_wake_at(tables: &Tables, change: &Change, key: &EvalKey) -> bool
     }
 }
 
-/// Whether an entry of the list is still there.
+/// Whether an entry that was in the list before the step is still in it.
 pub fn stays(list: &ListChange, key: &EvalKey) -> bool
     ensures { result ≡ stays list.now key.now }
 {
     !has_key(list.taken.as_slice(), key) || has_key(list.added.as_slice(), key)
 }
 
-/// Whether an entry of `blocked` wakes. It takes no memory.
+/// Whether the step wakes the entry of `blocked`. It takes no memory.
 pub fn does_wake(tables: &Tables, change: &Change, key: &EvalKey) -> bool
     ensures { result ≡ does_wake (world_of tables.now) change.now key.now }
 {

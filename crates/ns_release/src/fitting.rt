@@ -1,4 +1,5 @@
-//! Which released room, and which quota, wakes an evaluation. It takes no memory: no class is made of a node.
+//! Which released room, and which quota, wakes an evaluation. It takes no memory: it compares a node's offer with a class and
+//! builds no class.
 
 ghost use Rattle.std.specs.Prelude.{◌≡◌, false, filter, not};
 ghost use Rattle.std.specs.Cmp.Lexicographic.{pointwise};
@@ -15,7 +16,7 @@ use ns_types::evaluation::Evaluation;
 use ns_types::node::{Attribute, Class, Offer};
 use ns_types::text::Text;
 
-/// Whether the attributes of a node that are not unique are those of a class.
+/// Whether a node's attributes that are not unique are the attributes of a class.
 fn are_shared(attributes: &[Attribute], shared: &[Attribute]) -> bool
     ensures { result ≡ pointwise (eq_by_cmp attribute_cmp)
         (filter (λ a. not (is_unique a.key)) attributes.now) shared.now }
@@ -32,7 +33,7 @@ fn are_shared(attributes: &[Attribute], shared: &[Attribute]) -> bool
     }
 }
 
-/// Whether a node of such an offer is of the class.
+/// Whether a node with this offer is of the class.
 fn is_of_class(class: &Class, offer: &Offer) -> bool
     ensures { result ≡ same_class (offered_class offer.now) class.now }
 {
@@ -46,14 +47,14 @@ fn has_class_of(classes: &[Class], offer: &Offer) -> bool
     classes.iter().any(|class| is_of_class(class, offer))
 }
 
-/// Whether room on a node of such an offer may serve the evaluation.
+/// Whether the evaluation can use room on a node with this offer.
 fn can_use(evaluation: &Evaluation, offer: &Offer) -> bool
     ensures { result ≡ can_use evaluation.now (offered_class offer.now) }
 {
     evaluation.escapes || !has_class_of(evaluation.infeasible.as_slice(), offer)
 }
 
-/// Room of its pool that may serve it, and the quota that limits it.
+/// The question whether a release wakes the evaluation: room in its pool that it can use, or the quota that limits it.
 impl Question for Evaluation {
     ghost of_room = { λ e room. at_room e.pool (can_use e) room };
 

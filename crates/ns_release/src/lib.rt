@@ -1,8 +1,8 @@
-//! Finds what a step releases, which evaluations that wakes, and which rows change as replies show them, from the step's change and
-//! the tables before it.
+//! Finds what a step releases, which evaluations the releases wake, and which changed rows replies show differently. It finds
+//! these from the step's change and the tables before it.
 //!
-//! Nothing here takes memory, so the same functions serve before a step is made, to see whether a counter would pass its bound,
-//! and at its end. The work grows with what the step changes, never with the tables.
+//! Nothing here takes memory. So the same functions serve before a step is made, to decide whether a counter would pass its
+//! bound, and at the step's end. The work grows with what the step changes, never with the tables.
 #![tactic(auto)]
 
 mod asking;

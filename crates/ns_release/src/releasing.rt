@@ -1,4 +1,4 @@
-//! Which changed row releases something.
+//! Which changed rows release something.
 
 ghost use Rattle.std.specs.Prelude.{◌≡◌, false, option_copied};
 ghost use Rattle.std.specs.Option.{option_map_or};
@@ -16,7 +16,7 @@ use ns_types::text::Text;
 
 // ---- nodes that give room
 
-/// Whether the node was not free before, or offered otherwise.
+/// Whether the node is new, was not free before, or had another offer.
 fn differs(rows: &PoolRows, name: &Text, node: &Node) -> bool
     ensures { result ≡ differs (pool_of rows.now) name.now node.now }
 {
@@ -26,7 +26,7 @@ fn differs(rows: &PoolRows, name: &Text, node: &Node) -> bool
     }
 }
 
-/// Whether the node is free, and was not before, or offered otherwise.
+/// Whether the node gives room itself: it is free, and it is new, was not free before, or had another offer.
 pub fn gives_itself(rows: &PoolRows, name: &Text, node: &Node) -> bool
     ensures { result ≡ gives_itself (pool_of rows.now) name.now node.now }
 {
@@ -44,7 +44,7 @@ fn lives_on(row: Option<&Allocation>) -> bool
     }
 }
 
-/// The allocation as it was, if it was live and is not live any more.
+/// The allocation as it was before the step, if it was live then and is not live after it.
 pub fn ended<'a>(tenant: &'a TenantRows, slot: &NumberSlot<Allocation>) -> Option<&'a Allocation>
     ensures { ended_one (tenant_of tenant.now) slot.now.0 slot.now.1
         ≡ ended_list (tenant_of tenant.now) (option_copied result) }
@@ -58,7 +58,7 @@ pub fn ended<'a>(tenant: &'a TenantRows, slot: &NumberSlot<Allocation>) -> Optio
 
 // ---- limits that change
 
-/// Whether the record changes the limits of its quota. One that is not there has none.
+/// Whether the record changes the limits of its quota. It does not if there is no such quota.
 pub fn relimits(tables: &Tables, slot: &NameSlot<Quota>) -> bool
     ensures { result ≡ relimits (world_of tables.now) slot.now }
 {

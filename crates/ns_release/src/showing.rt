@@ -1,4 +1,4 @@
-//! Which changed rows are shown otherwise than before.
+//! Which changed rows replies show differently than before.
 
 ghost use Rattle.std.specs.Prelude.{◌≡◌};
 ghost use Rattle.std.specs.List.{list_any};
@@ -19,24 +19,24 @@ use ns_types::event::Topic;
 use ns_types::job::Job;
 use ns_types::text::Text;
 
-/// A row that replies show, under its number in a namespace.
+/// A kind of row that replies show, and that a namespace has by number.
 pub trait ShownByNumber: Drop {
-    /// How it is shown.
+    /// How replies show this kind of row.
     ghost kind: { Kind Self };
 
-    /// Whether replies show both alike.
+    /// Whether replies show both rows alike.
     fn is_alike(&self, other: &Self) -> bool
         ensures { result ≡ kind.same self.now other.now };
 
-    /// The index at which it was made.
+    /// The index at which the row was made.
     fn made(&self) -> u64
         ensures { result ≡ kind.made self.now };
 
-    /// Gives it both indexes.
+    /// Sets the index at which the row was made and the index of its last change.
     fn mark(&mut self, made: u64, index: u64)
         ensures { self.new ≡ kind.marked made index self.old };
 
-    /// The topic of its event.
+    /// The topic of the event of the row with that number.
     fn topic(number: u64) -> Topic
         ensures { result ≡ kind.topic number };
 }
@@ -83,7 +83,7 @@ impl ShownByNumber for Allocation {
     }
 }
 
-/// Whether the row is new, or shown otherwise than before.
+/// Whether the row is new, or replies show it differently than before.
 pub fn changes_row<R: ShownByNumber>(before: &NumberTable<R>, number: u64, row: &R) -> bool
     ensures { result ≡ changes_row R.kind (rows before.now) number row.now }
 {
@@ -93,7 +93,7 @@ pub fn changes_row<R: ShownByNumber>(before: &NumberTable<R>, number: u64, row: 
     }
 }
 
-/// Whether the slot has such a row.
+/// Whether the slot has a row that is new, or that replies show differently than before.
 pub fn changes_slot<R: ShownByNumber>(before: &NumberTable<R>, slot: &NumberSlot<R>) -> bool
     ensures { result ≡ changes_slot R.kind (rows before.now) slot.now }
 {
@@ -103,7 +103,7 @@ pub fn changes_slot<R: ShownByNumber>(before: &NumberTable<R>, slot: &NumberSlot
     }
 }
 
-/// Whether a row is new, or shown otherwise than before.
+/// Whether one of the slots has a row that is new, or that replies show differently than before.
 pub fn any_row<R: ShownByNumber>(before: &NumberTable<R>, slots: &[NumberSlot<R>]) -> bool
     ensures { result ≡ list_any (changes_slot R.kind (rows before.now)) slots.now }
 {
@@ -112,7 +112,7 @@ pub fn any_row<R: ShownByNumber>(before: &NumberTable<R>, slots: &[NumberSlot<R>
 
 // ---- jobs
 
-/// Whether the job is new, or shown otherwise than before.
+/// Whether the job is new, or replies show it differently than before.
 fn changes_job(tenant: &TenantRows, id: &Text, row: &Job) -> bool
     ensures { result ≡ is_changed same_job (get (tenant_of tenant.now).jobs id.now) row.now }
 {
@@ -131,7 +131,7 @@ fn has_job(tenant: &TenantRows, id: &Text) -> bool
     }
 }
 
-/// Whether the job is new, shown otherwise, or gone.
+/// Whether the job is new, shown differently, or removed.
 pub fn changes_job_slot(tenant: &TenantRows, slot: &NameSlot<Job>) -> bool
     ensures { result ≡ changes_job_slot (tenant_of tenant.now) slot.now }
 {
@@ -141,7 +141,7 @@ pub fn changes_job_slot(tenant: &TenantRows, slot: &NameSlot<Job>) -> bool
     }
 }
 
-/// Whether a job is new, shown otherwise, or gone.
+/// Whether one of the slots has a job that is new, shown differently, or removed.
 pub fn any_job(tenant: &TenantRows, slots: &[NameSlot<Job>]) -> bool
     ensures { result ≡ list_any (changes_job_slot (tenant_of tenant.now)) slots.now }
 {

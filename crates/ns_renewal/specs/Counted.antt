@@ -3,11 +3,11 @@ use Rattle.std.specs.Prelude.{Bool, List, [], ◌∷◌, ◌++◌, filter, flat_
 use Rattle.ns_types.specs.declared.plan.Eviction.{Eviction}
 use Rattle.ns_types.specs.declared.plan.Placement.{Placement}
 
--- of each placement those that pass as its own
+-- of each placement those of its evictions that pass
 abbrev pub counted_of : (Placement → Eviction → Bool) → List Placement → List Eviction
 counted_of passes placements = flat_map (λ p. filter (passes p) p.evictions) placements
 
--- the same, where only those evictions are left of the first placement
+-- the evictions that count, if only these evictions are left of the first placement
 abbrev pub left_of : (Placement → Eviction → Bool) → List Placement → List Eviction → List Eviction
 left_of passes [] evictions = []
 left_of passes (p ∷ placements) evictions = filter (passes p) evictions ++ counted_of passes placements

@@ -9,21 +9,21 @@ use Rattle.ns_types.specs.Working.Commit.{Victim, evicted_rows, make_up, stop_al
 use Rattle.ns_renewal.specs.Losing.{CanMakeUp, numbers_pass, victims_at}
 use Rattle.ns_renewal.specs.Renewing.{SameJobs, SameNumbers}
 
--- where no number passes its bound before the step, and no evaluation was made since, all of them can be made
+-- if no number passes its bound before the step, and no evaluation was made since, each namespace has the numbers it needs
 abbrev pub NumbersSuffice : Type 0
 NumbersSuffice = (victims : List Victim) (w x : World) → numbers_pass victims w ≡ false → SameNumbers w x → CanMakeUp victims x
 
--- evictions of which each allocation is named once make the evaluations that all of them make
+-- evictions that name each allocation once make the same evaluations as evictions that name some of them again
 abbrev pub OnceIsEnough : Type 0
 OnceIsEnough = (w x : World) (evictions each : List Eviction) → map victim_key each ≡ victim_keys evictions → SameJobs w x →
     make_up (victims_at w each) x ≡ make_up (victims_at w evictions) x
 
--- and need no more numbers
+-- evictions that name each allocation once need no more numbers than evictions that name some of them again
 abbrev pub OnceNeedsNoMore : Type 0
 OnceNeedsNoMore = (w x : World) (evictions each : List Eviction) → map victim_key each ≡ victim_keys evictions →
     CanMakeUp (victims_at w evictions) x → CanMakeUp (victims_at w each) x
 
--- evictions that count after some stops are of allocations whose rows are those before the stops
+-- the evictions that count after some stops are of allocations whose rows are as they were before the stops
 abbrev pub RowsBeforeStops : Type 0
 RowsBeforeStops = (w : World) (ns : Name) (stops : List ℕ) (kept : Snapshot) (placed : List Placement) →
     let stopped = stop_all ns stops w in

@@ -11,7 +11,7 @@ use Rattle.ns_renewal.specs.declared.losses.Losses.{Losses}
 abbrev pub number_at : Losses → Name → Name → Option ℕ
 number_at losses ns job = job_number (row_at losses.jobs ns) job
 
--- the job has that number from then on, and the others have theirs
+-- afterwards the job has that number, or none, and the others have theirs
 abbrev pub Puts : Name → Name → Option ℕ → Losses → Losses → Type 0
 Puts ns job number old new = (q id : Name) →
     number_at new q id ≡ (if same_name q ns && same_name id job then number else number_at old q id)
@@ -20,11 +20,11 @@ Puts ns job number old new = (q id : Name) →
 abbrev pub Lowers : List Victim → Losses → Losses → Type 0
 Lowers victims old new = (ns job : Name) → number_at new ns job ≡ lesser (number_at old ns job) (least_of victims ns job)
 
--- the key of the victim's job, where it has a number
+-- the key of the number of the victim's job, if it has one
 abbrev pub job_key : Losses → Victim → Option Key
 job_key losses v = option_map (λ n. (v.0, n)) (number_at losses v.0 v.1.1.job)
 
--- the victim's job, where there is one, has no number from then on
+-- afterwards the victim's job has no number, and all others have theirs
 abbrev pub Takes : Option Victim → Losses → Losses → Type 0
 Takes victim old new = (ns job : Name) →
     number_at new ns job ≡ (if option_map_or (is_of_job ns job) victim false then None else number_at old ns job)

@@ -7,7 +7,7 @@ use Rattle.ns_types.specs.Settling.Making.{evaluation_for, make}
 use Rattle.ns_types.specs.State.Names.{Name, Key, same_name}
 use Rattle.ns_types.specs.State.Rows.{World, Tenant}
 
--- the job of the allocation at that key gets an evaluation in x, with what the job and the allocation are in w
+-- an evaluation is made in x for the job of the allocation at that key, from the job and the allocation as they are in w
 abbrev pub renewed : Trigger → World → World → Key → World
 renewed trigger w x key = option_map_or (λ t. option_map_or
     (λ a. make key.0 (λ _. evaluation_for t a trigger) x) (get t.allocations key.1) x) (get w.tenants key.0) x
@@ -25,7 +25,7 @@ abbrev pub SameJobs : World → World → Type 0
 SameJobs w x = (ns : Name) → option_map (λ (t : Tenant). t.jobs) (get x.tenants ns)
     ≡ option_map (λ (t : Tenant). t.jobs) (get w.tenants ns)
 
--- the same evaluation was the last of each namespace
+-- the number of the last evaluation of each namespace is the same
 abbrev pub SameNumbers : World → World → Type 0
 SameNumbers w x = (ns : Name) → option_map (λ (t : Tenant). t.evaluation_number) (get x.tenants ns)
     ≡ option_map (λ (t : Tenant). t.evaluation_number) (get w.tenants ns)

@@ -1,4 +1,4 @@
-//! Evictions of placements, of which some count.
+//! The evictions of placements that count.
 
 ghost use Rattle.std.specs.Prelude.{◌≡◌, ◌∷◌, [], Bool, MatchOption, filter};
 ghost use Rattle.ns_types.specs.declared.plan.Eviction.{Eviction};
@@ -8,12 +8,12 @@ ghost use Rattle.ns_renewal.specs.Counted.{counted_of, first_evictions, left_of}
 use crate::evictions::Evictions;
 use ns_types::plan::{Eviction, Placement};
 
-/// Which evictions of which placements count. It takes no memory to ask.
+/// A test of which evictions of a placement count. It takes no memory.
 pub trait CountsEviction: Copy {
-    /// Whether the eviction counts, as one of the placement.
+    /// Whether this eviction of the placement counts.
     ghost passes: { Self → Placement → Eviction → Bool };
 
-    /// Whether the eviction counts, as one of the placement.
+    /// Whether this eviction of the placement counts.
     fn counts(&self, placement: &Placement, eviction: &Eviction) -> bool
         ensures { result ≡ passes self.now placement.now eviction.now };
 }
@@ -21,9 +21,9 @@ pub trait CountsEviction: Copy {
 /// The evictions of placements that count, in the order of the placements.
 #[derive(Clone, Copy)]
 pub struct CountedEvictions<'a, C> {
-    /// The first one is gone over.
+    /// The placements that are left, of which the first is being gone through.
     placements: &'a [Placement],
-    /// What is left of the first one.
+    /// The evictions that are left of the first placement.
     evictions: &'a [Eviction],
     of: C,
 }
@@ -37,7 +37,7 @@ fn first_evictions(placements: &[Placement]) -> &[Eviction]
     }
 }
 
-/// The first eviction that counts, and those behind it.
+/// The first eviction that counts, and the evictions behind it.
 fn split_counted<'a, C: CountsEviction>(
     of: C,
     placement: &Placement,
@@ -58,7 +58,7 @@ fn split_counted<'a, C: CountsEviction>(
 }
 
 impl<'a, C: CountsEviction> CountedEvictions<'a, C> {
-    /// Those of the placements that count. It takes no memory.
+    /// The evictions of the placements that count. It takes no memory.
     pub fn new(placements: &'a [Placement], of: C) -> CountedEvictions<'a, C>
         ensures { left_of (C.passes result.of) result.placements.now result.evictions.now
             ≡ counted_of (C.passes of) placements.now }

@@ -1,4 +1,4 @@
-//! The jobs that lose allocations by preemption, each with the least of its victims.
+//! The jobs that lose allocations by preemption, each with the least number of its victims.
 
 ghost use Rattle.std.specs.Prelude.{◌≡◌, ◌∷◌, [], IfOk, OnOk, map, option_map};
 ghost use Rattle.std.specs.Option.{option_and_then, option_copied};
@@ -15,7 +15,7 @@ use ns_types::plan::Eviction;
 use ns_types::rows::Rows;
 use std::alloc::AllocError;
 
-/// The allocation of an eviction before the step, if it is there.
+/// The eviction's allocation as it was before the step, if it is there.
 pub(crate) fn allocation<'a>(tables: &'a Tables, eviction: &Eviction) -> Option<&'a Allocation>
     ensures { option_map (λ a. (eviction.now.namespace, (eviction.now.number, a)))
         (option_copied result) ≡ victim_at (world_of tables.now) eviction.now }
@@ -26,7 +26,7 @@ pub(crate) fn allocation<'a>(tables: &'a Tables, eviction: &Eviction) -> Option<
     tenant.allocations.get(eviction.number)
 }
 
-/// The job of the eviction's allocation has the allocation's number from then on, or its own where that is less.
+/// Lowers the number of the allocation's job to the allocation's number, if the job has none yet or a greater one.
 fn lower(tables: &Tables, losses: &mut Losses, eviction: &Eviction) -> Result<(), AllocError>
     ensures { OnOk result (Lowers (victims_at (world_of tables.now) (eviction.now ∷ []))
         losses.old losses.new) }
@@ -51,7 +51,8 @@ fn lower_each(
     Ok(())
 }
 
-/// The least number of each job's victims, under its job. The job of the eviction's allocation has none from then on.
+/// Takes out the number of the job of the eviction's allocation, and returns the key with that number. None: the job has no
+/// number, or the allocation is not there.
 fn take(
     tables: &Tables,
     losses: &mut Losses,
@@ -71,8 +72,8 @@ fn take(
     }
 }
 
-/// Of each job the key of the victim with the least number, in the order of first victim. The numbers are those of the
-/// jobs' victims.
+/// The key of each job's number, in the order of the jobs' first victims. The jobs are those of the evictions' allocations. A
+/// job without a number has no key.
 fn take_each(
     tables: &Tables,
     losses: &mut Losses,
@@ -90,7 +91,8 @@ fn take_each(
     Ok(keys)
 }
 
-/// Of each job that loses an allocation the victim with the least number, in the order of first victim.
+/// For each job that loses an allocation, the key of its victim with the least number, in the order of the jobs' first
+/// victims.
 pub(crate) fn losing_keys(
     tables: &Tables,
     evictions: &[&Eviction],

@@ -1,4 +1,4 @@
-//! Numbers of allocations by namespace and job.
+//! A number for each job, by namespace: the number of an allocation that the job loses.
 
 ghost use Rattle.std.specs.Prelude.{◌≡◌, ◌&&◌, IfOk, OnOk, None, Some, if◌then◌else◌};
 ghost use Rattle.std.specs.Option.{option_copied};
@@ -14,7 +14,7 @@ use std::alloc::{AllocError, Global};
 /// The jobs of one namespace, each with a number.
 type Jobs = NameTable<u64>;
 
-/// A number of an allocation for each job, by namespace.
+/// For each job, by namespace, the number of one of its allocations.
 #[derive(Drop)]
 pub(crate) struct Losses {
     alloc: Global,
@@ -30,7 +30,7 @@ fn lesser(other: Option<&u64>, number: u64) -> u64
     }
 }
 
-/// The job has the number from then on, or its own where that is less.
+/// The jobs of a namespace with the job's number lowered to this one, if it has none yet or a greater one.
 fn lowered(alloc: Global, jobs: Option<Jobs>, job: &Text, number: u64) -> Result<Jobs, AllocError>
     ensures { IfOk result (λ new. (id : Name) → row_at new id ≡ (if same_name id job.now
         then lesser (job_number jobs job.now) (Some number) else job_number jobs id)) }
@@ -58,8 +58,8 @@ impl Losses {
         }
     }
 
-    /// The job has the number from then on, or its own where that is less. It costs binary searches, and room for a
-    /// job that is new.
+    /// Lowers the job's number to this one, if it has none yet or a greater one. It costs binary searches, and room for a job
+    /// that is new.
     pub(crate) fn lower(
         &mut self,
         namespace: &Text,
@@ -75,7 +75,7 @@ impl Losses {
         Ok(())
     }
 
-    /// Takes the job's number out. It takes no memory.
+    /// Takes the job's number out and returns it. It takes no memory.
     pub(crate) fn take(&mut self, namespace: &Text, job: &Text) -> Option<u64>
         ensures number { result ≡ number_at self.old namespace.now job.now }
         ensures others { Puts namespace.now job.now None self.old self.new }

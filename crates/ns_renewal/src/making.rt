@@ -15,11 +15,11 @@ use ns_types::evaluation::Trigger;
 use ns_types::plan::Eviction;
 use std::alloc::AllocError;
 
-/// Each job that loses an allocation by one of the evictions gets an evaluation, in the order of first victim, with its
-/// type, priority and pool before the step. An eviction whose allocation is not there counts for nothing, and an
-/// allocation that is named twice counts once. The premises are that the change leaves the jobs as they were, and that
-/// each namespace has numbers for its evaluations. It costs a few look-ups for each eviction, and for each job that loses
-/// an allocation what it costs to make an evaluation.
+/// Makes an evaluation for each job that loses an allocation by one of the evictions, in the order of the jobs' first victims,
+/// with the job's type, priority and pool before the step. An eviction whose allocation is not there counts for nothing, and
+/// an allocation that is named twice counts once. The premises are that the change leaves the jobs as they were, and that each
+/// namespace has numbers for its evaluations. It costs a few look-ups for each eviction, and the making of one evaluation for
+/// each job that loses an allocation. Want of memory is the only error.
 pub fn make_up(
     tables: &Tables,
     change: &mut Change,

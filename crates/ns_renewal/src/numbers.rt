@@ -16,7 +16,7 @@ use ns_tables::{Tables, TenantRows};
 use ns_types::plan::Eviction;
 use ns_types::text::Text;
 
-/// How many there are, or the greatest number where there are more.
+/// How many evictions there are, or the greatest number if there are more.
 fn count<E: Evictions>(evictions: E) -> u64
     ensures { result ≡ min (length (E.list evictions)) greatest }
 {
@@ -29,7 +29,7 @@ fn count<E: Evictions>(evictions: E) -> u64
     count
 }
 
-/// Whether the namespace has more numbers left than that.
+/// Whether the namespace has more than `count` numbers left.
 fn has_numbers(tenant: &TenantRows, count: u64) -> bool
     ensures { IsTrue result → count < greatest - tenant.now.evaluation_number }
 {
@@ -65,7 +65,7 @@ fn any_is_of_job<E: Evictions>(tables: &Tables, namespace: &Text, job: &Text, ev
     false
 }
 
-/// Whether the eviction's allocation is the namespace's, and none of the later ones is of its job.
+/// Whether the eviction's allocation is of the namespace, and no later eviction's allocation is of the same job.
 fn is_last_of_job<E: Evictions>(
     tables: &Tables,
     namespace: &Text,
@@ -85,7 +85,7 @@ fn is_last_of_job<E: Evictions>(
     }
 }
 
-/// Whether the namespace has too few numbers for its jobs. It goes over the later evictions of each.
+/// Whether the namespace has too few numbers for its jobs. For each of its evictions it goes through the later ones.
 fn numbers_pass_in<E: Evictions>(
     tables: &Tables,
     namespace: &Text,
@@ -109,8 +109,8 @@ fn numbers_pass_in<E: Evictions>(
     false
 }
 
-/// Whether the namespace is there and has too few numbers for its jobs. Of so many evictions: where it has numbers for
-/// all of them, nothing more is looked at.
+/// Whether the namespace is there and has too few numbers for its jobs. `count` is the number of evictions. If the namespace
+/// has more numbers left than that, nothing else is looked at.
 fn numbers_pass_at<E: Evictions>(
     tables: &Tables,
     namespace: &Text,
@@ -130,9 +130,9 @@ fn numbers_pass_at<E: Evictions>(
     numbers_pass_in(tables, namespace, tenant, evictions)
 }
 
-/// Whether some namespace has too few numbers for an evaluation of each of its jobs that lose an allocation by one of
-/// the evictions. It takes no memory, and costs a look-up for each eviction; only for a namespace that has fewer numbers
-/// left than there are evictions it goes over each eviction's later ones.
+/// Whether some namespace has too few numbers for an evaluation of each of its jobs that lose an allocation by one of the
+/// evictions. It takes no memory, and costs a look-up for each eviction. Only for a namespace that does not have more numbers
+/// left than there are evictions, it goes through each eviction's later ones.
 pub fn numbers_pass<E: Evictions>(tables: &Tables, evictions: E) -> bool
     requires { is_past_bound (world_of tables.now) ≡ false }
     ensures { let w = world_of tables.now in

@@ -11,7 +11,7 @@ use ns_types::evaluation::Trigger;
 use ns_types::key::EvalKey;
 use std::alloc::AllocError;
 
-/// The job of the allocation at that key gets an evaluation, with its type, priority and pool before the step.
+/// Makes an evaluation for the job of the allocation at that key, with the job's type, priority and pool before the step.
 fn renew(
     tables: &Tables,
     change: &mut Change,
@@ -32,8 +32,8 @@ fn renew(
     make(tables, change, key.namespace(), evaluation)
 }
 
-/// The job of the allocation at each of the keys gets an evaluation, in this order, with its type, priority and pool
-/// before the step.
+/// Makes an evaluation for the job of the allocation at each of the keys, in this order, with the job's type, priority and
+/// pool before the step. Want of memory is the only error.
 pub fn renew_each(
     tables: &Tables,
     change: &mut Change,

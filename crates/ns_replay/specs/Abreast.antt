@@ -16,7 +16,7 @@ use Rattle.ns_replay.specs.declared.fault.ReplayFault.{ReplayFault}
 use Rattle.ns_replay.specs.declared.fault.ReplayFault.TheVariants.{Premise, Differs, NotARun, Memory}
 use Rattle.ns_replay.specs.Replay.{Breaks, DiffersAt, IsFault, IsNoStepAt, IsReplayed, RepliesAlone}
 
--- s has what isolation rests on, the namespace is apart there, and t holds exactly what it has in s
+-- s is steady, the namespace is apart there, and t holds exactly what the namespace has in s
 pub record StandsBeside (ns : Name) (pools quotas : List Name) (s t : State) : Type 0 where
   pub steady : IsSteady s
   pub apart : is_apart s.world ns pools quotas ≡ true
@@ -24,27 +24,27 @@ pub record StandsBeside (ns : Name) (pools quotas : List Name) (s t : State) : T
 
 -- ---- one step
 
--- What is not kept, where the step is answered so: a put of a namespace is made, after which the namespace is not apart;
--- or a put of its own is refused since its table is full.
+-- The step with this answer breaks a premise: it puts a namespace, and the claimed namespace is not apart then; or it is an own
+-- put that is refused because its table is full.
 abbrev pub breaks_premise : Bool → Bool → Step → Answer → Bool
 breaks_premise apart crowded step (Ok reply) = puts_namespace step && not apart
 breaks_premise apart crowded step (Err refusal) = crowded && is_full_answer (Err refusal)
 
--- the step that was made leaves the namespace apart, and was not crowded out
+-- if the step was made, it leaves the namespace apart, and was not crowded out
 abbrev pub KeepsPremises : Name → List Name → List Name → Step → State → Option Rendered → State → Type 0
 KeepsPremises ns pools quotas step s (Some reply) s' = (is_apart s'.world ns pools quotas ≡ true)
     × ((answer : Answer) → after step s ≡ said answer s' →
     is_crowded_out (part_of ns pools quotas) step s answer ≡ false)
 KeepsPremises ns pools quotas step s None s' = Unit {0}
 
--- it was made, and does not
+-- the step at the place breaks a premise; nothing is known if no memory was left
 abbrev pub IsBreach : Name → List Name → List Name → Step → State → ℕ → ReplayFault → Type 0
 IsBreach ns pools quotas step s place (Premise i) = (i ≡ place) × Breaks ns pools quotas step s
 IsBreach ns pools quotas step s place (Differs i) = ⊥
 IsBreach ns pools quotas step s place (NotARun i) = ⊥
 IsBreach ns pools quotas step s place Memory = Unit {0}
 
--- the own entry does not fit in t
+-- the entry is an own one, and does not fit in t; nothing is known if no memory was left
 abbrev pub IsDifference : Part → Entry → State → ℕ → ReplayFault → Type 0
 IsDifference part entry t place (Differs i) = (i ≡ place) × (is_own part entry.0 ≡ true) × (FitsIn entry t → ⊥)
 IsDifference part entry t place (Premise i) = ⊥
@@ -58,26 +58,26 @@ abbrev pub Strikes : Bool → Entry → State → State → Option Rendered → 
 Strikes true entry t t' reply = Fits entry t t' × (reply ≡ Some entry.1)
 Strikes false entry t t' reply = (t' ≡ t) × (reply ≡ None)
 
--- an entry with which all is as it should be leads from s to s', and from t to t'
+-- an entry without a fault leads from s to s', and from t to t'
 pub record Advances (ns : Name) (pools quotas : List Name) (entry : Entry) (s t s' t' : State) (reply : Option Rendered) : Type 0 where
   pub fits : Fits entry s s'
   pub uncrowded : is_crowded_out (part_of ns pools quotas) entry.0 s fits.answer ≡ false
   pub apart : is_apart s'.world ns pools quotas ≡ true
   pub strikes : Strikes (is_own (part_of ns pools quotas) entry.0) entry t t' reply
 
--- the replies, with that of an own step
+-- the replies, followed by the reply to an own step
 abbrev pub with_reply : List Rendered → Option Rendered → List Rendered
 with_reply replies (Some reply) = replies ++ reply ∷ []
 with_reply replies None = replies
 
--- it is the first of the faults at the entry, which stands at the place
+-- the fault is the first one at the entry, which stands at the place
 abbrev pub IsFaultAt : Name → List Name → List Name → Entry → State → State → ℕ → ReplayFault → Type 0
 IsFaultAt ns pools quotas entry s t place (Premise i) = (i ≡ place) × Breaks ns pools quotas entry.0 s
 IsFaultAt ns pools quotas entry s t place (Differs i) = (i ≡ place) × DiffersAt ns pools quotas entry s t
 IsFaultAt ns pools quotas entry s t place (NotARun i) = (i ≡ place) × IsNoStepAt ns pools quotas entry s t
 IsFaultAt ns pools quotas entry s t place Memory = Unit {0}
 
--- ---- for a claim
+-- ---- the definitions above, for a claim
 
 abbrev pub its_part : Claim → Part
 its_part claim = part_of claim.namespace.now claim.pools.now claim.quotas.now

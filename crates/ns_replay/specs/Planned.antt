@@ -14,13 +14,13 @@ use Rattle.ns_replay.specs.Making.{MakesAny}
 abbrev pub HasFitting : Worker → Type 0
 HasFitting worker = (kept : Snapshot) → worker.kept ≡ Some kept → IsTrue (fits kept)
 
--- a plan of what the worker keeps; or it keeps nothing, or memory is wanting
+-- the plan is of the snapshot that the worker keeps; or it keeps none, or no memory is left
 abbrev pub PlansKept : Option Snapshot → Result Snapshot Refusal → Type 0
 PlansKept kept (Ok planned) = kept ≡ Some planned
 PlansKept None (Err refusal) = refusal ≡ Refusal.NotEnabled
 PlansKept (Some kept) (Err refusal) = refusal ≡ Refusal.Memory
 
--- a plan of the snapshot that the worker's row keeps; or why the step is refused
+-- the plan is of the snapshot that the worker's row keeps; or the step is refused
 abbrev pub PlansFor : Step → ℕ → Name → State → Result Snapshot Refusal → Type 0
 PlansFor step worker ns s (Ok planned) = kept_at s.world worker ns ≡ Some planned
 PlansFor step worker ns s (Err refusal) = MakesAny step s (Err refusal) s

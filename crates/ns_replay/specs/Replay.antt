@@ -23,14 +23,14 @@ steps_of log = map (λ e. e.0) log
 abbrev pub replies_of : List Entry → List Rendered
 replies_of log = map (λ e. e.1) log
 
--- those of the namespace's own steps
+-- the entries of the namespace's own steps
 abbrev pub own_entries : Part → List Entry → List Entry
 own_entries part log = filter (λ e. is_own part e.0) log
 
 -- ---- a log that is replayed
 
--- The premises hold all along the log. With the logged replies it is a run from the base to s, and with the same answers
--- its own steps are a run of the server that holds the namespace alone, to t.
+-- The premises hold all along the log. With the logged replies the log is a run from the base to s, and with the same answers
+-- the namespace's own steps are a run to t of the server that holds the namespace alone.
 pub record IsReplayed (ns : Name) (pools quotas : List Name) (base : State) (log : List Entry) (s t : State) : Type 0 where
   pub answers : List Answer
   pub isolated : IsIsolated ns pools quotas base (steps_of log) answers s
@@ -38,7 +38,7 @@ pub record IsReplayed (ns : Name) (pools quotas : List Name) (base : State) (log
   pub run : let part = part_of ns pools quotas in
       Run (alone part base) (struck part (steps_of log)) (struck_answers part (steps_of log) answers) t
 
--- and so the server that holds the namespace alone replied
+-- the log is replayed, and these are the replies of the server that holds the namespace alone
 pub record Replays (ns : Name) (pools quotas : List Name) (base : State) (log : List Entry) (replies : List Rendered) : Type 0 where
   pub state : State
   pub state_alone : State
@@ -54,21 +54,21 @@ RepliesAlone ns pools quotas base (entry ∷ log) replies = Replays ns pools quo
 -- ---- faults at an entry: s is the state of the whole server before it, and t that of the server that holds the namespace
 -- alone
 
--- The step is made in s, whatever is logged of it, and a premise does not hold then: the namespace is not apart afterwards, or the
--- step is a put of its own that is crowded out.
+-- The step is made in s, whatever is logged of it, and breaks a premise: the namespace is not apart afterwards, or the step is
+-- an own put that is crowded out.
 pub record Breaks (ns : Name) (pools quotas : List Name) (step : Step) (s : State) : Type 0 where
   pub answer : Answer
   pub state : State
   pub made : after step s ≡ said answer state
   pub broken : (is_apart state.world ns pools quotas ≡ false) ⊎ (is_crowded_out (part_of ns pools quotas) step s answer ≡ true)
 
--- its own step does not fit in t
+-- the entry is an own one, and does not fit in t
 pub record DiffersAt (ns : Name) (pools quotas : List Name) (entry : Entry) (s t : State) : Type 0 where
   pub premises : Breaks ns pools quotas entry.0 s → ⊥
   pub own : is_own (part_of ns pools quotas) entry.0 ≡ true
   pub unlike : FitsIn entry t → ⊥
 
--- what its own step is answered in t is as logged, but the step does not fit in s
+-- the entry does not fit in s, although it fits in t if it is an own one
 pub record IsNoStepAt (ns : Name) (pools quotas : List Name) (entry : Entry) (s t : State) : Type 0 where
   pub premises : Breaks ns pools quotas entry.0 s → ⊥
   pub alike : is_own (part_of ns pools quotas) entry.0 ≡ true → FitsIn entry t
@@ -76,12 +76,12 @@ pub record IsNoStepAt (ns : Name) (pools quotas : List Name) (entry : Entry) (s 
 
 -- ---- faults of a log
 
--- a log that is no run of the whole server
+-- the fault of a log that is no run of the whole server
 abbrev pub replay_fault : RerunFault → ReplayFault
 replay_fault (RerunFault.NotARun place) = NotARun place
 replay_fault RerunFault.Memory = Memory
 
--- the entry at the place, and the states to which the log before it leads: all is as it should be there
+-- the entry at the place, and the states to which the log before it leads without a fault
 pub record IsReached (ns : Name) (pools quotas : List Name) (base : State) (log : List Entry) (place : ℕ) (entry : Entry) (s t : State) : Type 0 where
   pub is_entry : slice_get log place ≡ Some entry
   pub before : IsReplayed ns pools quotas base (take place log) s t
@@ -94,5 +94,5 @@ pub data IsFault (ns : Name) (pools quotas : List Name) (base : State) (log : Li
       DiffersAt ns pools quotas entry s t → IsFault ns pools quotas base log (Differs place)
   no_step : (place : ℕ) (entry : Entry) (s t : State) → IsReached ns pools quotas base log place entry s t →
       IsNoStepAt ns pools quotas entry s t → IsFault ns pools quotas base log (NotARun place)
-  -- of it nothing is known but that memory was wanting
+  -- no memory was left, and nothing else is known
   no_memory : IsFault ns pools quotas base log Memory

@@ -1,4 +1,4 @@
--- What a server answers a step, as bytes.
+-- A server's answers to steps, as bytes.
 use Rattle.std.specs.Prelude.{◌≡◌, false, Option, Some, None, Err, IfErr}
 use Rattle.ns_types.specs.declared.refusal.Refusal.TheVariants as Refusal
 use Rattle.ns_types.specs.declared.reply.Rendered.{Rendered}
@@ -17,12 +17,12 @@ pub record Fits (entry : Entry) (s s' : State) : Type 0 where
 abbrev pub FitsIn : Entry → State → Type 0
 FitsIn entry s = (s' : State) × Fits entry s s'
 
--- the bytes of the answer of a step; or the call was out of turn
+-- the answer of a step as bytes; or none, because the call was out of turn
 abbrev pub Shows : Answer → Option Rendered → Type 0
 Shows answer (Some reply) = IfErr answer (λ refusal. is_no_step refusal ≡ false) × (rendered answer ≡ reply)
 Shows answer None = answer ≡ Err Refusal.NotEnabled
 
--- what it is answered in s, as bytes, and that it leads to s'; or it is not enabled
+-- the step is answered with these bytes in s, and leads to s'; or it is not enabled, and s stays
 abbrev pub Replies : Step → State → Option Rendered → State → Type 0
 Replies step s (Some reply) s' = Fits (step, reply) s s'
 Replies step s None s' = (after step s ≡ None) × (s' ≡ s)

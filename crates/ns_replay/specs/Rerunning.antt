@@ -1,4 +1,4 @@
--- A log that is made once more.
+-- A log whose steps are made once more.
 use Rattle.std.specs.Prelude.{◌≡◌, ℕ, List, Some, slice_get, take}
 use Rattle.ns_types.specs.State.Rows.{State}
 use Rattle.ns_json.specs.Replies.{Entry, IsKept}
@@ -14,7 +14,7 @@ pub record IsNoRunAt (s : State) (entries : List Entry) (place : ℕ) : Type 0 w
   pub before : IsKept s (take place entries) state
   pub unfit : FitsIn entry state → ⊥
 
--- why the entries are no run from s; of want of memory nothing else is known
+-- why the entries are no run from s; nothing is known if no memory was left
 abbrev pub IsRerunFault : State → List Entry → RerunFault → Type 0
 IsRerunFault s entries (NotARun place) = IsNoRunAt s entries place
 IsRerunFault s entries Memory = Unit {0}

@@ -1,4 +1,4 @@
--- What a run over a list of steps answers and leaves.
+-- The answers of a run over a list of steps, and the state after it.
 use Rattle.std.specs.Prelude.{◌≡◌, ℕ, Bool, true, false, List, length, take, Option, Some, None, Err, slice_get}
 use Rattle.ns_types.specs.declared.refusal.Refusal.{Refusal}
 use Rattle.ns_types.specs.declared.step.Step.{Step}
@@ -6,7 +6,7 @@ use Rattle.ns_types.specs.State.Rows.{State}
 use Rattle.ns_types.specs.Steps.{Answer, Run}
 use Rattle.ns_replay.specs.Making.{MakesAny}
 
--- a call that was refused so made no step
+-- a call with this refusal made no step
 abbrev pub is_no_step : Refusal → Bool
 is_no_step Refusal.Memory = true
 is_no_step Refusal.NotEnabled = true

@@ -1,4 +1,4 @@
-//! What a namespace is to have to itself.
+//! What a namespace is claimed to have to itself.
 
 use ns_types::text::Text;
 

@@ -1,4 +1,4 @@
-//! One entry of a log, replayed by both servers.
+//! Replays one entry of a log on both servers.
 
 ghost use Rattle.std.specs.Prelude.{◌≡◌, IfErr, IfOk};
 ghost use Rattle.ns_types.specs.Isolation.{is_own};
@@ -14,8 +14,8 @@ use ns_log::Entry;
 use ns_types::reply::Rendered;
 use std::alloc::Global;
 
-/// If the step is an own one, makes it on the server that holds the namespace alone, and says what it is answered there, if
-/// that is what is logged.
+/// If the step is an own one, makes it on the server that holds the namespace alone, and returns its reply there. The errors
+/// are `Differs`, if that is not the logged reply, and `Memory`.
 fn step_alone(
     alloc: Global,
     alone: &mut Core,
@@ -37,8 +37,9 @@ fn step_alone(
     Ok(told)
 }
 
-/// Makes the step of the entry on the whole server, and if it is an own one on the server that holds the namespace alone. Says
-/// what it is answered there. The faults come in this order: a premise, a difference, no step of the whole server.
+/// Makes the step of the entry on the whole server, and if it is an own one on the server that holds the namespace alone.
+/// Returns its reply there. The faults come in this order: `Premise`, `Differs`, `NotARun`. Want of memory is the only other
+/// error.
 pub(crate) fn replay_entry(
     alloc: Global,
     whole: &mut Core,

@@ -10,14 +10,14 @@ use thiserror::Error;
 /// The first fault of a log. Places count entries from 0.
 #[derive(Clone, Copy, Debug, PartialEq, Eq, Error)]
 pub enum ReplayFault {
-    /// The namespace does not have its pools and its quotas to itself before or after the entry, or the entry is a put of its
-    /// own whose table is full on the whole server.
+    /// The namespace does not have its pools and its quotas to itself before or after the entry, or the entry is an own put
+    /// whose table is full on the whole server.
     #[error("a premise fails at place {0}")]
     Premise(u64),
-    /// The server that holds the namespace alone does not make the step, or answers otherwise than is logged.
+    /// The server that holds the namespace alone does not make the step, or its reply is not the logged one.
     #[error("the namespace alone differs from the log at place {0}")]
     Differs(u64),
-    /// The whole server does not make the step, or answers otherwise than is logged.
+    /// The whole server does not make the step, or its reply is not the logged one.
     #[error("the log is no run at place {0}")]
     NotARun(u64),
     #[error("out of memory")]

@@ -8,23 +8,23 @@ ghost use Rattle.ns_replay.specs.Laws.{
   ReplayedHasNoFault,
 };
 
-/// What fits in the whole server and breaks no premise is answered alike by the server that holds the namespace alone: where an
-/// own entry does not fit there, it does not fit in the whole server either.
+/// An own entry that fits in the whole server and breaks no premise also fits in the server that holds the namespace alone: if
+/// it does not fit there, it does not fit in the whole server either.
 pub fn differs_from_both()
     ensures { DiffersFromBoth }
 {}
 
-/// So a log that is a run of the server never differs.
+/// So a log that is a run of the server never has the fault `Differs`.
 pub fn kept_never_differs()
     ensures { KeptNeverDiffers }
 {}
 
-/// A log has at most one fault that is the first.
+/// A log has at most one first fault.
 pub fn one_fault()
     ensures { OneFault }
 {}
 
-/// Where a log replays, it has no fault.
+/// A log that replays has no fault.
 pub fn replayed_has_no_fault()
     ensures { ReplayedHasNoFault }
 {}

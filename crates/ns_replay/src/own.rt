@@ -1,4 +1,4 @@
-//! Which steps are a namespace's own, with a list of pools and a list of quotas.
+//! Decides which steps are the own steps of a namespace that has a list of pools and a list of quotas.
 
 ghost use Rattle.std.specs.Prelude.{◌≡◌};
 ghost use Rattle.ns_types.specs.Isolation.{concerns, is_own, is_own_admin, part_of};
@@ -8,7 +8,7 @@ use ns_equality::has_name;
 use ns_types::step::{AdminCommand, NodeCommand, Step};
 use ns_types::text::{Text, same_text};
 
-/// Whether the command concerns the namespace, of whose pool it is: a report of another's allocation does not.
+/// Whether a command about one of the pools concerns the namespace: a report of another namespace's allocation does not.
 fn concerns(namespace: &Text, pools: &[Text], quotas: &[Text], command: &NodeCommand) -> bool
     ensures { result ≡ concerns (part_of namespace.now pools.now quotas.now) command.now }
 {
@@ -18,8 +18,8 @@ fn concerns(namespace: &Text, pools: &[Text], quotas: &[Text], command: &NodeCom
     }
 }
 
-/// Whether what an administrator asks is of its record, its quotas or its pools, or of policies and tokens. A put of its record
-/// that names another pool or quota is not its own, and no list of what there is.
+/// Whether an administrator's command is about the namespace's record, its quotas or its pools, or about policies and tokens. A
+/// put of the record that names another pool or quota is not its own, and neither is a list.
 #[tactic(auto, unfolding(ns_types::specs::Isolation::is_own_admin))]
 fn is_own_admin(namespace: &Text, pools: &[Text], quotas: &[Text], command: &AdminCommand) -> bool
     ensures { result ≡ is_own_admin (part_of namespace.now pools.now quotas.now) command.now }
@@ -42,8 +42,9 @@ fn is_own_admin(namespace: &Text, pools: &[Text], quotas: &[Text], command: &Adm
     }
 }
 
-/// Whether the step is the namespace's own: asked in it, asked of one of the pools, if it is no report of another's allocation,
-/// asked by an administrator of its record, the quotas, the pools or the access lists, or made by a worker for it.
+/// Whether the step is the namespace's own: a command about it; a command about one of the pools, except a report of another
+/// namespace's allocation; an administrator's command about its record, the quotas, the pools or the access lists; or a step
+/// that a worker makes for it.
 #[tactic(auto, unfolding(ns_types::specs::Isolation::is_own))]
 pub fn is_own(step: &Step, namespace: &Text, pools: &[Text], quotas: &[Text]) -> bool
     ensures { result ≡ is_own (part_of namespace.now pools.now quotas.now) step.now }

@@ -1,4 +1,4 @@
-//! Whether the premises hold after a step. They are looked at only where the step may have changed what they speak of.
+//! Decides whether the premises hold after a step. It looks at them only if the step may have broken them.
 
 ghost use Rattle.std.specs.Prelude.{◌≡◌, ◌&&◌, IfErr, IfOk, true};
 ghost use Rattle.ns_audit.specs.Orderly.{IsSteady};
@@ -17,7 +17,7 @@ use ns_types::reply::{Rendered, Reply};
 use ns_types::step::{AdminCommand, Step};
 use std::alloc::Global;
 
-/// Whether the step puts a namespace: no other takes away that one is apart.
+/// Whether the step puts a namespace. After any other step the claimed namespace is still apart.
 fn puts_namespace(step: &Step) -> bool
     ensures { result ≡ puts_namespace step.now }
 {
@@ -27,7 +27,7 @@ fn puts_namespace(step: &Step) -> bool
     }
 }
 
-/// Whether the step is a put of its own of a new name, whose table has no room.
+/// Whether the step is an own put of a new name whose table has no room.
 fn is_crowded(whole: &Core, claim: &Claim<'_>, step: &Step) -> bool
     ensures { result ≡ (is_own (its_part claim.now) step.now
         && lacks_room step.now whole.now.world) }
@@ -35,8 +35,8 @@ fn is_crowded(whole: &Core, claim: &Claim<'_>, step: &Step) -> bool
     is_own(step, claim.namespace, claim.pools, claim.quotas) && whole.lacks_room(step)
 }
 
-/// Whether the step, answered so, breaks a premise: a put of a namespace was made, after which the claim is shared, or a put of
-/// its own was refused since its table is full.
+/// Whether the step with this answer breaks a premise: it put a namespace, and the claimed namespace is not apart then, or it
+/// is an own put that was refused because its table is full.
 fn is_broken(
     whole: &Core,
     claim: &Claim<'_>,
@@ -55,7 +55,8 @@ fn is_broken(
     }
 }
 
-/// Makes the step on the whole server, and says what it is answered, if the premises hold after it.
+/// Makes the step on the whole server, and returns its reply, or none if it is out of turn. The errors are `Premise`, if a
+/// premise fails after the step, and `Memory`.
 pub(crate) fn step_whole(
     alloc: Global,
     whole: &mut Core,

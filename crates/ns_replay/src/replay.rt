@@ -1,4 +1,4 @@
-//! A whole log, replayed by both servers.
+//! Replays a whole log on both servers.
 
 ghost use Rattle.std.specs.Prelude.{◌≡◌, [], IfErr, IfOk, IsOk, OnOk, true};
 ghost use Rattle.ns_replay.specs.Abreast.{IsFaultBy, IsReplayedBy, RepliesAloneBy, is_apart_by, its_part, with_reply};
@@ -14,7 +14,7 @@ use ns_types::reply::Rendered;
 use ns_types::text::Text;
 use std::alloc::{AllocError, Global};
 
-/// Adds the reply, if there is one.
+/// Adds the reply, if there is one. Want of memory is the only error.
 fn push_reply(replies: &mut Vec<Rendered>, reply: Option<Rendered>) -> Result<(), AllocError>
     ensures { OnOk result (replies.new.items ≡ with_reply replies.old.items reply) }
 {
@@ -24,8 +24,8 @@ fn push_reply(replies: &mut Vec<Rendered>, reply: Option<Rendered>) -> Result<()
     Ok(())
 }
 
-/// Replays the entries in their order on the two servers, which are as at the beginning. Says what the server that holds the
-/// namespace alone answers to its own steps.
+/// Replays the entries in their order on the two servers, which are in their first states. Returns the replies to the own steps
+/// on the server that holds the namespace alone.
 fn replay_all(
     alloc: Global,
     base: &Core,
@@ -79,9 +79,10 @@ fn replay_on(
 }
 
 /// Makes the steps of the log on a copy of the base, and beside that the namespace's own steps, with these pools and these
-/// quotas, on the server that holds it alone. Says what these are answered there, which is what is logged. The first fault ends
-/// it: at a place a premise that fails, before a step of the namespace alone that differs, before an entry that is no step of
-/// the whole server. An empty log has no replies, and no fault.
+/// quotas, on the server that holds it alone. Returns the replies to the own steps there, which are the logged ones. The error
+/// is the first fault: at one place a premise that fails comes first, then an own step that differs on the server that holds
+/// the namespace alone, then an entry that is no step of the whole server. Want of memory is the only other error. An empty log
+/// has no replies, and no fault.
 pub fn replay_alone(
     alloc: Global,
     base: &Core,

@@ -1,4 +1,4 @@
--- The bodies of answers that show no rows, and the bytes in which they are written.
+-- The bodies of answers that show no rows, and how many bytes they may take.
 use Rattle.std.specs.Prelude.{ℕ, ◌+◌, ◌*◌, ◌<◌, ◌≤◌, List, [], ◌∷◌, Option, Some, None, IsSome, IsSomeAnd, Result}
 use Rattle.std.specs.Prelude.{OnOk, OnErr, codes, flat_map, length, sum_by}
 use Rattle.json.specs.Print.{quoted}
@@ -42,7 +42,7 @@ stopped_bytes = 83
 abbrev pub nothing_bytes : ℕ
 nothing_bytes = 4
 
--- an id under a name of at most seven letters
+-- one id, as a member whose name has at most seven letters
 abbrev pub one_id_bytes : ℕ
 one_id_bytes = 54
 
@@ -52,7 +52,7 @@ finished_bytes = 76
 abbrev pub nacked_bytes : ℕ
 nacked_bytes = 25
 
--- an Apply of which nothing was made and nothing dropped
+-- the body of an Apply that made nothing and dropped nothing
 abbrev pub applied_bytes : ℕ
 applied_bytes = 36
 
@@ -62,7 +62,7 @@ id_bytes = 39
 abbrev pub text_bytes : Name → ℕ
 text_bytes text = length (quoted text) + 1
 
--- in which a body is written, of those that show no rows
+-- how many bytes a body may take; none if it shows rows
 abbrev pub body_bytes : Content → Option ℕ
 body_bytes (Content.Registered evaluation index job_index) = Some registered_bytes
 body_bytes (Content.Stopped evaluation index) = Some stopped_bytes
@@ -82,18 +82,20 @@ id_tokens numbers = flat_map (λ n. Token.string (id_text IdKind.Allocation n) �
 abbrev pub text_tokens : List Name → List Token
 text_tokens texts = flat_map (λ text. Token.string text ∷ []) texts
 
--- it shows no rows
+-- the content shows no rows
 abbrev pub IsBrief : Content → Type 0
 IsBrief content = IsSome (body_bytes content)
 
--- The tokens come after those before, and take no more than so many bytes. It fails only where there was less room.
+-- The tokens were written behind those before, and take at most `bytes` bytes. Writing fails only if there was less
+-- room.
 pub record WritesIn {E : Type 0} (bytes : ℕ) (r : Result (Unit {0}) E) (old new : Written)
     (ts : List Token) : Type 0 where
   pub follows : OnOk r (Follows old new ts)
   pub fits : OnOk r (room ts ≤ bytes)
   pub room : OnErr r (old.spare < bytes)
 
--- the same of the body of a content that shows no rows
+-- the body of the content, which shows no rows, was written behind what was there before, and takes at most the bytes
+-- that it may take
 abbrev pub WritesBody : {E : Type 0} → Content → Result (Unit {0}) E → Written → Written → Type 0
 WritesBody content r old new = IsSomeAnd (body_bytes content)
     (λ bytes. WritesIn bytes r old new (tokens_of (body_json content)))

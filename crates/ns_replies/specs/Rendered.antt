@@ -1,4 +1,4 @@
--- Which replies are rendered, and in which room.
+-- The replies that are rendered here, and the room that they need.
 use Rattle.std.specs.Prelude.{◌≡◌, ℕ, ◌≤◌, List, length, Option, Some}
 use Rattle.ns_types.specs.declared.reply.Content.{Content}
 use Rattle.ns_types.specs.State.Names.{Name}
@@ -28,7 +28,7 @@ IsRendered (Content.Events ns es) = Unit {0}
 IsRendered Content.Written = Unit {0}
 IsRendered _ = ⊥
 
--- those whose texts take memory
+-- the replies whose texts take memory
 abbrev pub IsText : Content → Type 0
 IsText (Content.Jobs jobs) = Unit {0}
 IsText (Content.Evaluation e) = Unit {0}
@@ -48,7 +48,7 @@ IsText (Content.Token t) = Unit {0}
 IsText (Content.Events ns es) = Unit {0}
 IsText _ = ⊥
 
--- a room is the body that it holds for a token, if it holds one
+-- the room is enough for the reply; it is seen as the body that it holds for a new token, if it holds one
 abbrev pub HasRoom : Option Name → Content → Type 0
 HasRoom room (Content.Registered evaluation index job_index) = Unit {0}
 HasRoom room (Content.Stopped evaluation index) = Unit {0}
@@ -56,6 +56,6 @@ HasRoom room Content.Written = Unit {0}
 HasRoom room (Content.Token t) = room ≡ Some (body_of (Content.Token t))
 HasRoom room _ = ⊥
 
--- a body that answers a registration has a length that is known beforehand
+-- the body of the reply to a registration is no longer than the length that is known beforehand
 abbrev pub IsShort : Content → List ℕ → Type 0
 IsShort content body = IsRegistered content → length body ≤ longest_registered

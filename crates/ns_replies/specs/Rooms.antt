@@ -18,31 +18,31 @@ use Rattle.ns_replies.specs.Bodies.{applied_bytes, body_bytes, finished_bytes, i
 use Rattle.ns_replies.specs.Bodies.{stopped_bytes, text_bytes}
 
 pub record AnswerRoom : Type 0 where
-  -- in which a body is written, or the text of a refusal
+  -- how many bytes a body or the text of a refusal may have
   pub bytes : ℕ
-  -- the body that is to answer a new token
+  -- the body of the reply to a new token
   pub token : Option Name
 
--- the longest text of a refusal
+-- how many bytes the text of a refusal may have
 abbrev pub refusal_bytes : ℕ
 refusal_bytes = 32
 
--- it is enough for the body of this content
+-- the room is enough for the body of this content
 abbrev pub HasRoom : AnswerRoom → Content → Type 0
 HasRoom room (Content.Token token) = room.token ≡ Some (body_of (Content.Token token))
 HasRoom room content = IsSomeAnd (body_bytes content) (λ bytes. bytes ≤ room.bytes)
 
--- no answer that is written in it has more bytes
+-- the most bytes of an answer that is written in the room
 abbrev pub answer_bytes : AnswerRoom → ℕ
 answer_bytes room = max room.bytes (option_map_or length room.token 0)
 
--- in which such an answer is copied
+-- the room in which any such answer can be copied
 abbrev pub copy_room : AnswerRoom → AnswerRoom
 copy_room room = record { bytes = answer_bytes room; token = None }
 
 -- ---- what a step needs
 
--- the answer to an Apply says the id of what is placed, or the node that is dropped
+-- the answer to an Apply has, for each placement, the id of the new allocation, or else the node that is dropped
 abbrev pub placement_bytes : Snapshot → Placement → ℕ
 placement_bytes kept p = id_bytes + text_bytes (node_name kept p.node)
 
@@ -56,7 +56,7 @@ asked_bytes (AskCommand.Deregister id purge) = registered_bytes
 asked_bytes (AskCommand.StopAllocation n) = stopped_bytes
 asked_bytes _ = refusal_bytes
 
--- by the row of the worker, if it is a worker's step
+-- how many bytes the answer of the step may have; for a worker's step, by the worker's row before it
 abbrev pub step_bytes : Step → Option Worker → ℕ
 step_bytes (Step.Ask ns secret command) row = asked_bytes command
 step_bytes (Step.Dequeue worker ns n) row = one_id_bytes
@@ -66,7 +66,7 @@ step_bytes (Step.Apply worker ns) row = applied_bytes + plan_bytes (option_and_t
 step_bytes (Step.Finish worker ns) row = finished_bytes
 step_bytes _ row = refusal_bytes
 
--- the body that answers a new token is known before its step
+-- the body of the reply to a new token, which is known before the step
 abbrev pub token_body : Step → Option Name
 token_body (Step.Admin secret (AdminCommand.CreateToken new)) = Some (body_of (Content.Token (made_token new)))
 token_body _ = None

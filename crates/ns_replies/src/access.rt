@@ -1,4 +1,4 @@
-//! Policies and tokens as they are replied.
+//! Policies and tokens as replies show them.
 
 ghost use Rattle.std.specs.Prelude.{OnOk};
 ghost use Rattle.ns_types.specs.Asking.Policies.{made_token};
@@ -91,7 +91,7 @@ impl Shown for TokenShown {
     }
 }
 
-/// As the token that it makes.
+/// A new token is shown as the token that it makes.
 impl Shown for NewToken {
     ghost json = { λ new. token_json (made_token new) };
 

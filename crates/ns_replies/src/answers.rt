@@ -1,4 +1,4 @@
-//! Renders the answers of all steps as bytes, and takes room for them before a step.
+//! Renders the answer of each step as bytes, and takes room for it before the step.
 
 mod body;
 mod changing;

@@ -1,4 +1,4 @@
-//! Events as they are replied: a line for each.
+//! Events as replies show them: a line for each event.
 
 ghost use Rattle.std.specs.Prelude.{◌≡◌, IfOk, OnOk, string_bytes};
 ghost use Rattle.std.specs.List.{flat_map};
@@ -39,7 +39,7 @@ fn type_word<'a>(topic: &Topic) -> &'a str
     }
 }
 
-/// The id of the row that changed.
+/// Writes the id of the row that changed.
 fn write_key(out: &mut Writer, topic: &Topic) -> Result<(), AllocError>
     ensures { OnOk result (Follows out.old out.new (tokens_of (string (key_text topic.now)))) }
 {
@@ -94,7 +94,7 @@ fn event_text(alloc: Global, namespace: &Text, event: &Event) -> Result<String, 
     Ok(written_text(out))
 }
 
-/// The text of a namespace's events.
+/// The text of a namespace's events. Want of memory is the only error.
 pub fn events_text(
     alloc: Global,
     namespace: &Text,

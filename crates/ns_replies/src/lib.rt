@@ -1,5 +1,5 @@
-//! Writes replies as JSON texts, and takes the room of a write's reply before its step. `answers` renders the answers of all
-//! steps.
+//! Writes replies as JSON texts, and takes the room for the reply to a write before its step. `answers` renders the answers of
+//! all steps.
 #![tactic(auto)]
 
 mod access;

@@ -1,4 +1,4 @@
-//! Nodes as they are replied.
+//! Nodes as replies show them.
 
 ghost use Rattle.std.specs.Prelude.{OnOk, ◌∷◌, []};
 ghost use Rattle.std.specs.List.{flat_map};

@@ -1,4 +1,4 @@
-//! Namespaces, quotas and pools as they are replied.
+//! Namespaces, quotas and pools as replies show them.
 
 ghost use Rattle.std.specs.Prelude.{◌≡◌, IfOk, OnOk, string_bytes, ◌∷◌, []};
 ghost use Rattle.serde_json.specs.Written.{compact_text};
@@ -36,7 +36,7 @@ impl Shown for Resources {
     }
 }
 
-/// The pools that a namespace may use: a list, or null where it may use all.
+/// Writes the namespace's list of allowed pools, or null if it has none.
 fn write_allowed(out: &mut Writer, allowed: &Option<Rows<Text>>) -> Result<(), AllocError>
     ensures { OnOk result (Follows out.old out.new (tokens_of (allowed_json allowed.now))) }
 {
@@ -100,7 +100,7 @@ fn limit_part<'a>(limit: Limit) -> Part<'a>
     }
 }
 
-/// A list of one entry, or of none.
+/// Writes the limits as a list of one entry, or an empty list if there are none.
 pub fn write_limits(out: &mut Writer, limits: &Option<Limits>) -> Result<(), AllocError>
     ensures { OnOk result (Follows out.old out.new (tokens_of (limits_json limits.now))) }
 {
@@ -170,7 +170,7 @@ fn write_usage(out: &mut Writer, name: &Text, used: &Resources) -> Result<(), Al
     write_parts(out, &[Part::EndObject])
 }
 
-/// The text of what is used of a quota.
+/// The text of a quota's use. Want of memory is the only error.
 pub fn usage_text(alloc: Global, name: &Text, used: &Resources) -> Result<String, AllocError>
     ensures { IfOk result (λ s. string_bytes s ≡ compact_text (usage_json name.now used.now)) }
 {

@@ -1,4 +1,4 @@
-//! The responses to what succeeded.
+//! The responses to requests that were answered by a reply.
 
 ghost use Rattle.std.specs.Prelude.{◌≡◌, IfOk, Ok, string_bytes};
 ghost use Rattle.ns_types.specs.Wire.Responses.{rendered_of};
@@ -12,7 +12,7 @@ use crate::shown::text_of;
 use ns_types::reply::{Content, Reply, Response};
 use std::alloc::{AllocError, Global};
 
-/// The response to what succeeded.
+/// The response to a request that was answered by a reply. Want of memory is the only error.
 #[tactic(auto, unfolding(ns_json::specs::Replies::rendered, ns_json::specs::Replies::body_of))]
 pub fn render(alloc: Global, reply: &Reply) -> Result<Response, AllocError>
     requires { IsRendered reply.now.content }

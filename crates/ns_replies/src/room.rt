@@ -1,4 +1,4 @@
-//! Room for the reply of a write, which is made before its step.
+//! Room for the reply to a write, which is taken before the step.
 
 ghost use Rattle.std.specs.Prelude.{◌≡◌, ◌≤◌, IfOk, Ok, Some, None, string_bytes, vec_capacity, map, []};
 ghost use Rattle.json.specs.Print.{print};
@@ -19,8 +19,8 @@ use ns_types::step::NewToken;
 use std::alloc::{AllocError, Global};
 use std::marker::Model;
 
-/// Room for the reply of a write, which is made before its step. Each has room for numbers, and for
-/// a reply that says nothing. The room of a token also holds the body that is to answer it.
+/// Room for the reply to a write, which is taken before the step. It is enough for a reply with numbers, and for an empty one.
+/// The room for a new token also holds the body of its reply.
 #[derive(Drop)]
 pub struct Room {
     numbers: ns_json::ReplyRoom,
@@ -36,7 +36,8 @@ impl Model for Room {
 }
 
 impl Room {
-    /// Room for what answers a registration, a stop, and a write that has nothing to say.
+    /// Room for the reply to a registration, to the stop of an allocation, or to the write of a record. Want of memory is the
+    /// only error.
     pub fn new(alloc: Global) -> Result<Room, AllocError>
         ensures { IfOk result (λ room. room ≡ None) }
     {
@@ -47,7 +48,7 @@ impl Room {
         })
     }
 
-    /// The same, and room for what answers the making of that token.
+    /// Such room, with the body of the reply to the creation of that token. Want of memory is the only error.
     #[tactic(auto, unfolding(ns_json::specs::Replies::body_of))]
     pub fn for_token(alloc: Global, new: &NewToken) -> Result<Room, AllocError>
         ensures { IfOk result (λ room. room ≡ Some (body_of (Content.Token (made_token new.now)))) }
@@ -60,7 +61,7 @@ impl Room {
         })
     }
 
-    /// The response to a write, in the room that was made for it. It takes no memory.
+    /// The response to a write, in the room that was taken for it. It takes no memory.
     #[tactic(auto, unfolding(ns_json::specs::Replies::rendered, ns_json::specs::Replies::body_of))]
     pub fn render(self, reply: &Reply) -> Response
         requires { HasRoom self reply.now.content }
@@ -84,7 +85,7 @@ impl Room {
     }
 }
 
-/// The text of some parts, in a buffer with room for them.
+/// The text of the parts, in an empty buffer with room for them.
 fn parts_text(bytes: Vec<u8>, parts: &[Part<'_>]) -> String
     requires empty { bytes.items ≡ [] }
     requires fits { Tree.room (map token_of parts.now) ≤ vec_capacity bytes }

@@ -1,4 +1,4 @@
-//! What replies show, and lists of it.
+//! Values that replies show, and lists of them.
 
 ghost use Rattle.std.specs.Prelude.{◌≡◌, IfOk, OnOk, string_bytes, []};
 ghost use Rattle.std.specs.List.{flat_map};
@@ -14,13 +14,13 @@ use ns_types::rows::Rows;
 use ns_types::text::Text;
 use std::alloc::{AllocError, Global};
 
-/// What a reply shows as JSON.
+/// A value that replies show as JSON.
 pub trait Shown {
     ghost use Rattle.serde_json.specs.Data.{Data};
 
     ghost json: { Self → Data };
 
-    /// Writes it after what was written before.
+    /// Writes the value behind what was written before.
     fn write_json(&self, out: &mut Writer) -> Result<(), AllocError>
         ensures { OnOk result (Follows out.old out.new (tokens_of (json self.now))) };
 }
@@ -53,7 +53,7 @@ fn write_each<T: Shown>(out: &mut Writer, items: &[T]) -> Result<(), AllocError>
     Ok(())
 }
 
-/// The text of what is shown.
+/// The value as a JSON text. Want of memory is the only error.
 pub fn text_of<T: Shown>(alloc: Global, shown: &T) -> Result<String, AllocError>
     ensures { IfOk result (λ s. string_bytes s ≡ compact_text (T.json shown.now)) }
 {
@@ -62,7 +62,7 @@ pub fn text_of<T: Shown>(alloc: Global, shown: &T) -> Result<String, AllocError>
     Ok(written_text(out))
 }
 
-/// What was written into a buffer that was empty.
+/// The text that was written into a buffer that was empty.
 pub fn written_text(out: Writer) -> String
     requires { out.before ≡ [] }
     ensures { string_bytes result ≡ print out.tokens }

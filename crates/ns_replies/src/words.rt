@@ -1,4 +1,4 @@
-//! The words by which replies call things.
+//! The words of replies.
 
 ghost use Rattle.std.specs.Prelude.{◌≡◌, []};
 ghost use Rattle.std.specs.Option.{option_map_or};
@@ -83,7 +83,7 @@ pub fn client_text(client: ClientStatus) -> &'static str
     }
 }
 
-/// The text, or the empty one where there is none.
+/// The text, or an empty one if there is none.
 pub fn text_or_empty(text: &Option<Text>) -> &str
     ensures { result.now ≡ option_map_or (λ t. t) text.now [] }
 {

@@ -1,4 +1,4 @@
-//! Evaluations and allocations as they are replied.
+//! Evaluations and allocations as replies show them.
 
 ghost use Rattle.std.specs.Prelude.{OnOk, ◌∷◌, []};
 ghost use Rattle.json.specs.Token.{string};
@@ -23,7 +23,7 @@ pub fn write_id(out: &mut Writer, kind: IdKind, number: u64) -> Result<(), Alloc
     write_parts(out, &[Part::Text(id_str(kind, number, &mut buffer))])
 }
 
-/// The id of an evaluation, or the empty text where there is none.
+/// Writes the id of the evaluation, or an empty text if there is none.
 fn write_id_or_empty(out: &mut Writer, number: Option<u64>) -> Result<(), AllocError>
     ensures { OnOk result (Follows out.old out.new (tokens_of (id_or_empty number))) }
 {
@@ -33,7 +33,7 @@ fn write_id_or_empty(out: &mut Writer, number: Option<u64>) -> Result<(), AllocE
     }
 }
 
-/// The members from the priority on.
+/// Writes the members of an evaluation from its priority on.
 fn write_evaluation_end(out: &mut Writer, evaluation: &EvaluationShown) -> Result<(), AllocError>
     ensures { OnOk result (Follows out.old out.new (evaluation_end evaluation.now)) }
 {
@@ -91,7 +91,7 @@ impl Shown for EvaluationShown {
     }
 }
 
-/// The members from the job's id on.
+/// Writes the members of an allocation from its job's id on.
 fn write_allocation_end(out: &mut Writer, allocation: &AllocationShown) -> Result<(), AllocError>
     ensures { OnOk result (Follows out.old out.new (allocation_end allocation.now)) }
 {

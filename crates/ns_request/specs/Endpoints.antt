@@ -12,7 +12,7 @@ use Rattle.ns_request.specs.Parts.{segments_of}
 
 -- ---- the table
 
--- a word in braces stands for a part
+-- the pattern of the path, in which a word in braces stands for a part
 abbrev pub pattern_of : Endpoint → List ℕ
 pattern_of Endpoint.Jobs = codes "/v1/jobs"
 pattern_of Endpoint.Job = codes "/v1/job/{id}"
@@ -164,14 +164,14 @@ parts_of Endpoint.Policy = policy ∷ []
 parts_of Endpoint.NewToken = []
 parts_of Endpoint.Token = accessor ∷ []
 
--- ---- which of them a path is
+-- ---- the endpoint of a path
 
--- the segment is the word, or stands for the part: then it is not empty
+-- the segment is the word; for a word in braces it is any segment that is not empty
 abbrev pub fits : List ℕ → List ℕ → Bool
 fits [] segment = length segment == 0
 fits (b ∷ word) segment = if b == 123 then nat_lt 0 (length segment) else bytes_eq segment (b ∷ word)
 
--- each segment fits the pattern's
+-- each segment of the path fits the pattern's
 abbrev pub is_spelled : List ℕ → List ℕ → Bool
 is_spelled pattern path = pointwise fits (segments_of pattern) (segments_of path)
 

@@ -1,4 +1,4 @@
--- What the head of a request asks for: an endpoint and a method, or the refusal that needs no more of it.
+-- The endpoint and the method that the head of a request names, or the refusal that the head alone decides.
 use Rattle.std.specs.Prelude.{Option, Some, None, Result, Ok, Err, if◌then◌else◌, not}
 use Rattle.ns_types.specs.declared.refusal.Refusal.{Refusal}
 use Rattle.ns_types.specs.Wire.Http.{Asked}

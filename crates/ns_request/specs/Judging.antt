@@ -1,4 +1,4 @@
--- What is found of a target on the way: its parts, and then its method.
+-- The results on the way to a target: its parts, and then its method.
 use Rattle.std.specs.Prelude.{ℕ, List, Option, Some, None, Result, Err, if◌then◌else◌}
 use Rattle.std.specs.Option.{option_or}
 use Rattle.percent_encoding.specs.Percent.{percent_decode}
@@ -12,16 +12,16 @@ use Rattle.ns_request.specs.Parts.{is_part}
 use Rattle.ns_request.specs.Queries.{is_unserved}
 use Rattle.ns_request.specs.Targets.{first_text, has_good_parts, names_every_pool, second_text}
 
--- the text of the part, where the segment stands for it
+-- the decoded segment, if it follows the rule of the part
 abbrev pub part_of : PathPart → List ℕ → Option (List ℕ)
 part_of part segment = if is_part part segment then Some (percent_decode segment) else None
 
--- one text more is the second where there is a first
+-- the second text, once one more text came: the new one, if there is a first text but no second yet
 abbrev pub second_with : Option (List ℕ) → Option (List ℕ) → List ℕ → Option (List ℕ)
 second_with None second text = second
 second_with (Some first) second text = option_or second (Some text)
 
--- what the parts of the path say, where each follows the rule of its name
+-- the texts of the path's parts, if each follows its rule
 abbrev pub named_in : Endpoint → List ℕ → Option PathNames
 named_in endpoint path =
     if has_good_parts endpoint path

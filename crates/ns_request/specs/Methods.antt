@@ -4,7 +4,7 @@ use Rattle.ns_request.specs.declared.method.Method.{Method}
 use Rattle.ns_request.specs.declared.method.Method.TheVariants.{Get, Write, Delete}
 use Rattle.ns_request.specs.declared.method.Methods.{Methods}
 
--- `POST` and `PUT` are the same, and no path has any other method
+-- `POST` and `PUT` are the same method; no path has another method than these four
 abbrev pub method_of : List ℕ → Option Method
 method_of name =
     if bytes_eq name (codes "GET") then Some Get

@@ -7,7 +7,7 @@ use Rattle.form_urlencoded.specs.Form.{raw_pairs, decode}
 abbrev pub text_of : List ℕ → List ℕ
 text_of encoded = utf8_lossy (decode encoded)
 
--- of several values of a name the first counts
+-- the value of the first parameter with that name
 abbrev pub value_in : List ℕ → List (List ℕ × List ℕ) → Option (List ℕ)
 value_in name pairs = option_map (λ pair. text_of pair.1) (find (λ pair. bytes_eq (text_of pair.0) name) pairs)
 

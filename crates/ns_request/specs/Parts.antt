@@ -25,6 +25,6 @@ is_good (PathPart.Name kind) text = is_name kind text
 is_good (PathPart.Id kind) text = is_some (id_of kind text)
 is_good PathPart.Accessor text = is_some (uuid_number text)
 
--- the segment stands for a good text
+-- the decoded segment is UTF-8 and follows the rule of its part
 unfoldable pub is_part : PathPart → List ℕ → Bool
 is_part part segment = is_utf8 (percent_decode segment) && is_good part (percent_decode segment)

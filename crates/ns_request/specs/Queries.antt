@@ -17,9 +17,9 @@ use Rattle.ns_request.specs.declared.endpoint.Endpoint.TheVariants.{EventStream}
 use Rattle.ns_request.specs.declared.method.Method.{Method}
 use Rattle.ns_request.specs.declared.method.Method.TheVariants.{Get, Write, Delete}
 
--- ---- what no path serves
+-- ---- queries that no path serves
 
--- the parameter is there, and its value passes
+-- the query has the parameter, and its value passes the test
 abbrev pub has_value : (List ℕ → Bool) → List ℕ → List ℕ → Bool
 has_value passes name query = option_map_or passes (parameter name query) false
 
@@ -43,7 +43,7 @@ abbrev pub is_stream : Endpoint → Bool
 is_stream EventStream = true
 is_stream _ = false
 
--- all namespaces at once, filters, pages, and a read that waits for an index
+-- not served are: all namespaces at once, filters, pages, and a read that waits for an index
 unfoldable pub is_unserved : Endpoint → Option Method → List ℕ → Bool
 is_unserved endpoint method query =
     has_value is_star (codes "namespace") query
@@ -54,7 +54,7 @@ is_unserved endpoint method query =
 
 -- ---- the namespace
 
--- the parameter: empty it counts as absent
+-- the namespace that the query names; an empty parameter counts as absent
 unfoldable pub namespace_in : List ℕ → Result (Option Name) Refusal
 namespace_in query = elim (parameter (codes "namespace") query) [
   | None ↦ Ok None
@@ -65,13 +65,13 @@ namespace_in query = elim (parameter (codes "namespace") query) [
 
 -- ---- the prefix
 
--- the text with which the ids of a list begin
+-- the prefix of the ids to list: empty without the parameter
 abbrev pub prefix_of : List ℕ → Name
 prefix_of query = unwrap_or (parameter (codes "prefix") query) []
 
 -- ---- purging
 
--- the parameter says yes or no, and absent it says no
+-- whether the job is purged: no without the parameter
 unfoldable pub purge_in : List ℕ → Result Bool Refusal
 purge_in query = elim (parameter (codes "purge") query) [
   | None ↦ Ok false
@@ -88,7 +88,7 @@ abbrev pub is_number : List ℕ → Bool
 is_number value =
     list_all is_ascii_digit value && (nat_lt 0 (length value) && nat_lt (digits_value 10 value) (2 ^ 64))
 
--- the index from which events are asked for, and absent it is 0
+-- the index from which events are requested: 0 without the parameter
 unfoldable pub index_in : List ℕ → Result ℕ Refusal
 index_in query = elim (parameter (codes "index") query) [
   | None ↦ Ok 0

@@ -6,6 +6,6 @@ use Rattle.matchit.specs.Seek.{first}
 use Rattle.ns_request.specs.declared.endpoint.Endpoint.{Endpoint}
 use Rattle.ns_request.specs.Endpoints.{endpoint_of}
 
--- of each path the endpoint that it is
+-- the router finds the endpoint of each path, and nothing where the path has none
 abbrev pub Serves : RowsOf (RouteOf Endpoint) → Type 0
 Serves rows = (path : List ℕ) → option_map (λ route. route.value) (first rows path) ≡ endpoint_of path

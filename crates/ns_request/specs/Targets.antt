@@ -1,4 +1,4 @@
--- Targets.
+-- The path and the query of a target, and the parts of the path.
 use Rattle.std.specs.Prelude.{ℕ, ◌==◌, Bool, true, false, ◌&&◌, List, [], ◌∷◌, codes, bytes_eq}
 use Rattle.std.specs.List.{list_all, list_any, before_first, after_first}
 use Rattle.percent_encoding.specs.Percent.{percent_decode}
@@ -12,7 +12,7 @@ use Rattle.ns_request.specs.Endpoints.{parts_of}
 abbrev pub is_question : ℕ → Bool
 is_question b = b == 63
 
--- what stands before the first question mark, and after it
+-- the path is the text before the first question mark, and the query is the text after it
 abbrev pub path_in : List ℕ → List ℕ
 path_in target = before_first is_question target
 
@@ -22,7 +22,7 @@ query_in target = after_first is_question target
 abbrev pub is_placed_part : List ℕ → Placed → Bool
 is_placed_part path placed = is_part placed.part (segment_at placed.place path)
 
--- each part follows the rule of its name
+-- each part of the path follows its rule
 abbrev pub has_good_parts : Endpoint → List ℕ → Bool
 has_good_parts endpoint path = list_all (is_placed_part path) (parts_of endpoint)
 
@@ -37,7 +37,7 @@ is_pool _ = false
 abbrev pub is_every_pool : List ℕ → Placed → Bool
 is_every_pool path placed = is_pool placed.part && bytes_eq (text_at placed.place path) (codes "all")
 
--- the path names the pool `all`, which is none
+-- the path names the pool `all`, which is not a pool
 abbrev pub names_every_pool : Endpoint → List ℕ → Bool
 names_every_pool endpoint path = list_any (is_every_pool path) (parts_of endpoint)
 
@@ -49,10 +49,10 @@ abbrev pub second_text_in : List Placed → List ℕ → List ℕ
 second_text_in [] path = []
 second_text_in (placed ∷ rest) path = first_text_in rest path
 
--- the text of the first part that the path names, or none
+-- the text of the first part that the path names, or an empty text
 abbrev pub first_text : Endpoint → List ℕ → List ℕ
 first_text endpoint path = first_text_in (parts_of endpoint) path
 
--- the text of the second one, or none
+-- the text of the second part that the path names, or an empty text
 abbrev pub second_text : Endpoint → List ℕ → List ℕ
 second_text endpoint path = second_text_in (parts_of endpoint) path

@@ -1,4 +1,4 @@
--- The values of the names that are known.
+-- The values of the parameters that the server knows.
 use Rattle.std.specs.Prelude.{ℕ, List, Option, Some, None, bytes_eq, codes, if◌then◌else◌}
 use Rattle.std.specs.Option.{option_or}
 use Rattle.ns_request.specs.declared.parameters.QueryValues.{QueryValues}
@@ -7,7 +7,7 @@ use Rattle.ns_request.specs.Parameters.{parameter}
 abbrev pub no_values : QueryValues
 no_values = record { namespace = None; filter = None; per_page = None; next_token = None; index = None; prefix = None; purge = None }
 
--- the names that are known
+-- the values of these parameters in the query
 abbrev pub values_of : List ℕ → QueryValues
 values_of query = record {
   namespace = parameter (codes "namespace") query;
@@ -19,7 +19,7 @@ values_of query = record {
   purge = parameter (codes "purge") query;
 }
 
--- the value is kept, where it is of that name and there is none yet
+-- the value of the parameter `wanted`, after one more parameter was read: the first value stays
 abbrev pub kept : List ℕ → List ℕ → List ℕ → Option (List ℕ) → Option (List ℕ)
 kept wanted name value old = if bytes_eq name wanted then option_or old (Some value) else old
 

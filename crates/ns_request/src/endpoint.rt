@@ -40,7 +40,7 @@ pub enum Endpoint {
     Token,
 }
 
-/// All of them.
+/// All endpoints.
 pub const ENDPOINTS: [Endpoint; 27] = [
     Endpoint::Jobs,
     Endpoint::Job,

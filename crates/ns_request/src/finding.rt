@@ -1,4 +1,4 @@
-//! What the head of a request asks for.
+//! Finds the endpoint and the method that the head of a request names.
 
 ghost use Rattle.std.specs.Prelude.{◌≡◌, true};
 ghost use Rattle.ns_http.specs.Head.{asked};
@@ -20,7 +20,7 @@ use ns_types::refusal::Refusal;
 use ns_types::text::Text;
 use std::alloc::Global;
 
-/// What a request asks for, found once.
+/// The target of a request: its endpoint and method, its parts and its query.
 #[derive(Drop)]
 pub struct RequestTarget<'a> {
     pub request: Request<'a>,
@@ -43,7 +43,8 @@ impl<'a> RequestTarget<'a> {
     ghost use Rattle.ns_request.specs.Judging.{judged};
     ghost use Rattle.ns_request.specs.Finding.{found, found_at, place_of};
 
-    /// The method, where the path has it and the query asks for nothing that no path serves.
+    /// The method, if the path has it. `NotServed`, if no path serves the query; then `BadMethod`, if the path lacks the
+    /// method.
     fn judged(
         endpoint: Endpoint,
         method: Option<Method>,
@@ -96,7 +97,8 @@ impl<'a> RequestTarget<'a> {
         }
     }
 
-    /// What the head of the request asks for, or the refusal that needs no more of it.
+    /// Finds the target in the head of the request. The refusals are `NotFound`, `NotServed` and `BadMethod`. Want of memory is
+    /// the only other error.
     #[tactic(auto, unfolding(crate::specs::Finding::found))]
     pub fn find(
         alloc: Global,

@@ -1,5 +1,5 @@
-//! Reads the head of a request: the path of the table that it names, with the parts that it holds and the method, or the refusal
-//! that comes first; then the parameters of its query, and its secret.
+//! Reads the head of a request: its endpoint, the parts of its path and its method, or the refusal that comes first; then the
+//! parameters of its query, and its secret.
 #![tactic(auto)]
 
 mod endpoint;

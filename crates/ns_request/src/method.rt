@@ -1,4 +1,4 @@
-//! Methods, as the table of the paths tells them apart.
+//! The methods that the table of the paths tells apart.
 
 ghost use Rattle.std.specs.Prelude.{◌≡◌};
 ghost use Rattle.ns_request.specs.Methods.{method_of, has_method};
@@ -12,7 +12,7 @@ pub enum Method {
 }
 
 impl Method {
-    /// The method of that name, where a path of the table has it.
+    /// The method of that name, if any path of the table has it.
     pub fn read(name: &[u8]) -> Option<Method>
         ensures { result ≡ method_of name.now }
     {
@@ -38,6 +38,7 @@ pub struct Methods {
 }
 
 impl Methods {
+    /// Whether the path has the method.
     pub fn has(self, method: Method) -> bool
         ensures { result ≡ has_method self method }
     {

@@ -7,7 +7,7 @@ use form_urlencoded::parse;
 use ns_types::text::Text;
 use std::alloc::{AllocError, Global};
 
-/// The values of the names that are known, of each name the first one.
+/// The values of the parameters that the server knows. The first value of each counts.
 #[derive(Drop)]
 pub struct QueryValues {
     pub namespace: Option<Text>,
@@ -29,7 +29,7 @@ const NO_VALUES: QueryValues = QueryValues {
     purge: None,
 };
 
-/// Keeps the value, where there is none yet.
+/// Keeps the value, if there is none yet. Want of memory is the only error.
 fn keep_first(alloc: Global, kept: &mut Option<Text>, value: &str) -> Result<(), AllocError>
     ensures { OnOk result (kept.new ≡ option_or kept.old (Some value.now)) }
 {
@@ -42,7 +42,7 @@ fn keep_first(alloc: Global, kept: &mut Option<Text>, value: &str) -> Result<(),
 impl QueryValues {
     ghost use Rattle.ns_request.specs.Values.{no_values, values_of, values_with};
 
-    /// Keeps the value of a name that has none yet.
+    /// Keeps the value of a parameter that the server knows, if it has none yet. Want of memory is the only error.
     fn keep(&mut self, alloc: Global, name: &str, value: &str) -> Result<(), AllocError>
         ensures { OnOk result (self.new ≡ values_with name.now value.now self.old) }
     {
@@ -58,7 +58,7 @@ impl QueryValues {
         }
     }
 
-    /// Keeps the values of the query, where none is kept yet.
+    /// Keeps the values of the query; no value is kept yet. Want of memory is the only error.
     fn keep_all(&mut self, alloc: Global, text: &str) -> Result<(), AllocError>
         requires { self.old ≡ no_values }
         ensures { OnOk result (self.new ≡ values_of text.now) }
@@ -70,7 +70,7 @@ impl QueryValues {
         Ok(())
     }
 
-    /// The values of the query.
+    /// Reads the values of the query. Want of memory is the only error.
     pub fn read(alloc: Global, text: &str) -> Result<QueryValues, AllocError>
         ensures { IfOk result (λ values. values ≡ values_of text.now) }
     {

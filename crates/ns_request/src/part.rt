@@ -7,7 +7,7 @@ use ns_types::id::{IdKind, id_read};
 use ns_types::name::{Name, NameKind};
 use uuid::Uuid;
 
-/// What a part of a path is.
+/// The kind of a part of a path.
 #[derive(Clone, Copy)]
 pub enum PathPart {
     Name(NameKind),
@@ -17,7 +17,7 @@ pub enum PathPart {
 }
 
 impl PathPart {
-    /// Whether a text is such a part.
+    /// Whether the text follows the rule of the part.
     #[tactic(auto, unfolding(crate::specs::Parts::is_good))]
     pub fn is_good(self, text: &str) -> bool
         ensures { result ≡ is_good self text.now }

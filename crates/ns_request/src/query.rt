@@ -18,7 +18,7 @@ use ns_types::text::Text;
 use std::alloc::{AllocError, Global};
 use std::marker::Model;
 
-/// The parameters of a query, found once. Contracts see the query.
+/// The parameters of a query, read once. Contracts see the query.
 #[derive(Drop)]
 pub struct Query<'a> {
     text: &'a str,
@@ -38,7 +38,7 @@ impl<'a> Model for Query<'a> {
     ghost invariant = { λ query. query.values ≡ values_of query.text.now };
 }
 
-/// Whether all namespaces are asked for at once.
+/// Whether the value asks for all namespaces at once.
 fn is_star(value: Option<&Text>) -> bool
     ensures { result ≡ option_map_or is_star (option_copied value.entry) false }
 {
@@ -58,7 +58,7 @@ fn is_given(value: Option<&Text>) -> bool
     }
 }
 
-/// Whether an index is to be waited for.
+/// Whether the value is an index to wait for: neither empty nor `0`.
 fn is_awaited(value: Option<&Text>) -> bool
     ensures { result ≡ option_map_or is_awaited (option_copied value.entry) false }
 {
@@ -74,7 +74,8 @@ fn has_digits_alone(text: &str) -> bool
     text.as_bytes().iter().all(|b| b.is_ascii_digit())
 }
 
-/// The number that the text is in decimal digits, below 2^64. A sign makes it none, which `parse` would let pass.
+/// The number below 2^64 that the text writes in decimal digits, or none. A text with a sign is none here; `parse` would take
+/// it.
 pub fn number_of(text: &str) -> Option<u64>
     ensures { result ≡ (if is_number text.now then Some (digits_value 10 text.now) else None) }
 {
@@ -85,7 +86,7 @@ pub fn number_of(text: &str) -> Option<u64>
 }
 
 impl<'a> Query<'a> {
-    /// The parameters of the query.
+    /// Reads the parameters of the query. Want of memory is the only error.
     pub fn read(alloc: Global, text: &'a str) -> Result<Query<'a>, AllocError>
         ensures { IfOk result (λ query. query ≡ text.now) }
     {
@@ -93,7 +94,7 @@ impl<'a> Query<'a> {
         Ok(Query { text, values })
     }
 
-    /// Whether it asks for what no path serves.
+    /// Whether the query asks for something that no path serves.
     #[tactic(auto, unfolding(crate::specs::Queries::is_unserved))]
     pub fn is_unserved(&self, endpoint: Endpoint, method: Option<Method>) -> bool
         ensures { result ≡ is_unserved endpoint method self.now }
@@ -113,7 +114,7 @@ impl<'a> Query<'a> {
         }
     }
 
-    /// The namespace that it names.
+    /// The namespace that the query names, or none. The errors are a name that breaks the rule for names, and want of memory.
     #[tactic(auto, unfolding(crate::specs::Queries::namespace_in))]
     pub fn namespace(&self, alloc: Global) -> Result<Option<Text>, Refusal>
         ensures { Gives same result (namespace_in self.now) }
@@ -141,7 +142,7 @@ impl<'a> Query<'a> {
         }
     }
 
-    /// Whether a job that is deregistered is removed.
+    /// Whether the deregistered job is purged. The only error is a value that says neither yes nor no.
     #[tactic(auto, unfolding(crate::specs::Queries::purge_in))]
     pub fn purge(&self) -> Result<bool, Refusal>
         ensures { Gives same result (purge_in self.now) }
@@ -159,7 +160,7 @@ impl<'a> Query<'a> {
         Err(Refusal::BadField(Member::Purge))
     }
 
-    /// The index from which events are asked for.
+    /// The index from which events are requested, 0 by default. The only error is a value that is not a number.
     #[tactic(auto, unfolding(crate::specs::Queries::index_in))]
     pub fn index(&self) -> Result<u64, Refusal>
         ensures { Gives same result (index_in self.now) }

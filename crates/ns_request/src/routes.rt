@@ -25,6 +25,7 @@ impl Model for Routes {
 }
 
 impl Routes {
+    /// Makes the table of the paths. Want of memory is the only error.
     pub fn new(alloc: Global) -> Result<Routes, AllocError> {
         let mut router = Router::new(alloc);
         for endpoint in ENDPOINTS {
@@ -35,7 +36,7 @@ impl Routes {
         Ok(Routes { router })
     }
 
-    /// The endpoint that the path is, whatever its parts are.
+    /// The endpoint whose pattern the path fits, whatever its parts are.
     pub fn find(&self, path: &str) -> Option<Endpoint>
         ensures { result ≡ endpoint_of path.now }
     {

@@ -13,7 +13,7 @@ use ns_types::text::Text;
 use percent_encoding::{DecodeError, percent_decode};
 use std::alloc::{AllocError, Global};
 
-/// The path and the query of a target.
+/// The path and the query of a target, which is split at its first question mark.
 pub fn split_target(target: &str) -> (&str, &str)
     ensures path { result.0.now ≡ path_in target.now }
     ensures query { result.1.now ≡ query_in target.now }
@@ -24,7 +24,7 @@ pub fn split_target(target: &str) -> (&str, &str)
     }
 }
 
-/// The segment of a path at that place, or none: the first one is what stands before the first slash.
+/// The segment of a path at that place, or an empty one. The first segment, at place 0, stands before the first slash.
 pub fn segment(path: &str, place: usize) -> &[u8]
     ensures { result.now ≡ segment_at place path.now }
 {
@@ -34,7 +34,7 @@ pub fn segment(path: &str, place: usize) -> &[u8]
     }
 }
 
-/// The text of the segment, where it stands for the part.
+/// The decoded segment, if it follows the rule of the part. Want of memory is the only error.
 fn part_of(alloc: Global, part: PathPart, segment: &[u8]) -> Result<Option<Text>, AllocError>
     ensures { IfOk result (λ text. text ≡ part_of part segment.now) }
 {
@@ -50,14 +50,14 @@ fn part_of(alloc: Global, part: PathPart, segment: &[u8]) -> Result<Option<Text>
     }
 }
 
-/// Whether the part is the pool `all`.
+/// Whether the part names the pool `all`.
 fn is_every_pool(part: PathPart, text: &str) -> bool
     ensures { result ≡ (is_pool part && bytes_eq text.now (codes "all")) }
 {
     matches!(part, PathPart::Name(NameKind::Pool)) && text == "all"
 }
 
-/// Keeps the text, where it is the first or the second.
+/// Keeps the text as the first or the second one, if that is still missing.
 fn keep(first: &mut Option<Text>, second: &mut Option<Text>, text: Text)
     ensures first { first.new ≡ option_or first.old (Some text) }
     ensures second { second.new ≡ second_with first.old second.old text }
@@ -79,18 +79,19 @@ fn text_or_empty(alloc: Global, text: Option<Text>) -> Text
     }
 }
 
-/// What the parts of a path say.
+/// The texts of a path's parts.
 #[derive(Drop)]
 pub struct PathNames {
     /// The text of the first part, empty where there is none.
     pub first: Text,
     /// The text of the second part, empty where there is none.
     pub second: Text,
-    /// Whether a part is the pool `all`, which is none.
+    /// Whether a part names the pool `all`, which is not a pool.
     pub every_pool: bool,
 }
 
-/// What the parts of the path say, or none where one of them does not follow the rule of its name. Each is decoded once.
+/// The texts of the path's parts, or none if one of them breaks its rule. Each is decoded once. Want of memory is the only
+/// error.
 pub fn named_in(
     alloc: Global,
     endpoint: Endpoint,

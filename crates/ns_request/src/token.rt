@@ -8,10 +8,10 @@ use ns_types::name::{Name, NameKind};
 use ns_types::text::Text;
 use std::alloc::{AllocError, Global};
 
-/// No secret is this text, so it names a token that is unknown.
+/// This text is no secret, so no token has it.
 const UNKNOWN: &str = " ";
 
-/// The text, where it is a secret's.
+/// The token's text if it can be a secret, otherwise the unknown one.
 fn known(token: &[u8]) -> &str
     ensures { result.now ≡ known token.now }
 {
@@ -24,7 +24,7 @@ fn known(token: &[u8]) -> &str
     }
 }
 
-/// The secret that a token is: none without one, or where it is empty.
+/// The secret of a token: none if there is no token or it is empty. Want of memory is the only error.
 pub fn secret(alloc: Global, token: Option<&[u8]>) -> Result<Option<Text>, AllocError>
     ensures { IfOk result (λ secret. secret ≡ secret_of (option_copied token.entry)) }
 {

@@ -1,5 +1,5 @@
-// What callers did is settled with the log of the server that they leave. A seat of another server can't be handed in: it is of
-// another ledger, whose type no server but its own has.
+// The receipts of callers are settled with the log of their server. A seat of another server cannot be handed in: its ledger
+// has another type.
 ghost use Rattle.std.specs.Prelude.{◌≡◌};
 
 use crate::guest::{guest, look, register, seat_of};
@@ -37,7 +37,7 @@ fn shown<L: Ledger, R: Wait + Abort>(
     seat_of(guest)
 }
 
-/// The log has two entries, made by two seats in turn. What settling says of the first seat alone.
+/// Settles a log of two entries, which two seats made, with the first seat alone. Returns the fault.
 fn one_is_missing<L: Ledger, R: Wait + Abort>(
     rt: &R,
     alloc: Global,

@@ -1,4 +1,4 @@
-// A log that takes one entry: the first request is served, and the next is answered that the log is full.
+// The log takes one entry: the first request is served, and the reply to the next one is `log full`.
 ghost use Rattle.std.specs.Prelude.{◌≡◌};
 
 use crate::guest::{guest, replies};
@@ -22,7 +22,7 @@ fn answers<L: Ledger, R: Wait + Abort>(rt: &R, alloc: Global, shared: &Shared<L>
     replies(rt, alloc, &mut guest, REQUESTS)
 }
 
-/// Whether the replies are these, and the log has one entry.
+/// Whether the replies are `REPLIES`, and the log has one entry.
 fn fills<L: Ledger, R: Wait + Abort>(rt: &R, alloc: Global, blank: Blank) -> bool
     requires name { blank.name ≡ L.name }
     requires parts { (blank.parts ≡ L.parts) × (L.parts ≡ 18446744073709551615) }

@@ -1,4 +1,5 @@
-// A log that fills while a segment is held back: requests are refused then, the worker and the applier wait, and all goes on after.
+// The log fills while a segment is held back. Then requests are refused, and the worker and the applier wait. Once the segment
+// is taken, all go on.
 ghost use Rattle.std.specs.Prelude.{◌≡◌};
 
 use crate::guest::{Guest, guest, look, register, seat, seat_of, write};
@@ -20,7 +21,7 @@ const NODE: &str = "/v1/node/pool/default/node/n1";
 
 const CAPACITY: &str = "{\"CPU\":1000,\"MemoryMB\":1024}";
 
-/// What holds segments back until it is opened.
+/// Holds segments back until it is opened.
 #[derive(Drop)]
 struct Dam {
     is_open: Mutex<bool>,
@@ -63,7 +64,7 @@ impl<'a, R: Wait> Keep for Behind<'a, R> {
     }
 }
 
-/// Looks at the path until the reply says that the log is full, or until it does not.
+/// Lists the jobs until the reply says that the log is full or, if `is_full` is false, until it does not.
 fn look_until<L: Ledger, R: Wait + Abort>(
     rt: &R,
     alloc: Global,
@@ -78,7 +79,7 @@ fn look_until<L: Ledger, R: Wait + Abort>(
     }
 }
 
-/// Looks at the job until it runs.
+/// Reads the job until it runs.
 fn await_running<L: Ledger, R: Wait + Abort>(
     rt: &R,
     alloc: Global,
@@ -93,7 +94,7 @@ fn await_running<L: Ledger, R: Wait + Abort>(
     }
 }
 
-/// The seat of a client that fills the log, opens the dam, and sees a job placed that it registers then.
+/// Fills the log, opens the dam, then registers a job and waits until it runs. Returns the seat of the client.
 fn fill<L: Ledger, R: Wait + Abort>(
     rt: &R,
     alloc: Global,
@@ -111,7 +112,7 @@ fn fill<L: Ledger, R: Wait + Abort>(
     seat_of(guest)
 }
 
-/// How many receipts the client, the worker or the applier gains, by its number.
+/// Runs the client, the worker or the applier, by its number. Returns how many receipts it gained.
 fn perform<L: Ledger, R: Wait + Clock + Abort>(
     rt: &R,
     alloc: Global,
@@ -131,7 +132,7 @@ fn perform<L: Ledger, R: Wait + Clock + Abort>(
     seat.receipts().len()
 }
 
-/// How many receipts the client, the worker and the applier gain.
+/// Runs the client, the worker and the applier. Returns how many receipts each of them gained.
 fn performed<L: Ledger + Send + Sync, R: Threads + Wait + Clock + Abort + Sync>(
     rt: &R,
     alloc: Global,
@@ -147,7 +148,7 @@ fn performed<L: Ledger + Send + Sync, R: Threads + Wait + Clock + Abort + Sync>(
     counts.expect(rt, "memory")
 }
 
-/// The same on a server whose log is rotated with 4 entries and is full with 8.
+/// Runs them on a server whose log is rotated at 4 entries and is full at 8.
 fn counted<L: Ledger + Send + Sync, R: Threads + Wait + Clock + Abort + Sync>(
     rt: &R,
     alloc: Global,

@@ -1,4 +1,4 @@
-// Connections of one client with a shared server, by the secret of the first token.
+// A client of a shared server, which has the secret of the first token.
 use ns_api::{Api, NoFollower};
 use ns_endpoints::Draws;
 use ns_http::Counted;
@@ -65,7 +65,7 @@ pub(crate) fn replies<L: Ledger, R: Wait + Abort>(
         .expect(rt, "text")
 }
 
-/// What the server sends for a look at the path.
+/// What the server sends for a read of the path.
 pub(crate) fn look<L: Ledger, R: Wait + Abort>(
     rt: &R,
     alloc: Global,
@@ -77,7 +77,7 @@ pub(crate) fn look<L: Ledger, R: Wait + Abort>(
     replies(rt, alloc, guest, request.as_str())
 }
 
-/// What the server sends for a write of the document, which it takes.
+/// What the server sends for a write of the document, which has to succeed.
 pub(crate) fn write<L: Ledger, R: Wait + Abort>(
     rt: &R,
     alloc: Global,
@@ -95,7 +95,7 @@ pub(crate) fn write<L: Ledger, R: Wait + Abort>(
     reply
 }
 
-/// What the server sends for a job of one group of one task, which takes so much CPU and memory.
+/// Registers a job of one group of one task, which takes this CPU and memory. Returns what the server sends.
 pub(crate) fn register_with<L: Ledger, R: Wait + Abort>(
     rt: &R,
     alloc: Global,
@@ -111,7 +111,7 @@ pub(crate) fn register_with<L: Ledger, R: Wait + Abort>(
     write(rt, alloc, guest, path, document.as_str())
 }
 
-/// What the server sends for a job of one group of one small task.
+/// Registers a job of one group of one small task. Returns what the server sends.
 pub(crate) fn register<L: Ledger, R: Wait + Abort>(
     rt: &R,
     alloc: Global,
@@ -122,7 +122,7 @@ pub(crate) fn register<L: Ledger, R: Wait + Abort>(
     register_with(rt, alloc, guest, path, id, (100, 100))
 }
 
-/// Two pools with a node each, a quota, and three namespaces, of which `tb` may use the pool `west` alone.
+/// Two pools with a node each, a quota, and three namespaces. The namespace `tb` may use only the pool `west`.
 const SET_UP: [(&str, &str); 8] = [
     ("/v1/node/pool/east", "{}"),
     ("/v1/node/pool/west", "{}"),

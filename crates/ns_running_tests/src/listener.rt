@@ -1,4 +1,4 @@
-// Another thread shuts a listener of the system's at which one waits.
+// A thread shuts a listener at which another thread waits for a connection.
 use ns_listener::Listener;
 use std::net::SocketAddr;
 use std::rt::Clock;

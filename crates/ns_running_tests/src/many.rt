@@ -1,4 +1,4 @@
-// Many clients at once: each reads what it wrote, and all that they were answered settles with the log that the threads left.
+// Many clients at once: each reads what it wrote, and all their receipts settle with the log.
 ghost use Rattle.std.specs.Prelude.{◌≡◌};
 
 use crate::guest::{guest, look, register, seat_of};
@@ -16,7 +16,7 @@ use std::thread::Threads;
 /// How many clients there are.
 const CLIENTS: usize = 64;
 
-/// The seat of a client that registers the job and reads it, once all clients are there.
+/// Registers the job and reads it, once all clients are there. Returns the seat of the client.
 fn visit<L: Ledger, R: Wait + Clock + Abort>(
     rt: &R,
     alloc: Global,
@@ -36,7 +36,7 @@ fn visit<L: Ledger, R: Wait + Clock + Abort>(
     seat_of(guest)
 }
 
-/// The seat of the client of that number, which has a job of its own.
+/// The seat of the client with this number, which has a job of its own.
 fn numbered<L: Ledger, R: Wait + Clock + Abort>(
     rt: &R,
     alloc: Global,
@@ -65,7 +65,7 @@ fn visited<L: Ledger + Send + Sync, R: Threads + Wait + Clock + Abort + Sync>(
     seats.expect(rt, "memory")
 }
 
-/// Whether all that the clients were answered settles with the log, of two entries for each.
+/// Whether the receipts of all clients settle with the log, which has two entries for each client.
 fn settles<L: Ledger + Send + Sync, R: Threads + Wait + Clock + Abort + Sync>(
     rt: &R,
     alloc: Global,

@@ -1,4 +1,4 @@
-// Where threads wait for one another, for a time that has an end.
+// Threads wait for one another, for a limited time.
 use ns_schedule::plan;
 use ns_types::planned::Planned;
 use ns_types::refusal::Refusal;
@@ -12,10 +12,10 @@ use std::sync::atomic::{AtomicU64, Ordering};
 use std::thread;
 use std::time::Duration;
 
-/// How often a thread looks for what others do, a millisecond apart.
+/// How often a thread checks what the others did, a millisecond apart.
 const TURNS: u64 = 10_000;
 
-/// Waits until it is so. The test fails where it is not in time.
+/// Waits until `is_so` returns true. Fails the test if that takes too long.
 pub(crate) fn await_that<R: Clock + Abort, F: Fn() -> bool>(rt: &R, is_so: &F)
     requires { F.IsAlwaysCallable is_so.now }
 {
@@ -28,14 +28,14 @@ pub(crate) fn await_that<R: Clock + Abort, F: Fn() -> bool>(rt: &R, is_so: &F)
     assert!(rt; is_so(), "not in time");
 }
 
-/// What becomes of the workers.
+/// What happens to the workers.
 #[derive(Clone, Copy, PartialEq, Eq)]
 pub(crate) enum Plot {
     /// Each is held inside its first plan until both are in theirs.
     PlanAtOnce,
-    /// Each is held behind its first look until both have looked, so that neither sees what the other's plan takes.
+    /// Each is held after its first snapshot until both have taken one, so that neither sees what the other's plan takes.
     LookAtOnce,
-    /// The first worker ends behind its step of that name. The second one comes after that.
+    /// The first worker ends after this step. The second one begins after that.
     Dies(Point),
 }
 
@@ -45,7 +45,7 @@ impl Plot {
     }
 }
 
-/// Where threads wait for one another, until so many are there.
+/// Threads wait here until `wanted` of them have come.
 #[derive(Drop)]
 pub(crate) struct Meeting {
     pub plot: Plot,
@@ -54,7 +54,7 @@ pub(crate) struct Meeting {
 }
 
 impl Meeting {
-    /// Of both workers, or of the one that ends.
+    /// A meeting of both workers, or of the one that ends.
     pub(crate) fn new(plot: Plot) -> Meeting {
         Meeting {
             plot,
@@ -71,13 +71,13 @@ impl Meeting {
         self.there.fetch_add(1, Ordering::SeqCst);
     }
 
-    /// Waits until all are there. The test fails where they do not come in time.
+    /// Waits until all have come. Fails the test if they do not come in time.
     pub(crate) fn wait<R: Clock + Abort>(&self, rt: &R) {
         await_that(rt, &|| self.is_full());
     }
 }
 
-/// Lets workers pass by the plot.
+/// Lets workers pass as the plot says.
 #[derive(Drop)]
 pub(crate) struct MeetingGate<'a, R> {
     pub rt: &'a R,
@@ -85,7 +85,7 @@ pub(crate) struct MeetingGate<'a, R> {
 }
 
 impl<R: Clock + Abort> MeetingGate<'_, R> {
-    /// Holds the worker, where the plot is this one.
+    /// Holds the worker until all have come, if this is the plot.
     fn hold(&self, plot: Plot) {
         if self.meeting.plot == plot {
             self.meeting.come();

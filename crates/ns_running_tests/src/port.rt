@@ -1,4 +1,4 @@
-// A server over a port of the system's, with its clients in other threads.
+// A server on a TCP port, with its clients in other threads.
 ghost use Rattle.std.specs.Prelude.{◌≡◌, ◌+◌, IfOk, vec_len};
 
 use crate::guest::GuestBits;
@@ -35,7 +35,7 @@ impl<'a, R: Wait> Write for Notes<'a, R> {
     }
 }
 
-/// Where the log is printed: what takes all bytes, or none.
+/// The output that the log is printed to. It takes all bytes, or none.
 #[derive(Drop)]
 pub(crate) enum LogOutput {
     Open(Vec<u8>),
@@ -88,7 +88,7 @@ fn drawers(alloc: Global, connections: u64) -> Result<Vec<GuestBits>, AllocError
     Ok(drawers)
 }
 
-/// Serves, and notes what is written to the errors. The exit status, and the output.
+/// Runs the server, and writes its standard error to `notes`. Returns the exit status and the output.
 fn served<R: Threads + Wait + Clock + Sync + Net<Listener = TcpListener, Stream = TcpStream>>(
     rt: &R,
     alloc: Global,
@@ -112,7 +112,7 @@ fn served<R: Threads + Wait + Clock + Sync + Net<Listener = TcpListener, Stream 
     Ok((status, writer.into_inner()))
 }
 
-/// Serves while so many clients come, all at once.
+/// Runs the server while this many clients come, all at once.
 pub(crate) fn run<
     R: Threads + Wait + Clock + Sync + Net<Listener = TcpListener, Stream = TcpStream>,
 >(
@@ -143,7 +143,7 @@ pub(crate) fn run<
     })
 }
 
-/// A service by two workers, which ends after so many connections, all served at once.
+/// The settings of a server with two workers, which ends after this many connections and serves all of them at once.
 pub(crate) fn service(alloc: Global, connections: u64) -> Result<Service, AllocError> {
     Ok(Service {
         address: SocketAddr::from(([127, 0, 0, 1], 0)),

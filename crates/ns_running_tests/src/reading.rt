@@ -1,4 +1,4 @@
-// What a caller wrote it reads: the read is a later step, and shows the write.
+// A caller reads what it wrote: the read is a later step, and shows the write.
 ghost use Rattle.std.specs.Prelude.{◌≡◌};
 
 use crate::guest::{guest, look, register, seat_of, set_up};

@@ -1,4 +1,4 @@
-// A server whose log is given out in a segment: what its callers were answered settles with the segment and the log after it.
+// A server rotates its log: the receipts of its callers settle with the segment and the log after it.
 ghost use Rattle.std.specs.Prelude.{◌≡◌};
 
 use crate::guest::{guest, look, register, seat_of, set_up};
@@ -29,7 +29,7 @@ fn base<L: Ledger, R: Wait + Abort>(rt: &R, alloc: Global, blank: Blank) -> Core
     ended.held().core().copy(alloc).expect(rt, "memory")
 }
 
-/// Registers a job three times over one seat. The log takes two entries, and is given out behind the second.
+/// Registers a job three times over one seat. The log takes two entries, and is rotated after the second.
 fn register_thrice<L: Ledger, R: Wait + Abort>(
     rt: &R,
     alloc: Global,
@@ -48,14 +48,14 @@ fn register_thrice<L: Ledger, R: Wait + Abort>(
     (seat_of(guest), segment)
 }
 
-/// The third receipt names the place behind the segment, and the index of the third registration.
+/// Checks that the third receipt has the place after the segment, and the index of the third registration.
 fn check_third<L: Ledger, R: Abort>(rt: &R, seat: &Seat<L, Retains>) {
     let third = seat.receipts().get(2).expect(rt, "three receipts");
     assert!(rt; third.place == 2 && third.rendered.get().index == Some(3));
 }
 
-/// What settling says of the three registrations on a server in the state of the base, from this first server: with the segment
-/// that was given out, or with none.
+/// Makes the three registrations on a server in the state of `base`, and settles them from the state of `first`, with or
+/// without the segment that was given out.
 fn settled<L: Ledger, R: Wait + Abort>(
     rt: &R,
     alloc: Global,
@@ -100,8 +100,8 @@ fn the_log_of_another_server(rt: HostRuntime) {
     assert!(rt; other.err() == Some(SettleFault::Mismatch { seat: 1, place: 0 }));
 }
 
-/// Whether the log is due with one registration of less than 1000 bytes, where it is rotated with eight entries or past so many
-/// bytes of text. It is not due any more once it was rotated.
+/// Whether the log is due for rotation after one registration of less than 1000 bytes, if it is rotated at eight entries or
+/// past this many bytes of text. Once it is rotated, it must not be due any more.
 fn is_due<L: Ledger, R: Wait + Abort>(
     rt: &R,
     alloc: Global,

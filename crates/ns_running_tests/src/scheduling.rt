@@ -1,7 +1,7 @@
-// Two workers, the applier and a client, each in a thread of its own. Where a worker holds a turn while it plans, the other one does
-// not come to its own plan, and the meeting inside the first plans fails. Where both look before either plans, and there is room for
-// one of two jobs, the later plan is dropped. And where a worker ends in the middle of its work, the others go on. All that they were
-// answered settles with the log.
+// Two workers, the applier and a client, each in a thread of its own. If a worker held the lock while it plans, the other would
+// not reach its own plan, and the meeting inside the first plans would fail. If both take snapshots before either plans, and
+// there is room for one of two jobs, the later plan is dropped. If a worker ends in the middle of its work, the others go on.
+// All receipts settle with the log.
 ghost use Rattle.std.specs.Prelude.{◌≡◌};
 
 use crate::guest::{Guest, guest, look, register_with, seat, seat_of, set_up, write};
@@ -19,7 +19,7 @@ use std::sync::ledger::{Blank, Ledger};
 use std::thread;
 use std::thread::Threads;
 
-/// Where jobs of `tb` are registered.
+/// The path that registers jobs of `tb`.
 const JOBS: &str = "/v1/jobs?namespace=tb";
 
 const FIRST_EVALUATION: &str = "/v1/evaluation/00000000-0000-0001-0000-000000000001?namespace=tb";
@@ -28,15 +28,15 @@ const FIRST_ALLOCATION: &str = "/v1/allocation/00000000-0000-0002-0000-000000000
 
 const ASKED_TOKEN: &str = "{\"Name\":\"ci\",\"Policies\":[\"web\",\"api\"]}";
 
-/// The token that is made of it, by the bits that are drawn here.
+/// The token that the server makes for `ASKED_TOKEN`, with the bits that are drawn here.
 const TOKEN: &str =
     "{\"AccessorID\":\"01010101-0101-4101-8101-010101010101\",\"Name\":\"ci\",\"Policies\":[\"web\",\"api\"],\"SecretID\":\"01010101-0101-4101-8101-010101010101\",\"Type\":\"client\"}";
 
-/// The node's client says that the first allocation runs.
+/// Reports that the first allocation runs.
 const REPORT: &str =
     "{\"Namespace\":\"tb\",\"ID\":\"00000000-0000-0002-0000-000000000001\",\"ClientStatus\":\"running\"}";
 
-/// A path, what it shows, and how often.
+/// A path, a text, and how often a read of the path has to show it.
 type ShownAt<'a> = (&'a str, &'a str, usize);
 
 /// The second job's evaluation is complete, and each job has one allocation, which is live.
@@ -70,7 +70,7 @@ static BOTH_PLACED: [ShownAt; 7] = [
     ),
 ];
 
-/// One of the jobs has an allocation. Both evaluations are complete, and one that follows waits for room.
+/// One of the jobs has an allocation. Both evaluations are complete, and a follower of one is blocked.
 static ONE_PLACED: [ShownAt; 4] = [
     ("/v1/allocations?namespace=tb", "\"JobID\":", 1),
     ("/v1/evaluations?namespace=tb", "\"Status\":\"complete\"", 2),
@@ -82,8 +82,8 @@ static ONE_PLACED: [ShownAt; 4] = [
     ),
 ];
 
-/// Whether the first worker's plan outlives it. The applier begins behind that worker's end, so the plan still waits when the worker
-/// gives its evaluation back, which is refused then: the plan is applied, and nobody finishes the evaluation.
+/// Whether the first worker leaves a queued plan behind. The applier begins after that worker's end, so the plan is still
+/// queued when the worker nacks, and the nack is refused: the plan is applied, and no worker finishes the evaluation.
 fn leaves_a_plan(plot: Plot) -> bool {
     plot == Plot::Dies(Point::Queued)
 }
@@ -96,7 +96,7 @@ fn size(plot: Plot) -> (u64, u64) {
     }
 }
 
-/// Whether nothing is left to do for a worker that is still there.
+/// Whether nothing is left to do for the workers that still run.
 fn is_idle<L: Ledger, R: Wait + Abort>(rt: &R, shared: &Shared<L>, plot: Plot) -> bool {
     let served = shared.served(rt).expect(rt, "memory");
     let planned = shared.first_plan(rt).expect(rt, "memory");
@@ -106,7 +106,7 @@ fn is_idle<L: Ledger, R: Wait + Abort>(rt: &R, shared: &Shared<L>, plot: Plot) -
     served.is_none() && planned.is_none() && is_free && second.is_none()
 }
 
-/// The test fails where the path does not show the word so often.
+/// Fails the test if a read of the path does not show the text this often.
 fn expect_shown<L: Ledger, R: Wait + Abort>(
     rt: &R,
     alloc: Global,
@@ -117,7 +117,7 @@ fn expect_shown<L: Ledger, R: Wait + Abort>(
     assert!(rt; shown.as_str().matches(word).count() == times, "{shown}");
 }
 
-/// The test fails where something else became of the two jobs.
+/// Fails the test if the two jobs did not end as the plot says.
 fn expect_ended<L: Ledger, R: Wait + Abort>(
     rt: &R,
     alloc: Global,
@@ -141,7 +141,7 @@ fn expect_ended<L: Ledger, R: Wait + Abort>(
     }
 }
 
-/// Makes a token, and reports that the first allocation runs. The test fails where either is answered or shown otherwise.
+/// Makes a token, and reports that the first allocation runs. Fails the test if a reply is not the expected one.
 fn expect_written<L: Ledger, R: Wait + Abort>(rt: &R, alloc: Global, guest: &mut Guest<'_, L, R>) {
     let made = write(rt, alloc, guest, "/v1/acl/token", ASKED_TOKEN);
     assert!(rt; made.as_str().ends_with(TOKEN), "{made}");
@@ -156,8 +156,8 @@ fn expect_written<L: Ledger, R: Wait + Abort>(rt: &R, alloc: Global, guest: &mut
     expect_shown(rt, alloc, guest, shown);
 }
 
-/// Registers two jobs once the workers are there, the second one behind the first worker's end where it is to end, and closes the
-/// server once nothing is left to do. The test fails where something else became of the jobs.
+/// Registers two jobs once the workers are there. If the first worker has to end, the second job is registered after that.
+/// Closes the server once nothing is left to do. Fails the test if the jobs did not end as the plot says.
 fn lead<L: Ledger, R: Wait + Clock + Abort>(
     rt: &R,
     alloc: Global,
@@ -180,7 +180,7 @@ fn lead<L: Ledger, R: Wait + Clock + Abort>(
     seat_of(guest)
 }
 
-/// Runs the worker of that number.
+/// Runs the worker with this number.
 fn work<L: Ledger, R: Wait + Clock + Abort>(
     rt: &R,
     alloc: Global,
@@ -206,7 +206,8 @@ fn work<L: Ledger, R: Wait + Clock + Abort>(
     }
 }
 
-/// The seat of the worker of that number; behind the two workers, of the applier and of the client that leads.
+/// Runs the thread with this number, and returns its seat. The first two are workers, then come the applier and the client that
+/// leads.
 fn perform<L: Ledger, R: Wait + Clock + Abort>(
     rt: &R,
     alloc: Global,
@@ -245,7 +246,7 @@ fn performed<L: Ledger + Send + Sync, R: Threads + Wait + Clock + Abort + Sync>(
     seats.expect(rt, "memory")
 }
 
-/// Whether the applier applied two plans; where both workers looked at once, the second one drops the only node.
+/// Whether the applier applied two plans. If both workers took snapshots at once, the second plan drops the only node.
 fn is_applied(plot: Plot, receipts: &[Receipt]) -> bool {
     let [first, second] = receipts else {
         return false;
@@ -262,7 +263,7 @@ fn is_applied(plot: Plot, receipts: &[Receipt]) -> bool {
         && second == later
 }
 
-/// Whether all went by the plot, and all that the threads were answered settles with the log.
+/// Whether all went by the plot, and the receipts of all threads settle with the log.
 fn settles<L: Ledger + Send + Sync, R: Threads + Wait + Clock + Abort + Sync>(
     rt: &R,
     alloc: Global,

@@ -16,7 +16,7 @@ pub(crate) fn core(rt: &impl Abort, alloc: Global) -> Core {
     Core::new(alloc, &root).expect(rt, "memory")
 }
 
-/// A new server, whose log takes so many entries.
+/// A new server, whose log takes at most `limit` entries.
 pub(crate) fn opened<L: Ledger, R: Abort>(
     rt: &R,
     alloc: Global,
@@ -29,7 +29,7 @@ pub(crate) fn opened<L: Ledger, R: Abort>(
     Shared::new(Held::new(alloc, core(rt, alloc), limit), blank, None, None)
 }
 
-/// What settling says of the seats of a server that was opened so, whose log was never given out.
+/// Settles the seats with the log of a server that `opened` made, and whose log was never rotated.
 pub(crate) fn settle<L: Ledger, R: Abort>(
     rt: &R,
     alloc: Global,

@@ -1,4 +1,4 @@
-// What a server over a port of the system's answers and prints. Expected bytes are written from the formats.
+// The replies and the output of a server on a TCP port. Expected bytes are written from the formats.
 use crate::port::{LogOutput, is_settled, run, service};
 use crate::visits::{REGISTERED, Visit, text};
 use std::alloc::Global;
@@ -23,7 +23,7 @@ fn stored_run(rt: HostRuntime) -> Result<(), Fail> {
     Ok(())
 }
 
-/// Each connection registers the job and reads it.
+/// Sixty-four connections at once each register the job and read it.
 #[test]
 fn many_connections_at_once(rt: HostRuntime) -> Result<(), Fail> {
     let alloc: Global = rt.alloc();
@@ -40,7 +40,7 @@ fn many_connections_at_once(rt: HostRuntime) -> Result<(), Fail> {
     Ok(())
 }
 
-/// A connection that waits in mid-request and is closed there takes no other connection with it.
+/// A connection that is closed in the middle of a request ends no other connection.
 #[test]
 fn closed_in_mid_request(rt: HostRuntime) -> Result<(), Fail> {
     let alloc: Global = rt.alloc();
@@ -55,7 +55,8 @@ fn closed_in_mid_request(rt: HostRuntime) -> Result<(), Fail> {
     Ok(())
 }
 
-/// The bits are all of the same byte, save those of the version and of the variant.
+/// A secret that is not given is drawn, and printed. Its bits are all of the same byte, except those of the version and of the
+/// variant.
 #[test]
 fn drawn_secret(rt: HostRuntime) -> Result<(), Fail> {
     let alloc: Global = rt.alloc();
@@ -101,7 +102,7 @@ fn port_in_use(rt: HostRuntime) -> Result<(), Fail> {
     Ok(())
 }
 
-/// The log is given out whenever it has three entries or more: the text has its segments, one behind the other, and then the rest.
+/// A log that is rotated at three entries is printed as its segments, one after the other, and then the rest.
 #[test]
 fn rotates_while_it_serves(rt: HostRuntime) -> Result<(), Fail> {
     let alloc: Global = rt.alloc();
@@ -117,7 +118,7 @@ fn rotates_while_it_serves(rt: HostRuntime) -> Result<(), Fail> {
     Ok(())
 }
 
-/// The same, where its text is what makes it due: with each entry.
+/// A log that is rotated by its bytes of text, here after each entry, is printed in segments and settles.
 #[test]
 fn rotates_by_its_text(rt: HostRuntime) -> Result<(), Fail> {
     let alloc: Global = rt.alloc();
@@ -133,7 +134,7 @@ fn rotates_by_its_text(rt: HostRuntime) -> Result<(), Fail> {
     Ok(())
 }
 
-/// A segment can't be written. The server goes on; at the end the log settles, and then comes the fault.
+/// If a segment can't be written, the server goes on. At the end the log settles, and the last line is the fault.
 #[test]
 fn a_segment_is_not_written(rt: HostRuntime) -> Result<(), Fail> {
     let alloc: Global = rt.alloc();

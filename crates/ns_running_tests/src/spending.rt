@@ -1,4 +1,4 @@
-// Entries of segments that nobody needs any more go one by one, with later calls for a step.
+// Entries of segments that are no longer needed are freed one by one, by later calls for a step.
 ghost use Rattle.std.specs.Prelude.{◌≡◌};
 
 use crate::guest::{Guest, guest, look, seat_of};
@@ -10,7 +10,7 @@ use std::process::Abort;
 use std::sync::Wait;
 use std::sync::ledger::{Blank, Ledger};
 
-/// Makes so many looks, each of which is an entry. Then of the last segments so many entries are left.
+/// Lists the jobs this often. Each read is an entry. After that, these numbers of entries are left of the last two segments.
 fn look_on<L: Ledger, R: Wait + Abort>(
     rt: &R,
     alloc: Global,
@@ -29,14 +29,16 @@ fn look_on<L: Ledger, R: Wait + Abort>(
     assert!(rt; shared.spent(rt) == left);
 }
 
-/// Gives out the log, and has it spent. Then of the last segments so many entries are left.
+/// Rotates the log, and hands its segment in to be freed. After that, these numbers of entries are left of the last two
+/// segments.
 fn spend<L: Ledger, R: Wait + Abort>(rt: &R, alloc: Global, shared: &Shared<L>, left: (u64, u64)) {
     let segment = shared.rotate(rt, alloc).ok().expect(rt, "memory");
     shared.spend(rt, segment);
     assert!(rt; shared.spent(rt) == left);
 }
 
-/// With each call one entry goes, of the earlier segment first. With a third segment what is left of the first goes.
+/// Each call frees one entry, of the earlier segment first. When a third segment is handed in, what is left of the first is
+/// freed at once.
 fn spend_three<L: Ledger, R: Wait + Abort>(rt: &R, alloc: Global, blank: Blank)
     requires name { blank.name ≡ L.name }
     requires parts { (blank.parts ≡ L.parts) × (L.parts ≡ 18446744073709551615) }

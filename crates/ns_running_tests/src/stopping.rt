@@ -1,5 +1,5 @@
-// Where a worker and the applier end: at a full log, at the gate, once the server is closed, and out of turn; and where a worker goes
-// on: after want of memory. No thread is started, so one that goes on or waits in place of an end never comes back.
+// A worker and the applier end at a full log, at the gate, once the server is closed, and out of turn. A worker goes on after
+// want of memory. No thread is started, so a test does not end if a worker or the applier goes on or waits where it has to end.
 ghost use Rattle.std.specs.Prelude.{◌≡◌};
 
 use crate::guest::{guest, look, register, seat, write};
@@ -38,7 +38,7 @@ impl Gate for Shut {
     }
 }
 
-/// Has no memory for the first plan. Lets no worker go on once its plan waits.
+/// Has no memory for the first plan. Lets no worker go on once its plan is queued.
 #[derive(Drop)]
 struct Scant {
     plans: AtomicU64,
@@ -64,7 +64,7 @@ impl Gate for Scant {
     }
 }
 
-/// Registers a node, and a job that has a place on it: two entries.
+/// Registers a node, and a job that fits on it: two entries.
 fn prepare<L: Ledger, R: Wait + Abort>(rt: &R, alloc: Global, shared: &Shared<L>) {
     let mut guest = guest(rt, alloc, shared);
     let capacity = "{\"CPU\":1000,\"MemoryMB\":1024}";
@@ -78,7 +78,7 @@ fn prepare<L: Ledger, R: Wait + Abort>(rt: &R, alloc: Global, shared: &Shared<L>
     drop(register(rt, alloc, &mut guest, "/v1/jobs", "a"));
 }
 
-/// How many steps the worker of that number makes until it ends.
+/// How many steps the worker with this number makes until it ends.
 fn works<L: Ledger, G: Gate, R: Wait + Clock + Abort>(
     rt: &R,
     alloc: Global,
@@ -116,8 +116,8 @@ fn a_full_log_ends_a_worker(rt: HostRuntime) {
     assert!(rt; ends);
 }
 
-/// Whether the applier ends where the log has no room for a plan that waits, and closes the server. The worker whose plan it is ends
-/// at the gate before that, and ends after that since nobody applies the plan any more.
+/// Whether the applier ends and closes the server if the log has no room to apply a queued plan. The worker of that plan ends
+/// at the gate before that. Run once more, it makes no step, since no one applies the plan any more.
 fn applier_ends<L: Ledger, R: Wait + Clock + Abort>(rt: &R, alloc: Global, blank: Blank) -> bool
     requires name { blank.name ≡ L.name }
     requires parts { (blank.parts ≡ L.parts) × (L.parts ≡ 18446744073709551615) }
@@ -137,8 +137,8 @@ fn a_full_log_ends_the_applier(rt: HostRuntime) {
     assert!(rt; ends);
 }
 
-/// Whether those make no step that are not to: the worker behind the last number, a worker that is idle once the server is closed,
-/// and the applier then. A worker that leaves has given back what it took.
+/// Whether no step is made by a worker whose number is past the last, by an idle worker once the server is closed, or by the
+/// applier then. A worker that ends at the gate has nacked the evaluation that it dequeued.
 fn stay_idle<L: Ledger, R: Wait + Clock + Abort>(rt: &R, alloc: Global, blank: Blank) -> bool
     requires name { blank.name ≡ L.name }
     requires parts { (blank.parts ≡ L.parts) × (L.parts ≡ 18446744073709551615) }
@@ -161,8 +161,8 @@ fn no_step_out_of_turn(rt: HostRuntime) {
     assert!(rt; idle);
 }
 
-/// Whether a worker that finds no memory for its plan takes the evaluation, looks, gives it back, takes it, looks and hands its plan in,
-/// which is then applied, so that the job runs.
+/// Whether a worker that finds no memory for its plan dequeues the evaluation, takes a snapshot, nacks, dequeues again, takes a
+/// snapshot and submits its plan, which is then applied, so that the job runs.
 fn places_later<L: Ledger, R: Wait + Clock + Abort>(rt: &R, alloc: Global, blank: Blank) -> bool
     requires name { blank.name ≡ L.name }
     requires parts { (blank.parts ≡ L.parts) × (L.parts ≡ 18446744073709551615) }

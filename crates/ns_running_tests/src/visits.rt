@@ -1,4 +1,4 @@
-// Clients that come to a server over a port of the system's.
+// Clients of a server on a TCP port.
 use std::alloc::Global;
 use std::io::{ErrorKind, Read, Write};
 use std::net::{Net, TcpListener, TcpStream};
@@ -10,7 +10,7 @@ use std::{io, thread};
 const REGISTRATION: &[u8] =
     b"POST /v1/jobs HTTP/1.1\r\nX-Nomad-Token: root\r\nContent-Length: 71\r\n\r\n{\"Job\":{\"ID\":\"web\",\"TaskGroups\":[{\"Name\":\"g\",\"Tasks\":[{\"Name\":\"t\"}]}]}}";
 
-/// A request that breaks off.
+/// A request that is cut off.
 const PART: &[u8] =
     b"POST /v1/jobs HTTP/1.1\r\nX-Nomad-Token: root\r\nContent-Length: 71\r\n\r\n{\"Job\":{";
 
@@ -27,25 +27,25 @@ const LOOKS: u64 = 10_000;
 pub(crate) enum Visit {
     /// It registers the job and reads it.
     Asks,
-    /// The same, while another connection waits in mid-request, which is closed then.
+    /// It registers the job and reads it, while another connection waits in the middle of a request and is closed after that.
     AsksBesideAnother,
     /// It closes without a request.
     Leaves,
 }
 
-/// The bytes as text, which is empty where they are none.
+/// The bytes as text. It is empty if they are no text.
 pub(crate) fn text(bytes: &[u8]) -> &str {
     std::str::from_utf8(bytes).unwrap_or("")
 }
 
-/// The port of the line that says where the server listens, once it is there.
+/// The port in the line that says where the server listens, once that line is written.
 fn noted_port(bytes: &[u8]) -> Option<u16> {
     let (line, _) = text(bytes).split_once('\n')?;
     let port = line.strip_prefix("listening 127.0.0.1:")?;
     port.parse::<u16>().ok()
 }
 
-/// A connection with the server whose errors are noted.
+/// Connects to the server that writes its standard error to `notes`.
 fn connected<R: Wait + Clock + Net<Listener = TcpListener, Stream = TcpStream>>(
     rt: &R,
     notes: &Mutex<Vec<u8>>,
@@ -60,7 +60,7 @@ fn connected<R: Wait + Clock + Net<Listener = TcpListener, Stream = TcpStream>>(
     Err(io::Error::from(ErrorKind::TimedOut))
 }
 
-/// All that the server sends for a registration and a look at the job.
+/// All that the server sends for a registration and a read of the job.
 fn asked<R: Wait + Clock + Net<Listener = TcpListener, Stream = TcpStream>>(
     rt: &R,
     alloc: Global,
@@ -74,7 +74,8 @@ fn asked<R: Wait + Clock + Net<Listener = TcpListener, Stream = TcpStream>>(
     Ok(replies)
 }
 
-/// The same while another connection waits in mid-request, which is closed then.
+/// All that the server sends for a registration and a read of the job, while another connection waits in the middle of a
+/// request and is closed after that.
 fn asked_beside_another<R: Wait + Clock + Net<Listener = TcpListener, Stream = TcpStream>>(
     rt: &R,
     alloc: Global,
@@ -85,7 +86,7 @@ fn asked_beside_another<R: Wait + Clock + Net<Listener = TcpListener, Stream = T
     asked(rt, alloc, notes)
 }
 
-/// All that the server sends to a client: nothing where the connection fails.
+/// All that the server sends to a client. It is empty if the connection fails.
 pub(crate) fn sent<R: Wait + Clock + Net<Listener = TcpListener, Stream = TcpStream>>(
     rt: &R,
     alloc: Global,

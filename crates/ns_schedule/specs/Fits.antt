@@ -10,7 +10,7 @@ use Rattle.ns_types.specs.Placing.Wanted.{demands}
 use Rattle.ns_types.specs.State.Resources.{is_counted, plus, total}
 use Rattle.ns_types.specs.Validity.{seen_load}
 
--- what tasks take together, beside that much disk
+-- what the tasks take together, with that much disk
 abbrev pub tasks_size : List Task → ℕ → Resources
 tasks_size tasks disk = record {
   cpu = sum_by (λ t. t.resources.cpu) tasks;
@@ -18,11 +18,11 @@ tasks_size tasks disk = record {
   disk = disk;
 }
 
--- what the node offers, with all that was live on it
+-- what the node offers, together with all that was live on it, can be counted
 abbrev pub node_fits : PoolNode → Bool
 node_fits n = is_counted (plus n.row.offer.capacity (seen_load n))
 
--- what the quota had in use, with all that is missing of the job
+-- what the quota had in use, together with all that is missing of the job, can be counted
 abbrev pub quota_fits : Snapshot → Bool
 quota_fits s = is_counted (plus (quota_of s).used (total (λ d. d.size) (demands s.job s.own)))
 

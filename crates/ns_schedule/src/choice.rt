@@ -1,4 +1,4 @@
-//! Where the next allocation goes where no node has room.
+//! The choice of a node and of victims where no node has room.
 
 ghost use Rattle.std.specs.Prelude.{◌≡◌, ◌<◌, length, IfOk, MatchOption, None};
 ghost use Rattle.std.specs.List.{HoldsAt};
@@ -12,14 +12,15 @@ use ns_preempt::{Ranking, victims};
 use ns_types::resources::Resources;
 use std::alloc::AllocError;
 
-/// A node, and how many of those whom the job may evict there give way.
+/// A node, and how many of the allocations that the job may evict there are evicted.
 #[derive(Clone, Copy)]
 pub(crate) struct Chosen {
     pub node: usize,
     pub victims: usize,
 }
 
-/// The node whose victims are cheapest. Until it is added to the ranking, the others are ranked.
+/// The node whose victims are cheapest, with their number. None where no node has victims. Until the node is added to the
+/// ranking again, all nodes but this one are ranked.
 pub(crate) fn choose_with_victims<'a>(
     candidates: &[Candidate<'a>],
     ranking: &mut Ranking<'a>,

@@ -1,4 +1,4 @@
-//! Computes the plan of a snapshot: what stops, and where the missing allocations go.
+//! Computes the plan of a snapshot: which allocations stop, and where the missing ones are placed.
 #![tactic(auto)]
 
 mod choice;

@@ -1,4 +1,4 @@
-//! The nodes as the job sees them, without what stops.
+//! The nodes as the job sees them, without the allocations that stop.
 
 ghost use Rattle.std.specs.Prelude.{◌≡◌, IfOk, map};
 ghost use Rattle.std.specs.List.{All};
@@ -17,14 +17,15 @@ use ns_types::snapshot::{LiveAllocation, OwnAllocation, PoolNode};
 use ns_types::text::Text;
 use std::alloc::{AllocError, Global};
 
-/// The number is looked at first: most plans stop nothing, and then no name has to be compared.
+/// Whether the allocation is not one of the stops. Its number is looked at first: most plans stop nothing, and then no name has
+/// to be compared.
 fn stays(namespace: &Text, stops: &Stops<'_>, allocation: &LiveAllocation) -> bool
     ensures { result ≡ stays namespace.now stops.now allocation.now }
 {
     !(stops.has(allocation.number) && *allocation.namespace.get() == *namespace)
 }
 
-/// What those that stay leave of the capacity, by a look at each.
+/// What the allocations that stay leave of the capacity, by a look at each.
 fn left_by_each(
     capacity: Resources,
     namespace: &Text,
@@ -43,7 +44,7 @@ fn left_by_each(
     left
 }
 
-/// What those that stay leave of the capacity. Where nothing stops, it looks at none of them.
+/// What the allocations that stay leave of the capacity. Where nothing stops and the load is known, it looks at none of them.
 fn left_of(capacity: Resources, namespace: &Text, stops: &Stops<'_>, live: &LiveRows) -> Resources
     ensures { result ≡ minus capacity
         (total (λ a. a.size) (staying namespace.now stops.now live.now)) }
@@ -93,7 +94,7 @@ fn candidate<'a>(
     Ok(Candidate::new(&node.name, feasible, left, evictable))
 }
 
-/// The nodes of a snapshot, without what stops.
+/// The nodes of a snapshot as the job sees them, without the allocations that stop.
 pub(crate) fn candidates<'a>(
     alloc: Global,
     job: &Job,
@@ -112,7 +113,7 @@ pub(crate) fn candidates<'a>(
     Ok(candidates)
 }
 
-/// What is in use without what stops.
+/// What the quota has in use without the allocations that stop.
 pub(crate) fn used_without(used: Resources, stops: &[&OwnAllocation]) -> Resources
     ensures { result ≡ minus used (total (λ a. a.row.size) (map (λ a. a.now) stops.now)) }
 {

@@ -1,4 +1,4 @@
-//! Places the missing allocations one by one, each in the state that the ones before it leave.
+//! Places the missing allocations one by one, each in the state that those before it leave.
 
 ghost use Rattle.std.specs.Prelude.{◌≡◌, ◌<◌, ◌↔◌, IfOk, IsTrue, None, Some, length, take};
 ghost use Rattle.std.specs.List.{HoldsAt};
@@ -17,7 +17,7 @@ use ns_types::rows::Rows;
 use ns_types::snapshot::QuotaSeen;
 use std::alloc::{AllocError, Global};
 
-/// Places the demand where it was chosen to go, and ranks that node as it is then.
+/// Places the demand on the chosen node, and ranks that node as it is afterwards.
 fn place_at<'a>(
     alloc: Global,
     candidates: &mut Vec<Candidate<'a>>,
@@ -54,7 +54,8 @@ fn place_at<'a>(
     })
 }
 
-/// The next node of the order, else the node whose victims are cheapest, which is then the only one that can have room.
+/// Places the demand on the next node of the order. If there is none, it places it on the node whose victims are cheapest, and
+/// adds that node to the order, as afterwards no other can have room. None where no node has victims either.
 fn place_next<'a>(
     alloc: Global,
     candidates: &mut Vec<Candidate<'a>>,
@@ -96,7 +97,7 @@ fn is_for(refused: Option<Resources>, size: Resources) -> bool
     }
 }
 
-/// Leaves a demand at once whose size was refused, with nothing placed since.
+/// Places the demand, or leaves it: at once, if its size was the last refused and nothing was placed since.
 fn place_or_leave<'a>(
     alloc: Global,
     candidates: &mut Vec<Candidate<'a>>,
@@ -134,7 +135,8 @@ fn place_or_leave<'a>(
     }
 }
 
-/// The quota first, then the choice; one without a place is left, and the next follows.
+/// Places the demands in their order. For each the quota is checked first, and if it allows no more, placing ends. Then a node
+/// is chosen. A demand without a node is left, and the next one follows.
 pub(crate) fn place_in_order<'a>(
     alloc: Global,
     candidates: &mut Vec<Candidate<'a>>,

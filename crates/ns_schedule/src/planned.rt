@@ -44,7 +44,7 @@ fn all_placed(alloc: Global) -> Placing
     }
 }
 
-/// What a namespace without a quota has in its place.
+/// The quota that stands for none: it limits nothing.
 fn no_quota(alloc: Global) -> QuotaSeen
     ensures { result ≡ no_quota }
 {
@@ -57,7 +57,7 @@ fn no_quota(alloc: Global) -> QuotaSeen
     }
 }
 
-/// Places what is missing of the job.
+/// Places the job's missing allocations.
 fn placing_under(
     alloc: Global,
     snapshot: &Snapshot,
@@ -104,7 +104,7 @@ fn plan_of(alloc: Global, snapshot: &Snapshot) -> Result<Plan, AllocError>
     Ok(Plan { stops, placing })
 }
 
-/// The plan, for all that are to own it.
+/// The plan, to be shared by all its owners.
 fn shared_plan(alloc: Global, snapshot: &Snapshot) -> Result<Shared<Plan>, AllocError>
     requires { IsTrue (fits snapshot.now) }
     ensures { IfOk result (λ p. p ≡ plan snapshot.now) }
@@ -113,9 +113,9 @@ fn shared_plan(alloc: Global, snapshot: &Snapshot) -> Result<Shared<Plan>, Alloc
     Shared::new(alloc, plan)
 }
 
-/// The stops, and then the missing allocations placed in what the stops leave. `Full`: a sum that it takes does not fit
-/// 64 bits. That is judged without memory, and no snapshot that the server keeps is so (`laws::kept_fits`). Else want
-/// of memory is the only error.
+/// The plan of the snapshot: the stops, and then the missing allocations, placed in what the stops leave. `Full`: a sum that it
+/// needs does not fit 64 bits. That is checked without memory, and is so of no snapshot that the server keeps
+/// (`laws::kept_fits`). Otherwise want of memory is the only error.
 pub fn plan(alloc: Global, snapshot: Shared<Snapshot>) -> Result<Planned, Refusal>
     ensures ok { IfOk result (λ planned. planned ≡ snapshot) }
     ensures fits { OnOk result (IsTrue (fits snapshot)) }

@@ -1,4 +1,4 @@
-//! What stops, by number.
+//! The allocations that stop, by number.
 
 use ns_place::marking::Marked;
 use ns_types::snapshot::OwnAllocation;
@@ -26,7 +26,7 @@ impl<'a> Stops<'a> {
     ghost use Rattle.std.specs.Prelude.{◌≡◌, map};
     ghost use Rattle.ns_types.specs.Placing.Plan.{is_among};
 
-    /// It costs a walk over the numbers.
+    /// The stops `own`, whose numbers are `numbers`. It costs a walk over the numbers.
     pub(crate) fn new(own: &'a [&'a OwnAllocation], numbers: &'a [u64]) -> Stops<'a>
         requires { numbers.now ≡ map (λ a. a.number) (map (λ a. a.now) own.now) }
         ensures { result ≡ map (λ a. a.now) own.now }
@@ -43,7 +43,7 @@ impl<'a> Stops<'a> {
         self.own
     }
 
-    /// Whether one of them has the number. It costs no walk where their numbers rise.
+    /// Whether one of the stops has the number. It costs no walk if their numbers rise.
     pub(crate) fn has(&self, number: u64) -> bool
         ensures { result ≡ is_among self.now number }
     {

@@ -36,7 +36,7 @@ fn nodes_fit(nodes: &[Shared<PoolNode>]) -> bool
     nodes.iter().all(|n| node_fits(n.get()))
 }
 
-/// What tasks take together, beside that much disk. None: it is past 64 bits.
+/// What the tasks take together, with that much disk. None: it does not fit 64 bits.
 fn checked_tasks(tasks: &[Task], disk: u64) -> Option<Resources>
     ensures { let size = tasks_size tasks.now disk in
         SomeIff result (IsCounted size) size }
@@ -54,7 +54,7 @@ fn checked_tasks(tasks: &[Task], disk: u64) -> Option<Resources>
     Some(sum)
 }
 
-/// What one allocation of the group takes. None: it is past 64 bits.
+/// What one allocation of the group takes. None: it does not fit 64 bits.
 fn checked_size(group: &Group) -> Option<Resources>
     ensures { let size = group_size group.now in
         SomeIff result (IsCounted size) size }
@@ -62,7 +62,7 @@ fn checked_size(group: &Group) -> Option<Resources>
     checked_tasks(group.tasks.as_slice(), group.disk)
 }
 
-/// With what the missing ones of a group take. None: it is past 64 bits.
+/// The sum with what the group's missing allocations take. None: it does not fit 64 bits.
 fn checked_missing(
     sum: Resources,
     job: &Job,
@@ -80,7 +80,7 @@ fn checked_missing(
     checked_more(sum, count, size)
 }
 
-/// With what all missing ones take. None: it is past 64 bits.
+/// What is used with what all missing allocations of the job take. None: it does not fit 64 bits.
 fn checked_demands(used: Resources, job: &Job, own: &[OwnAllocation]) -> Option<Resources>
     ensures { let missing = demands_from 0 job.now own.now job.now.document.groups in
         let all = total (λ d. d.size) missing in
@@ -119,7 +119,7 @@ fn quota_fits(snapshot: &Snapshot) -> bool
     checked_wanted(used, &snapshot.job, snapshot.own.as_slice()).is_some()
 }
 
-/// Whether a plan of the snapshot can be computed.
+/// Whether all sums that a plan of the snapshot needs fit 64 bits.
 pub(crate) fn fits(snapshot: &Snapshot) -> bool
     ensures { result ≡ fits snapshot.now }
 {

@@ -21,7 +21,7 @@ fn is_done(row: &Allocation) -> bool
     matches!(row.desired, DesiredStatus::Run) && matches!(row.client, ClientStatus::Complete)
 }
 
-/// Whether it was made for the job as it is.
+/// Whether the allocation was made for the job as it is now.
 fn is_current(job: &Job, own: &OwnAllocation) -> bool
     ensures { result ≡ is_current job.now own.now }
 {
@@ -34,7 +34,7 @@ fn is_of(job: &Job, group: &Group, own: &OwnAllocation) -> bool
     is_current(job, own) && own.row.group == group.name
 }
 
-/// The live ones of a group that may stay, in the order of their numbers.
+/// The group's live allocations that may stay, in the order of their numbers.
 fn kept<'a>(
     alloc: Global,
     job: &Job,
@@ -52,7 +52,7 @@ fn kept<'a>(
     Ok(kept)
 }
 
-/// How many they are.
+/// How many of the group's live allocations may stay.
 fn kept_count(job: &Job, own: &[OwnAllocation], group: &Group) -> usize
     ensures { result ≡ count_by (λ a. is_live a.row && is_of job.now group.now a) own.now }
 {
@@ -61,7 +61,7 @@ fn kept_count(job: &Job, own: &[OwnAllocation], group: &Group) -> usize
         .count()
 }
 
-/// How many of a batch job's group completed.
+/// How many of the group's allocations have completed, if the job is a batch job; else zero.
 fn done(job: &Job, own: &[OwnAllocation], group: &Group) -> usize
     ensures { result ≡ done job.now own.now group.now }
 {
@@ -74,7 +74,7 @@ fn done(job: &Job, own: &[OwnAllocation], group: &Group) -> usize
     }
 }
 
-/// The newest of those kept, as many as are too many, stop.
+/// Adds the group's surplus to the stops: the newest of its allocations that may stay, as many as there are too many.
 fn push_surplus<'a>(
     alloc: Global,
     stops: &mut Vec<&'a OwnAllocation>,
@@ -110,7 +110,7 @@ fn live_ones<'a>(
     Ok(live)
 }
 
-/// The live ones made for the job as it was before.
+/// The live allocations that were made for the job as it was before.
 fn outdated<'a>(
     alloc: Global,
     job: &Job,
@@ -127,7 +127,7 @@ fn outdated<'a>(
     Ok(found)
 }
 
-/// Of a job that runs: the outdated ones, and each group's surplus.
+/// What stops of a job that runs: the outdated allocations, and each group's surplus.
 fn replaced<'a>(
     alloc: Global,
     job: &Job,
@@ -143,7 +143,8 @@ fn replaced<'a>(
     Ok(stops)
 }
 
-/// What stops: all of a job that is gone or stopped; else the outdated ones, and each group's surplus.
+/// The allocations that stop. Of a job that is gone or stopped, these are all that are live; else they are the outdated ones,
+/// and each group's surplus.
 pub(crate) fn stopping<'a>(
     alloc: Global,
     job: &Option<Job>,
@@ -157,7 +158,7 @@ pub(crate) fn stopping<'a>(
     }
 }
 
-/// How many of a group are missing. It takes no memory.
+/// How many allocations of the group are missing. It takes no memory.
 pub(crate) fn missing(job: &Job, own: &[OwnAllocation], group: &Group) -> u64
     ensures { result ≡ missing job.now own.now group.now }
 {

@@ -1,4 +1,4 @@
--- Room for all that a settled step changes, and the rows once it is there.
+-- Room for all that a settled step changes, and the rows once they are committed.
 use Rattle.std.specs.Prelude.{◌≡◌, ℕ, ◌+◌, ◌<◌, ◌≤◌, ◌^◌, Bool, true, false, if◌then◌else◌, List, [], ◌∷◌, Option, Some}
 use Rattle.std.specs.Prelude.{IsTrue, fold, is_some, length, option_map}
 use Rattle.std.specs.declared.cmp.Ordering.{Ordering}
@@ -42,7 +42,7 @@ pub record HasRowRoom (x : TenantChange) (t : TenantRows) : Type 0 where
 abbrev pub CanPublish : SettledTenant → TenantRows → Type 0
 CanPublish x t = is_some x.events ≡ true → t.index + 1 < 2 ^ 64
 
--- a slot for each changed row, and where there are events, an index that can rise
+-- a slot for each changed row, and an index that can rise if there are events
 pub record HasTenantRoom (x : SettledTenant) (t : TenantRows) : Type 0 where
   pub rows : HasRowRoom x.rows t
   pub index : CanPublish x t
@@ -68,7 +68,7 @@ IsPoolCleared x pool = IsCleared x.nodes pool.nodes
 abbrev pub releases : List (Name × Class) → Name → Bool
 releases rooms name = list_any (λ room. same_name name room.0) rooms
 
--- the release number of a pool of which classes are released
+-- the pool's release number rises by one if classes of the pool are released
 abbrev pub raised_pool : Bool → PoolRows → PoolRows
 raised_pool released pool = if released then record pool { release = pool.release + 1 } else pool
 
@@ -84,7 +84,7 @@ numbered_pools rooms m = map_rows (λ name pool. with_classes (classes_in name r
 abbrev pub HasNodeRoom : PoolChange → PoolRows → Type 0
 HasNodeRoom x pool = HasRoomFor x.nodes pool.nodes
 
--- a place for each released class
+-- room for each released class
 abbrev pub HaveClassRoom : List (Name × Class) → FinMap name_cmp (Option PoolRows) → Type 0
 HaveClassRoom rooms m = (name : Name) (pool : PoolRows) → row_at m name ≡ Some pool →
     length (classes_in name rooms) ≤ pool.classes.room
@@ -94,7 +94,7 @@ abbrev pub KeepsNodes : FinMap name_cmp (Option PoolRows) → FinMap name_cmp (O
 KeepsNodes old new = (name : Name) →
     option_map (λ pool. pool.nodes) (row_at new name) ≡ option_map (λ pool. pool.nodes) (row_at old name)
 
--- the class has the number of the pool's last release, and what stays as it is
+-- the class gets the number of the pool's last release; the nodes stay, and room for one class is used at most
 pub record ClassPut (class : Class) (old new : PoolRows) : Type 0 where
   pub pool : pool_of new ≡ with_classes (class ∷ []) (pool_of old)
   pub nodes : new.nodes ≡ old.nodes
@@ -109,7 +109,7 @@ CanRise {Row = Row} release chosen m = (name : Name) (row : Row) → row_at m na
 
 -- ---- pools, whole
 
--- places for classes alone were made
+-- only room for classes was made
 pub record GainsClassRoom (old new : PoolRows) : Type 0 where
   pub pool : pool_of new ≡ pool_of old
   pub nodes : new.nodes ≡ old.nodes
@@ -139,7 +139,7 @@ settled_quotas x released m = map_rows
 
 -- ---- all of it
 
--- room for all rows, and numbers that can rise
+-- room for all rows and entries, and release numbers that can rise
 pub record HasRoom (s : Settled) (t : Tables) : Type 0 where
   pub tenants : EachChanged HasTenantRoom s.tenants t.tenants
   pub pools : HavePoolRoom s.pools s.rooms t.pools
@@ -148,11 +148,11 @@ pub record HasRoom (s : Settled) (t : Tables) : Type 0 where
   pub plans : CanAdd s.plans.added t.plans
   pub blocked : CanAdd s.blocked.added t.blocked
 
--- no changed row of a namespace or node has a vacant slot
+-- no changed row of a namespace and no changed node has a vacant slot
 pub record AreCleared (s : Settled) (t : Tables) : Type 0 where
   pub tenants : EachChanged IsTenantCleared s.tenants t.tenants
   pub pools : EachChanged IsPoolCleared s.pools t.pools
 
--- no counter passes its bound
+-- no counter is past its bound once the step has settled
 abbrev pub Fits : Rows.World → Settled → Type 0
 Fits w s = is_past_bound (settled_world w s) ≡ false

@@ -25,7 +25,7 @@ abbrev pub HasIndexRoom : FinMap name_cmp (Option SettledTenant) → Live → Ty
 HasIndexRoom changes live = (name : Name) (x : SettledTenant) → row_at changes name ≡ Some x →
     HasRoomForAll live name x.rows.allocations
 
--- what is still shown was shown before, and is no node that changes
+-- a node that is still shown was shown before, and does not change
 pub record ForgetsChanged (changes : FinMap name_cmp (Option PoolChange)) (old new : Live) : Type 0 where
   pub nodes : (pool name : Name) (node : PoolNode) → shown_at new pool name ≡ Some node →
       (shown_at old pool name ≡ Some node) × ((x : PoolChange) → row_at changes pool ≡ Some x → get x.nodes name ≡ None)

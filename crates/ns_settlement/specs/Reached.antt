@@ -1,4 +1,4 @@
--- What a step releases, by what blocked evaluations wait for.
+-- What a step releases, in the form in which blocked evaluations are looked up.
 use Rattle.std.specs.Prelude.{◌≡◌, Bool, ◌&&◌, List}
 use Rattle.std.specs.FinMap.{contains_key}
 use Rattle.std.specs.List.{list_any}
@@ -18,12 +18,12 @@ has_room pools room = list_any (is_room room) pools
 abbrev pub any_class : (Name → Class → Bool) → List ReleasedPool → Bool
 any_class passes pools = list_any (λ p. list_any (passes p.pool) p.classes) pools
 
--- the released pools are of these rooms, and of no others
+-- the released pools have exactly the classes of these rooms
 abbrev pub AreOfRooms : List (Name × Class) → List ReleasedPool → Type 0
 AreOfRooms rooms pools = (passes : Name → Class → Bool) →
     any_class passes pools ≡ list_any (λ r. passes r.0 r.1) rooms
 
--- the quotas are those of the names that are in the world
+-- the quotas are exactly those of the names that the world has a quota for
 abbrev pub AreOfNames : World → List Name → List Name → Type 0
 AreOfNames w names quotas = (quota : Name) →
     has_name quotas quota ≡ (contains_key w.quotas quota && has_name names quota)

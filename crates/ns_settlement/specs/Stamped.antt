@@ -1,4 +1,4 @@
--- What changed rows get at the end of a step, said by the change alone.
+-- The indexes and events that changed rows get at the end of a step, found from the change alone.
 use Rattle.std.specs.Prelude.{ℕ, ◌+◌, Bool, true, ◌||◌, if◌then◌else◌, List, ◌++◌, Option, option_map, filter, map}
 use Rattle.std.specs.Option.{option_map_or}
 use Rattle.std.specs.List.{list_any}

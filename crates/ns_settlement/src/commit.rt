@@ -1,8 +1,8 @@
 //! Puts a settled change into the tables: rows of namespaces with their indexes and events, nodes, records of quotas, release
-//! numbers of pools, classes and quotas, and the three lists; and the index of live allocations follows the rows. `reserve` makes
-//! room for all of it, which may be refused and leaves the world and the index's keys as they were; `commit` moves it in
-//! and takes no memory. Each looks up what the change has. Only a list that entries leave is gone through whole, and of a pool
-//! with releases its classes.
+//! numbers of pools, classes and quotas, and the three lists. The index of live allocations follows the rows. `reserve` makes
+//! room for all of it; if that is refused, the world and the index's keys are as they were. `commit` moves the change in and
+//! takes no memory. Both look up what the change has. Only a list that entries leave is gone through whole, and so are the
+//! classes of a pool with releases.
 
 mod clearing;
 mod indexing;

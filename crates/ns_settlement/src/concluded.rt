@@ -1,4 +1,4 @@
-//! A step ends: its change settles, and goes into the tables.
+//! Ends a step: settles its change, and puts it into the tables.
 
 ghost use Rattle.std.specs.Prelude.{◌≡◌, false, IfOk, OnErr, OnOk};
 ghost use Rattle.ns_types.specs.Settling.Settle.{settle};
@@ -25,7 +25,7 @@ use ns_tables::Tables;
 use ns_types::refusal::Refusal;
 use std::alloc::AllocError;
 
-/// Makes room for all that a settled step changes, and answers what it brings into `turns`. Want of memory is the only error.
+/// Makes room for all that a settled step changes, and returns what it adds to `turns`. Want of memory is the only error.
 fn reserve(
     tables: &mut Tables,
     live: &mut Live,
@@ -47,7 +47,7 @@ fn reserve(
     Ok(coming)
 }
 
-/// Moves all that a settled step changes in, or nothing. Want of memory is the only error.
+/// Moves all that a settled step changes into the tables, or nothing. Want of memory is the only error.
 fn apply(
     tables: &mut Tables,
     live: &mut Live,
@@ -76,7 +76,7 @@ fn apply(
     }
 }
 
-/// All that the step changes goes into the tables, or nothing. Want of memory is the only error.
+/// Settles the change and puts all of it into the tables, or nothing. Want of memory is the only error.
 fn make(
     tables: &mut Tables,
     live: &mut Live,
@@ -98,9 +98,9 @@ fn make(
     apply(tables, live, turns, settled)
 }
 
-/// Ends a step by what it changes itself, and an index of live allocations that was right for the tables stays so, as does
-/// whose turn it is. An error changes nothing. `Full`: a counter would pass its bound, which is judged without memory.
-/// `Memory`, which comes last: the step would have been made.
+/// Ends a step, given its own change: settles the change and puts it into the tables. An index of live allocations that was
+/// right for the tables stays right, and so do the indexes of `turns`. An error changes nothing. `Full`: a counter would pass
+/// its bound, which is decided without memory. `Memory` comes last: without it the step would have been made.
 pub fn conclude(
     tables: &mut Tables,
     live: &mut Live,

@@ -26,7 +26,7 @@ use ns_types::rows::Rows;
 use ns_types::text::Text;
 use std::alloc::{AllocError, Global};
 
-/// The events of a namespace, by that index.
+/// The events of the namespace's changed rows, with that index.
 fn events_at(
     alloc: Global,
     tenant: &TenantRows,
@@ -74,7 +74,7 @@ fn stamp_change(tenant: &TenantRows, index: u64, change: TenantChange) -> Tenant
     }
 }
 
-/// What changes of the namespace. Where a row changed that replies show, it has its index and events.
+/// Settles the change of a namespace. If a row that replies show has changed, the rows get the next index and events.
 fn settle_tenant(
     tables: &Tables,
     namespace: &Text,
@@ -119,7 +119,7 @@ fn settle_slot(
     }
 }
 
-/// What changes of all namespaces.
+/// Settles the changes of all namespaces.
 fn settle_tenants(
     tables: &Tables,
     tenants: NameTable<TenantChange>,
@@ -136,7 +136,7 @@ fn settle_tenants(
     Ok(NameTable::from_slots(rows))
 }
 
-/// All that a step changes, by what it changes itself. Want of memory is the only error.
+/// Completes the step's own change to all that the step changes. Want of memory is the only error.
 pub fn settle(tables: &Tables, turns: &Turns, mut change: Change) -> Result<Settled, AllocError>
     requires right { IsRight (world_of tables.now) turns.now }
     requires within { is_past_bound (settle (world_of tables.now) (view tables.now change))

@@ -1,4 +1,4 @@
-//! The quotas that a step releases, by its change.
+//! The quotas that a step releases, found from its change.
 
 ghost use Rattle.std.specs.Prelude.{◌≡◌, ◌++◌, flat_map, IfOk, OnOk};
 ghost use Rattle.ns_release.specs.Released.{quota_relimited, quotas_ended, quotas_ended_in, released_quotas};
@@ -16,7 +16,7 @@ use std::alloc::AllocError;
 
 // ---- allocations that end
 
-/// The quota of a namespace that lost an allocation.
+/// Adds the quota of the namespace, if it has one and the slot's allocation ended.
 fn add_quota(
     quotas: &mut Rows<Text>,
     tenant: &TenantRows,
@@ -64,7 +64,7 @@ fn add_quotas_of(
     Ok(())
 }
 
-/// The quotas of the namespaces that lost a live allocation.
+/// Adds the quotas of the namespaces that lost a live allocation.
 fn add_all_left(
     quotas: &mut Rows<Text>,
     tables: &Tables,
@@ -95,7 +95,7 @@ fn add_relimited(
     Ok(())
 }
 
-/// The quotas whose limits change.
+/// Adds the quotas whose limits change.
 fn add_all_relimited(
     quotas: &mut Rows<Text>,
     tables: &Tables,
@@ -110,9 +110,10 @@ fn add_all_relimited(
     Ok(())
 }
 
-// ---- both
+// ---- both kinds
 
-/// The quotas whose limits change, and those of all namespaces that lost a live allocation.
+/// The quotas whose limits change, and those of all namespaces that lost a live allocation, in any order and perhaps twice.
+/// Want of memory is the only error.
 pub fn released_quotas(tables: &Tables, change: &Change) -> Result<Rows<Text>, AllocError>
     ensures { IfOk result (λ quotas. quotas ≡ released_quotas (world_of tables.now) change.now) }
 {

@@ -1,4 +1,4 @@
-//! The evaluations that a step wakes, found in the list of blocked evaluations by what they wait for.
+//! Finds the evaluations that a step wakes in the list of blocked evaluations, by what they wait for.
 
 ghost use Rattle.std.specs.Prelude.{◌≡◌, ◌∷◌, ◌&&◌, [], IfOk, filter, not};
 ghost use Rattle.std.specs.FinMap.{contains_key};
@@ -51,7 +51,7 @@ fn pool_of(alloc: Global, room: &ReleasedClass) -> Result<ReleasedPool, AllocErr
     })
 }
 
-/// A released pool of each room, once.
+/// A released pool for each class of these rooms. A class that is there twice gets one.
 fn pools_of(alloc: Global, rooms: &[ReleasedClass]) -> Result<Rows<ReleasedPool>, AllocError>
     ensures { IfOk result (λ pools. AreOfRooms rooms.now pools) }
 {
@@ -64,7 +64,7 @@ fn pools_of(alloc: Global, rooms: &[ReleasedClass]) -> Result<Rows<ReleasedPool>
     Ok(pools)
 }
 
-/// Whether there is a quota of that name that is not among these.
+/// Whether there is a quota of that name, and it is not yet in the list.
 fn is_other(tables: &Tables, quotas: &[Text], name: &Text) -> bool
     ensures { result ≡ (contains_key (world_of tables.now).quotas name.now
         && not (has_name quotas.now name.now)) }
@@ -72,7 +72,7 @@ fn is_other(tables: &Tables, quotas: &[Text], name: &Text) -> bool
     tables.has_quota(name) && !has_name(quotas, name)
 }
 
-/// The quotas of those names, each once.
+/// The quotas of those names that are there, each once.
 fn quotas_of(tables: &Tables, names: &[Text]) -> Result<Rows<Text>, AllocError>
     ensures { IfOk result (λ quotas. AreOfNames (world_of tables.now) names.now quotas) }
 {
@@ -99,9 +99,9 @@ fn releases_of(
     Ok(Releases { pools, quotas })
 }
 
-// ---- the evaluations that it wakes
+// ---- the evaluations that the releases wake
 
-/// The keys but those that are no longer there. It takes no memory.
+/// The keys of the entries that the step's own change leaves in the list. It takes no memory.
 fn still_there(list: &ListChange, keys: Rows<EvalKey>) -> Rows<EvalKey>
     ensures { result ≡ filter (stays list.now) keys }
 {
@@ -110,8 +110,8 @@ fn still_there(list: &ListChange, keys: Rows<EvalKey>) -> Rows<EvalKey>
     Rows::from_vec(keys)
 }
 
-/// The entries of `blocked`, before the step and after its own change, that its releases wake, in their order. It looks at
-/// those alone that wait for what is released.
+/// The entries of `blocked`, before the step and after its own change, that its releases wake, in the list's order. It looks
+/// only at entries that wait for what is released. Want of memory is the only error.
 pub fn woken_through(
     tables: &Tables,
     list: &BlockedList,

@@ -1,4 +1,4 @@
-//! The room on nodes that a step gives, by its change.
+//! The room on nodes that a step gives, found from its change.
 
 ghost use Rattle.std.specs.Prelude.{◌≡◌, ◌∷◌, ◌++◌, [], flat_map, IfOk, OnOk};
 ghost use Rattle.ns_types.specs.State.Rows.{class_of};
@@ -66,7 +66,7 @@ fn add_all_changed(
     Ok(())
 }
 
-/// The classes of a pool's nodes that give room themselves.
+/// Adds the classes of the pool's changed nodes that give room themselves.
 fn add_pool(
     rooms: &mut Rows<ReleasedClass>,
     tables: &Tables,
@@ -96,7 +96,7 @@ fn add_pools(
     Ok(())
 }
 
-/// The class of the node from which an allocation went, if it takes others.
+/// Adds the class of the node that an ended allocation leaves, if the node is free.
 fn add_left(
     rooms: &mut Rows<ReleasedClass>,
     tables: &Tables,
@@ -184,7 +184,8 @@ fn add_tenants(
     Ok(())
 }
 
-/// The classes of all nodes that give room, each with its pool, in no order and perhaps twice.
+/// The classes of all nodes that give room, each with its pool, in any order and perhaps twice. Want of memory is the only
+/// error.
 pub fn released_rooms(tables: &Tables, change: &Change) -> Result<Rows<ReleasedClass>, AllocError>
     ensures { IfOk result (λ rooms. rooms ≡ released_rooms (world_of tables.now) change.now) }
 {

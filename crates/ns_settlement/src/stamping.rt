@@ -1,4 +1,4 @@
-//! Changed rows get their namespace's next index, and an event each.
+//! Gives changed rows their namespace's next index, and makes an event for each.
 
 ghost use Rattle.std.specs.Prelude.{◌≡◌, ◌++◌, true, IfOk, OnOk};
 ghost use Rattle.std.specs.Option.{option_map_or};
@@ -18,7 +18,7 @@ use ns_types::rows::Rows;
 use ns_types::text::Text;
 use std::alloc::AllocError;
 
-/// An event of each changed row, by number.
+/// Adds an event for each changed row, by number.
 pub fn publish_rows<R: ShownByNumber>(
     events: &mut Rows<Event>,
     before: &NumberTable<R>,
@@ -47,7 +47,7 @@ fn made_at<R: ShownByNumber>(before: &NumberTable<R>, index: u64, number: u64) -
     }
 }
 
-/// A changed row gets the index.
+/// Gives the row the index, if replies show it differently than before.
 fn stamp<R: ShownByNumber>(before: &NumberTable<R>, index: u64, number: u64, row: &mut R)
     ensures { row.new ≡ stamped_row R.kind index (rows before.now) number row.old }
 {
@@ -103,7 +103,7 @@ fn job_topic(slot: &NameSlot<Job>) -> Result<Topic, AllocError>
     }
 }
 
-/// An event of each changed job, by id.
+/// Adds an event for each changed job, by id.
 pub fn publish_jobs(
     events: &mut Rows<Event>,
     tenant: &TenantRows,
@@ -122,9 +122,9 @@ pub fn publish_jobs(
     Ok(())
 }
 
-// ---- whether a row of the namespace changed
+// ---- whether replies show a changed row
 
-/// Whether a row that replies show changed.
+/// Whether the change has a row that is new, removed or shown differently than before, so that the namespace gets an index.
 pub fn touches(tenant: &TenantRows, change: &TenantChange) -> bool
     ensures { result ≡ touches (tenant_of tenant.now) change.now }
 {

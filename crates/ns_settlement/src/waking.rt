@@ -18,7 +18,7 @@ use ns_types::rows::Rows;
 use ns_types::text::Text;
 use std::alloc::AllocError;
 
-/// Puts the entry at this place behind the others, where the step wakes it.
+/// Appends the slot's key, if the step wakes that entry.
 fn add_woken(
     keys: &mut Rows<EvalKey>,
     tables: &Tables,
@@ -36,8 +36,8 @@ fn add_woken(
     Ok(())
 }
 
-/// The entries of `blocked`, before the step and after its own change, that its releases wake, in their order, found along
-/// the list where the step releases anything.
+/// The entries of `blocked`, before the step and after its own change, that its releases wake, in the list's order. It goes
+/// through the list, if the step releases anything.
 fn woken_along(tables: &Tables, change: &Change) -> Result<Rows<EvalKey>, AllocError>
     ensures { IfOk result (λ keys. keys ≡ woken_keys (world_of tables.now) change.now) }
 {
@@ -51,7 +51,9 @@ fn woken_along(tables: &Tables, change: &Change) -> Result<Rows<EvalKey>, AllocE
     Ok(keys)
 }
 
-/// The same, found by what is released where that is known of the blocked ones.
+/// The entries of `blocked`, before the step and after its own change, that its releases wake, in the list's order. It looks
+/// them up by what is released if the indexes are known to be right, and goes through the list otherwise. Want of memory is
+/// the only error.
 pub fn woken_keys(
     tables: &Tables,
     turns: &Turns,

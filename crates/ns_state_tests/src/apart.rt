@@ -1,4 +1,4 @@
-// A namespace that has a list of pools and a list of quotas to itself: what it has alone, and its own steps, replayed.
+// A namespace that has its pools and quotas to itself: its part of the state, and the replay of its own steps.
 use crate::made::{digits, only, text};
 use crate::owned::{push, seen, with};
 use crate::server::with_core;
@@ -38,13 +38,13 @@ const LIMITED: &str =
     r#"{"Body":"{}","Index":null,"Status":200,"Step":{"Args":{"Doc":{"Description":"","Name":"default","NodePoolConfiguration":{"Allowed":["default"],"Default":"default","Denied":[]},"Quota":"qa"}},"Do":"PutNamespace","Kind":"Admin","Secret":"root"}}
 "#;
 
-/// Each registers a job, `default` first.
+/// `default` registers a job, and then `ta` does.
 const JOBS: &str =
     r#"{"Body":"{\"EvalCreateIndex\":1,\"EvalID\":\"00000000-0000-0001-0000-000000000001\",\"JobModifyIndex\":1}","Index":1,"Status":200,"Step":{"Args":{"Doc":{"Constraints":[],"ID":"a","NodePool":"","Priority":50,"TaskGroups":[{"Count":1,"EphemeralDisk":{"SizeMB":300},"Name":"g","Tasks":[{"Name":"t","Resources":{"CPU":100,"MemoryMB":300}}]}],"Type":"service"},"Enforce":null},"Do":"Register","Kind":"Ask","Ns":"default","Secret":"root"}}
 {"Body":"{\"EvalCreateIndex\":1,\"EvalID\":\"00000000-0000-0001-0000-000000000001\",\"JobModifyIndex\":1}","Index":1,"Status":200,"Step":{"Args":{"Doc":{"Constraints":[],"ID":"b","NodePool":"","Priority":50,"TaskGroups":[{"Count":1,"EphemeralDisk":{"SizeMB":300},"Name":"g","Tasks":[{"Name":"t","Resources":{"CPU":100,"MemoryMB":300}}]}],"Type":"service"},"Enforce":null},"Do":"Register","Kind":"Ask","Ns":"ta","Secret":"root"}}
 "#;
 
-/// A worker takes the evaluation of `default`, then one that of `ta`.
+/// A worker dequeues the evaluation of `default`. In `SECOND` another worker dequeues the evaluation of `ta`.
 const FIRST: &str =
     r#"{"Body":"{\"Took\":\"00000000-0000-0001-0000-000000000001\"}","Index":null,"Status":200,"Step":{"Eval":1,"Kind":"Dequeue","Ns":"default","Worker":0}}
 "#;
@@ -53,25 +53,25 @@ const SECOND: &str =
     r#"{"Body":"{\"Took\":\"00000000-0000-0001-0000-000000000001\"}","Index":null,"Status":200,"Step":{"Eval":1,"Kind":"Dequeue","Ns":"ta","Worker":1}}
 "#;
 
-/// The pool `east` gets another text.
+/// The pool `east` gets another description.
 const EAST: &str =
     r#"{"Body":"{}","Index":null,"Status":200,"Step":{"Args":{"Doc":{"Description":"x","Name":"east"}},"Do":"PutPool","Kind":"Admin","Secret":"root"}}
 "#;
 
-/// The same is refused, since there are too many pools.
+/// The put of the pool `east` is refused, since there are too many pools.
 const FULL: &str =
     r#"{"Body":"full","Index":null,"Status":400,"Step":{"Args":{"Doc":{"Description":"x","Name":"east"}},"Do":"PutPool","Kind":"Admin","Secret":"root"}}
 "#;
 
-/// All that is there besides jobs is the namespace `ta`, the pool `east` and the quota `qa`.
+/// Besides jobs there are only the namespace `ta`, the pool `east` and the quota `qa`.
 const LISTED: &str =
     r#"{"Body":"[{\"Description\":\"\",\"Name\":\"ta\",\"NodePoolConfiguration\":{\"Allowed\":[\"east\"],\"Default\":\"east\",\"Denied\":[]},\"Quota\":\"qa\"}]","Index":null,"Status":200,"Step":{"Args":{},"Do":"ListNamespaces","Kind":"Admin","Secret":"root"}}
 {"Body":"[{\"Description\":\"\",\"Name\":\"east\"}]","Index":null,"Status":200,"Step":{"Args":{},"Do":"ListPools","Kind":"Admin","Secret":"root"}}
 {"Body":"[{\"Description\":\"\",\"Limits\":[{\"Region\":\"global\",\"RegionLimit\":{\"CPU\":1000,\"DiskMB\":0,\"MemoryMB\":1024}}],\"Name\":\"qa\"}]","Index":null,"Status":200,"Step":{"Args":{},"Do":"ListQuotas","Kind":"Admin","Secret":"root"}}
 "#;
 
-/// `ta` has the pools `east` and `west`. A job of it is placed in `west` and purged, so its allocation is to stop, and then `ta` has
-/// `east` alone.
+/// `ta` has the pools `east` and `west`. A job of `ta` is placed in `west` and purged, so its allocation has to stop. Then `ta`
+/// has only the pool `east`.
 const MOVED: &str =
     r#"{"Body":"{}","Index":null,"Status":200,"Step":{"Args":{"Doc":{"Description":"","Name":"west"}},"Do":"PutPool","Kind":"Admin","Secret":"root"}}
 {"Body":"{}","Index":null,"Status":200,"Step":{"Args":{"Doc":{"Description":"","Name":"ta","NodePoolConfiguration":{"Allowed":["east"],"Default":"west","Denied":[]},"Quota":"qa"}},"Do":"PutNamespace","Kind":"Admin","Secret":"root"}}
@@ -91,7 +91,7 @@ const MOVED: &str =
 {"Body":"{}","Index":null,"Status":200,"Step":{"Args":{"Doc":{"Description":"","Name":"ta","NodePoolConfiguration":{"Allowed":["east"],"Default":"east","Denied":[]},"Quota":"qa"}},"Do":"PutNamespace","Kind":"Admin","Secret":"root"}}
 "#;
 
-/// That allocation is reported ended.
+/// The allocation of `MOVED` that has to stop is reported complete.
 const ENDED: &str =
     r#"{"Body":"{}","Index":null,"Status":200,"Step":{"Args":{"ClientStatus":"complete","Name":"n1","Namespace":"ta","Number":1},"Do":"Report","Kind":"Node","Pool":"west","Secret":"root"}}
 "#;
@@ -104,7 +104,7 @@ fn log_of(rt: &impl Abort, alloc: Global, lines: &[&str]) -> Log {
     log_read(alloc, text.as_str().as_bytes()).expect(rt, "a log")
 }
 
-/// Makes the steps of the lines, which are answered so.
+/// Makes the steps of the lines. Each has to get the reply that its line has.
 fn make(rt: &impl Abort, alloc: Global, core: &mut Core, lines: &[&str]) {
     let log = log_of(rt, alloc, lines);
     let made = rerun(alloc, core, log.entries.as_slice());
@@ -117,7 +117,7 @@ fn make(rt: &impl Abort, alloc: Global, core: &mut Core, lines: &[&str]) {
 /// A namespace, pools and quotas, and whether the namespace has them to itself.
 type Case<'a> = (&'a str, &'a [&'a str], &'a [&'a str], bool);
 
-/// Who may use every pool is not confined, and intrudes on each.
+/// A namespace that may use every pool has no pool to itself, and neither has any other.
 static FRESH: [Case; 5] = [
     ("ta", &[], &[], true),
     ("ta", &[], &["qa"], true),
@@ -139,21 +139,21 @@ static APART: [Case; 10] = [
     ("tb", &[], &["qa"], false),
 ];
 
-/// The pool `east` is also that of `default`.
+/// `default` may use the pool `east` too.
 static SHARED_POOL: [Case; 3] = [
     ("ta", &["east"], &["qa"], false),
     ("default", &["default", "east"], &[], false),
     ("default", &["default"], &[], false),
 ];
 
-/// The quota `qa` is also that of `default`.
+/// `default` has the quota `qa` too.
 static SHARED_QUOTA: [Case; 3] = [
     ("ta", &["east"], &["qa"], false),
     ("default", &["default"], &["qa"], false),
     ("default", &["default"], &[], false),
 ];
 
-/// What was told to stop may still run.
+/// The allocation that has to stop may still run in `west`.
 static ASTRAY: [Case; 2] = [
     ("ta", &["east"], &["qa"], false),
     ("ta", &["east", "west"], &["qa"], true),
@@ -234,7 +234,7 @@ fn has_ta(core: &Core, ta: &Text) -> bool {
     }
 }
 
-/// Whether the part has what is of `ta` and nothing else, and serves it as if there were no other.
+/// Whether the part has all of `ta` and nothing else, and serves `ta` as if it were alone.
 fn is_part(rt: &impl Abort, alloc: Global, part: &mut Core, ta: &Text) -> bool {
     let default = text(rt, alloc, "default");
     let right = has_ta(part, ta) && part.namespace_at(&default).is_none();
@@ -289,7 +289,7 @@ const OWN: Lists = (&["east"], &["qa"]);
 
 const NONE: Lists = (&[], &[]);
 
-/// Whether the own steps of `ta`, with these pools and quotas, are answered so, or the fault.
+/// Replays the own steps of `ta` with these pools and quotas. Returns whether their replies have these bodies, or the fault.
 fn replayed(
     rt: &impl Abort,
     alloc: Global,
@@ -316,7 +316,7 @@ fn replayed(
     }
 }
 
-/// Lists, the lines of a log, the bodies with which own steps are answered, and whether they are, or the fault.
+/// Pools and quotas, the lines of a log, the bodies of the replies to the own steps, and what `replayed` returns.
 type Replay<'a> = (
     Lists<'a>,
     &'a [&'a str],
@@ -343,7 +343,7 @@ static LAID: [Replay; 5] = [
     (OWN, &[JOBS, TOGETHER], &[], Err(ReplayFault::Premise(2))),
 ];
 
-/// Whether each comes to what is said beside it.
+/// Whether each case has its expected result.
 fn are_replayed(rt: &impl Abort, alloc: Global, core: &Core, cases: &[Replay]) -> bool {
     let mut right = true;
     for case in cases {
@@ -368,7 +368,7 @@ fn own_steps_are_answered_the_same_alone(rt: HostRuntime) {
 
 // ---- a full table
 
-/// The numbers that name 9,999 pools: with `default` as many as there may be.
+/// The names of 9,999 pools are the numbers from here to `END`. With `default` there are as many pools as there may be.
 const FIRST_POOL: u64 = 10_000;
 
 const END: u64 = 19_999;
@@ -379,7 +379,7 @@ const BEFORE_NAME: &str =
 const BEHIND_NAME: &str = r#""}},"Do":"PutPool","Kind":"Admin","Secret":"root"}}
 "#;
 
-/// The line of a pool whose name is the number.
+/// Adds the line that puts a pool whose name is the number.
 fn push_pool(rt: &impl Abort, alloc: Global, text: &mut String, number: u64) {
     let digits = digits(rt, alloc, number);
     text.push_str(BEFORE_NAME).expect(rt, "memory");
@@ -404,8 +404,8 @@ fn lacks_room(rt: &impl Abort, alloc: Global, core: &Core, line: &str) -> bool {
     }
 }
 
-/// A put of a pool that is there has room, and so has one of another table. An own put without it breaks a premise, and one of
-/// another does not.
+/// Where the table of pools is full, a put of a pool that exists has room, and so has a put in another table. An own put
+/// without room breaks a premise, and a put of another tenant does not.
 fn crowds_out(rt: &impl Abort, alloc: Global, core: &mut Core, _root: &Text) -> bool {
     make(rt, alloc, core, &[CONFINED]);
     let mut right = !lacks_room(rt, alloc, core, EAST);

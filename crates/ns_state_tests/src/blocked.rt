@@ -1,4 +1,5 @@
-// Whom a release wakes, and in which order. What is expected is written by hand. Where memory is wanting, the test ends.
+// Which blocked evaluations a release wakes, and in which order. What is expected is written by hand. A test ends where memory
+// is missing.
 ghost use Rattle.std.specs.Prelude.{◌≡◌, ◌∷◌, []};
 ghost use Rattle.ns_blocked.specs.Blocked.{are_new, keys_of};
 ghost use Rattle.ns_types.specs.State.Names.{has_key};
@@ -20,7 +21,7 @@ pub(crate) type KeyText<'a> = (&'a str, u64);
 /// A class, as its name and the value of its attribute `os`.
 pub(crate) type Named<'a> = (&'a str, &'a str);
 
-/// What is waited for, and what is released.
+/// What an evaluation waits for, and what is released.
 #[derive(Clone, Copy)]
 enum Source<'a> {
     Quota(&'a str),
@@ -36,7 +37,7 @@ struct Waiter<'a> {
 }
 
 impl<'a> Waiter<'a> {
-    /// One that found no class infeasible.
+    /// An evaluation that found no class infeasible.
     fn feasible(key: KeyText<'a>, source: Source<'a>) -> Waiter<'a> {
         Waiter {
             key,
@@ -90,7 +91,7 @@ fn has(list: &BlockedList, key: &EvalKey) -> bool
     list.has(key.namespace(), key.number())
 }
 
-/// Puts one at the end.
+/// Adds an evaluation at the end of the list.
 fn block(rt: &impl Abort, alloc: Global, list: &mut BlockedList, waiter: &Waiter) {
     let entries = [entry(rt, alloc, waiter)];
     list.reserve(&entries).expect(rt, "memory");
@@ -106,7 +107,7 @@ fn are_new(list: &BlockedList, first: &BlockedEvaluation, second: &BlockedEvalua
     !has(list, &first.key) & !has(list, &second.key) & !same_key(&second.key, &first.key)
 }
 
-/// Puts two at the end.
+/// Adds two evaluations at the end of the list, at once.
 fn append(rt: &impl Abort, alloc: Global, list: &mut BlockedList, first: &Waiter, second: &Waiter) {
     let first = entry(rt, alloc, first);
     let second = entry(rt, alloc, second);
@@ -161,7 +162,7 @@ fn have_keys(slots: &[NumberSlot<Waiting>], expected: &[KeyText]) -> bool {
     rest.is_empty()
 }
 
-/// Whether these wait for it, in this order.
+/// Whether these evaluations wait for the source, in this order.
 fn wait(
     rt: &impl Abort,
     alloc: Global,
@@ -200,7 +201,7 @@ fn woken(
     woken.expect(rt, "memory")
 }
 
-/// The same, where it is all that a step releases.
+/// The keys that the same release wakes, where it is all that a step releases.
 fn woken_by_step(
     rt: &impl Abort,
     alloc: Global,
@@ -221,7 +222,7 @@ fn woken_by_step(
     list.release(&releases).expect(rt, "memory")
 }
 
-/// Whether all that wait are in the list but these.
+/// Whether the list has all of the waiters except the woken ones.
 fn keeps_others(
     rt: &impl Abort,
     alloc: Global,
@@ -245,10 +246,10 @@ pub(crate) const BSD: Named = ("large", "bsd");
 
 const SMALL: Named = ("small", "linux");
 
-/// What is released, with the classes of the nodes that have room, and whom that wakes.
+/// What is released, the classes of the nodes with room, and the evaluations that the release wakes.
 type Case<'a> = (Source<'a>, &'a [Named<'a>], &'a [KeyText<'a>]);
 
-/// Whether the release of the case wakes these, by itself or as all that a step releases.
+/// Whether the release of the case wakes the expected evaluations, by itself or as all that a step releases.
 fn wakes_these(
     rt: &impl Abort,
     alloc: Global,
@@ -264,7 +265,7 @@ fn wakes_these(
     are_keys(keys.as_slice(), expected)
 }
 
-/// Whether it wakes these of the waiters, and the others wait on.
+/// Whether the release wakes the expected evaluations, and the others still wait.
 fn wakes(rt: &impl Abort, alloc: Global, waiters: &[Waiter], case: Case, is_step: bool) -> bool {
     let mut list = blocked(rt, alloc, waiters);
     wakes_these(rt, alloc, &mut list, case, is_step)
@@ -337,7 +338,7 @@ static CASES: [Case; 10] = [
     (Source::Quota("gpu"), &[], &[]),
 ];
 
-/// Whether each case is answered so.
+/// Whether each case has its expected result.
 fn all_wake(rt: &impl Abort, alloc: Global, is_step: bool) -> bool {
     let mut right = true;
     for case in &CASES {
@@ -366,7 +367,7 @@ fn several(rt: &impl Abort, alloc: Global) -> Releases {
     }
 }
 
-/// Whether the release of several wakes these, in this order.
+/// Whether the release of `several` wakes these evaluations, in this order.
 fn several_wake(
     rt: &impl Abort,
     alloc: Global,
@@ -379,7 +380,7 @@ fn several_wake(
     are_keys(keys.as_slice(), expected)
 }
 
-/// Of many places, each with no class that it found infeasible.
+/// Evaluations that wait for several pools and quotas. None of them found a class infeasible.
 static SCATTERED: [(KeyText, Source); 8] = [
     (("tb", 9), DEFAULT),
     (("ta", 4), Source::Quota("qa")),
@@ -406,7 +407,7 @@ fn block_scattered(rt: &impl Abort, alloc: Global, list: &mut BlockedList) {
     }
 }
 
-/// Whether the others wait on, and a second release wakes nobody.
+/// Whether the expected evaluations are woken, the others still wait, and a second release wakes none.
 fn wakes_in_order(rt: &impl Abort, alloc: Global, list: &mut BlockedList) -> bool {
     several_wake(rt, alloc, list, &SCATTERED_WOKEN)
         & wait(rt, alloc, list, Source::Pool("arm"), &[("ta", 1)])
@@ -428,7 +429,7 @@ fn untrack(rt: &impl Abort, alloc: Global, list: &mut BlockedList, expected: Key
     !has(list, &key)
 }
 
-/// Puts one of each key at the end.
+/// Adds an evaluation of each key at the end of the list.
 fn block_each(
     rt: &impl Abort,
     alloc: Global,
@@ -441,7 +442,7 @@ fn block_each(
     }
 }
 
-/// Puts both at the end at once.
+/// Adds an evaluation of each of both keys at the end of the list, at once.
 fn append_both(
     rt: &impl Abort,
     alloc: Global,
@@ -460,7 +461,7 @@ static WAITING: [KeyText; 4] = [("tb", 2), ("tb", 1), ("ta", 1), ("ta", 2)];
 
 static WOKEN: [KeyText; 3] = [("tb", 2), ("ta", 1), ("ta", 2)];
 
-/// Whether one that was untracked does not wake, unless it came again, and then as the last.
+/// Whether an evaluation that was untracked is not woken, or, if it was added again, is woken last.
 fn forgets(rt: &impl Abort, alloc: Global, list: &mut BlockedList, source: Source) -> bool {
     block_each(rt, alloc, list, source, &FIRST);
     let mut right = untrack(rt, alloc, list, ("ta", 2));

@@ -7,7 +7,7 @@ use keyed::{NameTable, NumberTable};
 use ns_types::text::Text;
 use std::process::Abort;
 
-/// Whether the first key has a row and the second one a slot, and nothing else is there.
+/// Whether the first key has a row, the second has a vacant slot, and the table has nothing else.
 fn has_first(table: &NameTable<u64>, web: &Text, api: &Text) -> bool {
     table.get(web) == Some(&7)
         && table.get(api).is_none()
@@ -55,7 +55,7 @@ fn keeps_rows_by_name(rt: HostRuntime) {
     assert!(rt; clears_names(&rt, &mut table, &web, &api));
 }
 
-// What a caller of `get_mut` learns.
+// What the contract of `get_mut` says to a caller.
 fn write_seven(table: &mut NumberTable<u64>, number: u64)
     requires { IsTrue (is_some (row_at table.old number)) }
     ensures { table.new ≡ insert table.old number (Some 7) }

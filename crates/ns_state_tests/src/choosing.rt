@@ -1,9 +1,9 @@
-// Which node is chosen where there is room, and where somebody gives way. What is expected follows from the rules alone.
+// Which node is chosen: one with room, or one where allocations are preempted. What is expected follows from the rules alone.
 //
-// Where there is room: of the nodes that the job may use and that have enough left of each resource, the one with the least CPU left
-// afterwards, then the least memory, then the least disk, then the lesser name. Where there is none: those on a node give way in their
-// order, as few as make room, and of the nodes that can make room it is the one whose highest priority among them is least, then the
-// one with the fewest, then the lesser name.
+// With room: of the nodes that the job may use and that have enough left of each resource, the one with the least CPU left
+// afterwards, then the least memory, then the least disk, then the lesser name. Without room: the allocations on a node are
+// preempted in their order, as few as make room. Of the nodes that can make room it is the one where the highest priority of
+// those allocations is least, then the one with the fewest of them, then the lesser name.
 ghost use Rattle.std.specs.Prelude.{◌≡◌};
 ghost use Rattle.ns_types.specs.declared.resources.Resources.{Resources};
 
@@ -17,14 +17,14 @@ use ns_types::text::Text;
 use std::alloc::Global;
 use std::process::Abort;
 
-/// A node: its name, whether the job may use it, what is left of its CPU, memory and disk, and the priorities of the two that may give
-/// way, the first to go first.
+/// A node: its name, whether the job may use it, what is left of its CPU, memory and disk, and the priorities of its two
+/// evictable allocations, in the order in which they are preempted.
 type Site<'a> = (&'a str, bool, [u16; 3], [u64; 2]);
 
-/// Two nodes, and the place of the one that is wanted.
+/// Two nodes, and the place of the one that has to be chosen.
 type Case<'a> = (Site<'a>, Site<'a>, Option<usize>);
 
-/// An allocation of that priority, which takes 100 of each resource.
+/// An allocation of this priority, which takes 100 of each resource.
 fn allocation(rt: &impl Abort, alloc: Global, priority: u64) -> LiveAllocation
     ensures { let taken : Resources = record { cpu = 100; memory = 100; disk = 100 } in
         result.size ≡ taken }
@@ -42,7 +42,7 @@ fn allocation(rt: &impl Abort, alloc: Global, priority: u64) -> LiveAllocation
     }
 }
 
-/// The node, with those two on it.
+/// The node, with these two allocations on it.
 fn node<'a>(
     rt: &impl Abort,
     alloc: Global,
@@ -66,7 +66,7 @@ fn node<'a>(
     Candidate::new(name, is_feasible, left, evictable.expect(rt, "memory"))
 }
 
-/// The place of the node with room for 200 of each resource, and of the one where somebody gives way to 250.
+/// The place of the node that has room for 200 of each resource, and of the node that makes room for 250 of each by preemption.
 fn chosen(
     rt: &impl Abort,
     alloc: Global,
@@ -91,7 +91,7 @@ fn chosen(
     )
 }
 
-/// Where there is room. Nobody's priority counts.
+/// There is room on a node. No priority counts.
 static WITH_ROOM: [Case; 9] = [
     (
         ("a", true, [400, 200, 200], [1, 1]),
@@ -140,7 +140,8 @@ static WITH_ROOM: [Case; 9] = [
     ),
 ];
 
-/// Where somebody gives way: with 50 left both, with 150 left the first alone.
+/// There is no room without preemption. A node with 50 left has to preempt both allocations, and one with 150 left only the
+/// first.
 static GIVING_WAY: [Case; 10] = [
     (
         ("a", true, [150, 150, 150], [30, 30]),

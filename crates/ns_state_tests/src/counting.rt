@@ -1,5 +1,6 @@
-// Which stops of a plan count in the present state, and whom the nodes that do their part evict. A stop counts where its allocation is
-// live. An eviction counts where its allocation is live behind the stops that count, on that node and with that priority.
+// Which stops of a plan count in the present state, and which allocations the committed nodes evict. A stop counts if its
+// allocation is live. An eviction counts if, after the stops that count, its allocation is still live on that node with that
+// priority.
 ghost use Rattle.std.specs.Prelude.{◌≡◌, ◌<◌, length};
 ghost use Rattle.std.specs.List.{All};
 
@@ -33,7 +34,7 @@ fn slot(rt: &impl Abort, alloc: Global, number: u64, client: ClientStatus) -> Nu
     (number, Some(row))
 }
 
-/// Those with the numbers 2, 3 and 4 are live, and the fifth has ended.
+/// The allocations 2, 3 and 4 are live, and 5 has ended.
 fn rows(rt: &impl Abort, alloc: Global) -> NumberTable<Allocation> {
     let slots = [
         slot(rt, alloc, 2, ClientStatus::Pending),
@@ -80,7 +81,7 @@ fn node(rt: &impl Abort, alloc: Global) -> PoolNode {
     }
 }
 
-/// What is planned from, with one node.
+/// The snapshot to plan from, with one node.
 fn kept(rt: &impl Abort, alloc: Global) -> Snapshot
     ensures { length result.nodes ≡ 1 }
 {
@@ -91,7 +92,7 @@ fn kept(rt: &impl Abort, alloc: Global) -> Snapshot
     kept
 }
 
-/// Numbers and priorities of allocations of `ta`.
+/// Numbers and priorities of the allocations of `ta` to evict.
 const EVICTIONS: [(u64, u64); 6] = [(4, 50), (5, 50), (3, 50), (2, 40), (2, 50), (3, 50)];
 
 fn evictions(rt: &impl Abort, alloc: Global) -> Rows<Eviction> {
@@ -109,7 +110,7 @@ fn evictions(rt: &impl Abort, alloc: Global) -> Rows<Eviction> {
     rows
 }
 
-/// The plan stops the fourth, and places one on the node, which evicts the others.
+/// The plan stops allocation 4, and places one on the node, which evicts the allocations of `EVICTIONS`.
 fn plan(rt: &impl Abort, alloc: Global) -> Plan
     ensures { All (λ placement. placement.node < 1) result.placing.placements }
 {
@@ -137,7 +138,7 @@ fn are_third_and_second(victims: &[&Eviction]) -> bool {
     }
 }
 
-/// Whether the node evicts the third and the second where it does its part, and else nobody is evicted.
+/// Whether allocations 3 and 2 are evicted if the node is committed, and none otherwise.
 fn evicts(rt: &impl Abort, alloc: Global, present: &Present<'_>) -> bool {
     let kept = kept(rt, alloc);
     let plan = plan(rt, alloc);

@@ -1,4 +1,4 @@
-// One pool with ample memory and as many nodes as it may have: one more is refused as too many, and changes nothing.
+// A pool is filled to its limit of nodes. One node more is refused as too many, and changes nothing.
 ghost use Rattle.std.specs.Prelude.{IsTrue};
 ghost use Rattle.ns_types.specs.State.Limits.{is_amount};
 
@@ -17,7 +17,7 @@ use ns_types::text::Text;
 use std::alloc::Global;
 use std::process::Abort;
 
-/// The number after that of the last node that has room.
+/// The number after that of the last node that the pool has room for.
 const END: u64 = 1001;
 
 const SMALL: Resources = Resources {
@@ -32,7 +32,7 @@ const LARGE: Resources = Resources {
     disk: 450,
 };
 
-/// What refuses the node whose name is the number; nothing, where it is registered.
+/// The refusal of the node whose name is the number. None: it is registered.
 fn registered(
     rt: &impl Abort,
     alloc: Global,
@@ -52,7 +52,7 @@ fn registered(
     refusal
 }
 
-/// Whether each node that has room is registered.
+/// Whether each node that the pool has room for is registered.
 fn fills(rt: &impl Abort, alloc: Global, core: &mut Core, root: &Text, pool: &Text) -> bool {
     let mut right = true;
     for number in 1..END {
@@ -61,7 +61,7 @@ fn fills(rt: &impl Abort, alloc: Global, core: &mut Core, root: &Text, pool: &Te
     right
 }
 
-/// How many nodes they are, and how many MHz the first offers.
+/// How many nodes there are, and the CPU that the first offers, in MHz.
 fn counted(nodes: &[NodeShown]) -> Option<(usize, u64)> {
     match nodes.first() {
         Some(node) => Some((nodes.len(), node.row.offer.capacity.cpu)),
@@ -79,7 +79,7 @@ fn listed(answer: &Result<Reply, Refusal>) -> Option<(usize, u64)> {
     }
 }
 
-/// Whether a thousand nodes are listed, of which the first offers so many MHz.
+/// Whether a thousand nodes are listed, and the first offers this CPU, in MHz.
 fn lists(core: &mut Core, root: &Text, pool: &Text, cpu: u64) -> bool {
     let list = GoodNodeCommand::new(NodeCommand::ListNodes);
     let listed = seen(answered(core, root, pool, &list), listed);

@@ -1,4 +1,4 @@
-// Ids: the text of a number's id, and the numbers of allocations that texts of ids stand for.
+// The text of an id from its number, and the number of an allocation from the text of its id.
 use ns_types::id::{IdKind, id_read, id_text};
 
 const IDS: [(IdKind, u64, &str); 3] = [

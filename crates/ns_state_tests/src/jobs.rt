@@ -1,4 +1,4 @@
-// One namespace with ample memory and as many jobs as it may have: one more is refused as too many, and changes nothing.
+// A namespace is filled to its limit of jobs. One job more is refused as too many, and changes nothing.
 ghost use Rattle.std.specs.Prelude.{IsTrue, true};
 ghost use Rattle.std.specs.Option.{option_map_or};
 ghost use Rattle.ns_types.specs.State.Limits.{is_between, is_pool_name};
@@ -18,10 +18,10 @@ use ns_types::text::Text;
 use std::alloc::Global;
 use std::process::Abort;
 
-/// The number after that of the last job that has room.
+/// The number after that of the last job that the namespace has room for.
 const END: u64 = 1001;
 
-/// A job whose id is the number, of that priority, in that pool or else in its namespace's own.
+/// A job whose id is the number, with this priority, in this pool or else in the default pool of its namespace.
 pub(crate) fn registration_of(
     rt: &impl Abort,
     alloc: Global,
@@ -54,7 +54,8 @@ pub(crate) fn list(rt: &impl Abort, alloc: Global) -> GoodAsk {
     GoodAsk::new(AskCommand::ListJobs(text(rt, alloc, "")))
 }
 
-/// Whether the job whose id is the number is registered with these numbers: the evaluation's, its index, the job's.
+/// Whether the job whose id is the number is registered, and the reply has these numbers: the evaluation's number, its index,
+/// and the job's index.
 pub(crate) fn registers(
     rt: &impl Abort,
     alloc: Global,
@@ -70,7 +71,7 @@ pub(crate) fn registers(
     numbers == Some(wanted)
 }
 
-/// Whether each of the first jobs is registered, with one evaluation and at one index.
+/// Whether the jobs below `end` are registered, each with its number as that of its evaluation and as its index.
 pub(crate) fn registers_all(
     rt: &impl Abort,
     alloc: Global,
@@ -87,7 +88,7 @@ pub(crate) fn registers_all(
     right
 }
 
-/// How many jobs are listed, and at which index.
+/// How many jobs the reply lists, and its index.
 fn listed(answer: &Result<Reply, Refusal>) -> Option<(usize, Option<u64>)> {
     match answer {
         Ok(reply) => match &reply.content {
@@ -98,7 +99,7 @@ fn listed(answer: &Result<Reply, Refusal>) -> Option<(usize, Option<u64>)> {
     }
 }
 
-/// Whether a thousand jobs are listed, at that index.
+/// Whether a thousand jobs are listed, with this index.
 fn lists(
     rt: &impl Abort,
     alloc: Global,
@@ -113,7 +114,7 @@ fn lists(
     listed == Some((1000, Some(index)))
 }
 
-/// What refuses one job more.
+/// The refusal of one job more.
 fn refusal_of_more(
     rt: &impl Abort,
     alloc: Global,
@@ -127,7 +128,7 @@ fn refusal_of_more(
     refusal
 }
 
-/// The first job may still be registered again, and is no job more.
+/// A job that exists can still be registered again, which adds no job.
 fn has_a_thousand_jobs(rt: &impl Abort, alloc: Global, core: &mut Core, root: &Text) -> bool {
     let namespace = text(rt, alloc, "default");
     let mut right = registers_all(rt, alloc, core, root, &namespace, END);

@@ -1,4 +1,4 @@
-// A server keeps its log, whose text is written by hand.
+// A server keeps its log, which is compared with a text that is written by hand.
 ghost use Rattle.ns_steps.specs.Served.{IsServed};
 
 use crate::jobs::registration;
@@ -20,7 +20,7 @@ use ns_work_log::Held;
 use std::alloc::Global;
 use std::process::Abort;
 
-/// The log of a new server takes as many entries as its three steps need.
+/// A new server, whose log has room for three entries.
 fn held(rt: &impl Abort, alloc: Global) -> Held {
     let root = root(rt, alloc);
     let core = Core::new(alloc, &root).expect(rt, "memory");
@@ -60,7 +60,7 @@ fn is_taken(held: &mut Held, alloc: Global, step: Step) -> bool
     }
 }
 
-/// Whether it finds the log full.
+/// Whether the step is refused because the log is full.
 fn finds_it_full(held: &mut Held, alloc: Global, step: Step) -> bool
     requires { IsServed step }
 {
@@ -76,7 +76,7 @@ fn finds_it_full(held: &mut Held, alloc: Global, step: Step) -> bool
     }
 }
 
-/// The server that made the three steps. What is out of turn in between leaves no entry.
+/// A server that made the three steps. A step out of turn in between leaves no entry.
 pub(crate) fn kept(rt: &impl Abort, alloc: Global) -> Held {
     let mut held = held(rt, alloc);
     let namespace = text(rt, alloc, "default");
@@ -92,7 +92,7 @@ pub(crate) fn kept(rt: &impl Abort, alloc: Global) -> Held {
     held
 }
 
-/// The text of its log.
+/// The text of the server's log.
 fn written(rt: &impl Abort, alloc: Global, held: &Held) -> String {
     let root = root(rt, alloc);
     log_text(alloc, &root, held.log()).expect(rt, "memory")
@@ -116,7 +116,8 @@ fn a_full_log_takes_no_step(rt: HostRuntime) {
     drop(held);
 }
 
-/// What the worker sees that has taken the evaluation of a new job. It is the first or the second worker, and the job is its own.
+/// Registers a job for the worker, which is the first or the second. The worker dequeues the evaluation of the job and takes
+/// this snapshot.
 fn looked(
     rt: &impl Abort,
     alloc: Global,

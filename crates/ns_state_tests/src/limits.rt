@@ -1,4 +1,4 @@
-// Tables with ample memory, filled to their limits: one row more is refused as too many, and not for want of memory.
+// Tables are filled to their limits. One row more is refused as too many, and not for want of memory.
 
 use crate::made::{copied, digits, text};
 use crate::owned::with;
@@ -15,15 +15,16 @@ use ns_types::text::Text;
 use std::alloc::{AllocError, Global};
 use std::process::Abort;
 
-/// The numbers of which names are made, more than a table has room for. Names of as many digits rise with them.
+/// Names are made of the numbers from `FIRST` to `LAST`: more than a table has room for. They all have the same number of
+/// digits, so their order is that of the numbers.
 const FIRST: u64 = 10_000;
 
 const LAST: u64 = 21_000;
 
-/// The first number whose row was refused, and why.
+/// The first number whose row was refused, and the refusal.
 type Refused = Option<(u64, Refusal)>;
 
-/// Tables, with the index that is right for them.
+/// Tables, with the index that belongs to them.
 #[derive(Drop)]
 struct Indexed {
     tables: Tables,
@@ -37,7 +38,7 @@ fn opened(alloc: Global) -> Result<Indexed, AllocError> {
     })
 }
 
-/// Of what a row is put.
+/// What kind of record is put.
 #[derive(Clone, Copy)]
 enum Kind {
     Namespace,
@@ -55,7 +56,7 @@ fn namespace(rt: &impl Abort, alloc: Global) -> Namespace {
     }
 }
 
-/// What a row of the name changes, or what refuses it.
+/// The change that puts a row of this name, or its refusal.
 fn prepared(
     rt: &impl Abort,
     tables: &Tables,
@@ -83,7 +84,7 @@ fn prepared(
     }
 }
 
-/// Puts a row whose name is the number, and says what refuses it.
+/// Puts a row whose name is the number. Returns its refusal, if it is refused.
 fn put(rt: &impl Abort, state: &mut Indexed, kind: Kind, number: u64) -> Option<Refusal> {
     let name = digits(rt, state.tables.alloc, number);
     let prepared = prepared(rt, &state.tables, kind, &name);
@@ -107,7 +108,7 @@ fn fill(rt: &impl Abort, state: &mut Indexed, kind: Kind) -> Refused {
     None
 }
 
-/// The namespace `default` and the pool `default` are there, so 9,999 more of each have room.
+/// The namespace `default` and the pool `default` exist already, so there is room for 9,999 more of each.
 fn has_full_tables(rt: &impl Abort, state: &mut Indexed) -> bool {
     let namespaces = fill(rt, state, Kind::Namespace) == Some((19_999, Refusal::Full));
     let pools = fill(rt, state, Kind::Pool) == Some((19_999, Refusal::Full));
@@ -121,7 +122,7 @@ fn fills_tables(rt: HostRuntime) {
     assert!(rt; with(&rt, state, |state| has_full_tables(&rt, state)));
 }
 
-/// Puts a policy of the name.
+/// Puts a policy with this name.
 fn put_policy(rt: &impl Abort, alloc: Global, acl: &mut Acl, name: &Text) -> Option<Refusal> {
     let policy = Policy {
         description: text(rt, alloc, ""),
@@ -143,7 +144,7 @@ fn create_token(rt: &impl Abort, alloc: Global, acl: &mut Acl, secret: Text) -> 
     acl.create_token(&token).err()
 }
 
-/// Puts policies whose names are the numbers, or tokens whose secrets they are, until one is refused.
+/// Puts policies whose names are the numbers, or tokens whose secrets are the numbers, until one is refused.
 fn fill_acl(rt: &impl Abort, alloc: Global, acl: &mut Acl, is_token: bool) -> Refused {
     for number in FIRST..LAST {
         let name = digits(rt, alloc, number);
@@ -159,7 +160,7 @@ fn fill_acl(rt: &impl Abort, alloc: Global, acl: &mut Acl, is_token: bool) -> Re
     None
 }
 
-/// The bootstrap token is there, so 9,999 more have room.
+/// The bootstrap token exists already, so there is room for 9,999 more tokens.
 fn has_full_rights(rt: &impl Abort, alloc: Global, acl: &mut Acl) -> bool {
     let policies = fill_acl(rt, alloc, acl, false) == Some((20_000, Refusal::Full));
     let tokens = fill_acl(rt, alloc, acl, true) == Some((19_999, Refusal::Full));

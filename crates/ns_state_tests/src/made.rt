@@ -1,4 +1,4 @@
-// Values of which tests are made, with ample memory: where it is wanting, the test ends.
+// Values that tests are made of. A test ends where memory is missing.
 ghost use Rattle.std.specs.Prelude.{◌≡◌, ◌∷◌, [], IsTrue};
 ghost use Rattle.ns_types.specs.State.Name.{is_name};
 
@@ -26,7 +26,7 @@ pub(crate) fn digits(rt: &impl Abort, alloc: Global, number: u64) -> Text {
     Text::from_string(format!(in alloc; "{number}").expect(rt, "memory"))
 }
 
-/// The number's digits, which are a name of that kind.
+/// The digits of the number, as a name of that kind.
 pub(crate) fn numbered(rt: &impl Abort, alloc: Global, kind: NameKind, number: u64) -> Text
     ensures { IsTrue (is_name kind result) }
 {
@@ -53,7 +53,7 @@ pub(crate) fn both<T: Drop>(rt: &impl Abort, alloc: Global, first: T, second: T)
     rows
 }
 
-/// So much of each resource.
+/// The same amount of each resource.
 pub(crate) fn each(amount: u64) -> Resources {
     Resources {
         cpu: amount,

@@ -65,8 +65,8 @@ fn tables(rt: &impl Abort, alloc: Global) -> Tables {
     tables
 }
 
-/// What the follower waits for, if for a quota, the classes that are infeasible, whether a constraint escapes them, which
-/// release of the pool and of the quota the snapshot has, and whether the follower has missed one.
+/// The quota that the follower waits for, if any; its infeasible classes; whether a constraint escapes them; the releases of
+/// the pool and of the quota that the snapshot has; and whether the follower has missed a release.
 type Case<'a> = (Option<&'a str>, &'a [Named<'a>], bool, [u64; 2], bool);
 
 /// The snapshot, whose evaluation is the follower.

@@ -1,4 +1,4 @@
-// Commands of nodes, with ample memory: a call that was refused for memory is made again.
+// Commands about nodes. A command that was refused for want of memory is made again.
 ghost use Rattle.std.specs.Prelude.{IsTrue};
 ghost use Rattle.ns_types.specs.declared.name.NameKind.TheVariants as NameKind;
 ghost use Rattle.ns_types.specs.State.Limits.{is_amount};
@@ -61,7 +61,7 @@ fn refused(answer: &Result<Reply, Refusal>) -> Option<Refusal> {
     }
 }
 
-/// What refuses the command; nothing, where it is written.
+/// The refusal of the command. None: it is written.
 pub(crate) fn refusal(
     core: &mut Core,
     secret: &Text,

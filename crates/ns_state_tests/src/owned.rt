@@ -1,16 +1,16 @@
-// Each large value is owned by one of these alone, as the value of any type that it is for them. What looks at it has a reference.
+// Generic functions that own a large value, so that the code of a test only has a reference to it.
 
 use std::alloc::AllocError;
 use std::process::Abort;
 
-/// What `look` says of the value, which is then let go.
+/// What `look` returns for the value, which is then dropped.
 pub(crate) fn seen<T: Drop, S, F: FnOnce(&T) -> S>(value: T, look: F) -> S
     requires { F.IsAlwaysCallable look }
 {
     look(&value)
 }
 
-/// What `make` gives of the state, which it may change, and which is then let go.
+/// What `make` returns for the state, which it may change. The state is then dropped.
 pub(crate) fn with<T: Drop, S, F: FnOnce(&mut T) -> S>(
     rt: &impl Abort,
     state: Result<T, AllocError>,

@@ -1,5 +1,5 @@
-// That a plan stops those with the greatest numbers where more are live than the job asks for. No request brings that about: a job
-// with another count is another version, and all of the earlier one stop.
+// A plan stops the allocations with the greatest numbers, if more are live than the job asks for. No request brings that about:
+// a job with another count is another version, and all allocations of the earlier version stop.
 
 use crate::made::text;
 use crate::server::groups;
@@ -57,7 +57,7 @@ fn evaluation(rt: &impl Abort, alloc: Global) -> Evaluation {
     }
 }
 
-/// One of that job, on a node `n` of the pool `p`, which runs.
+/// An allocation of that job, which runs on a node `n` of the pool `p`.
 pub(crate) fn allocation(rt: &impl Abort, alloc: Global) -> Allocation {
     Allocation {
         job: text(rt, alloc, "web"),
@@ -90,7 +90,7 @@ fn own(rt: &impl Abort, alloc: Global, numbers: &[u64]) -> Rows<OwnAllocation> {
     own
 }
 
-/// What is planned from, where those with these numbers are live.
+/// The snapshot to plan from. The allocations with these numbers are live.
 pub(crate) fn looked(rt: &impl Abort, alloc: Global, live: &[u64]) -> Snapshot {
     Snapshot {
         namespace: text(rt, alloc, "ta"),
@@ -109,7 +109,7 @@ fn snapshot(rt: &impl Abort, alloc: Global, live: &[u64]) -> Shared<Snapshot> {
     Shared::new(alloc, looked(rt, alloc, live)).expect(rt, "memory")
 }
 
-/// The plan with ample memory: a call that was refused for memory is made again.
+/// The plan. A call that was refused for want of memory is made again.
 fn planned(rt: &impl Abort, alloc: Global, kept: &Shared<Snapshot>) -> Planned {
     let answer = match plan(alloc, kept.share().expect(rt, "memory")) {
         Err(Refusal::Memory) => plan(alloc, kept.share().expect(rt, "memory")),
@@ -118,7 +118,7 @@ fn planned(rt: &impl Abort, alloc: Global, kept: &Shared<Snapshot>) -> Planned {
     answer.expect(rt, "a plan")
 }
 
-/// Whether the plan stops these, places nothing, and is not short.
+/// Whether the plan stops exactly these allocations, places nothing, and is not short.
 fn only_stops(planned: &Planned, stops: &[u64]) -> bool {
     planned.plan().stops.as_slice() == stops
         && planned.plan().placing.placements.as_slice().is_empty()

@@ -5,7 +5,7 @@ use ns_types::text::Text;
 use std::alloc::Global;
 use std::process::Abort;
 
-/// The namespace, which uses so much of each resource, names the second quota in the place of the first.
+/// Moves the namespace, which uses `used` of each resource, from the quota `before` to the quota `after`.
 fn name(
     rt: &impl Abort,
     live: &mut Live,

@@ -1,11 +1,11 @@
-// The text of a log is read as it was written, and a line that is cut or says the same in other bytes is bad.
+// A log is read as it was written. A line that is cut, or that says the same in other bytes, is bad.
 use crate::steps::TEXT;
 use ns_log::log_text;
 use ns_log_reader::{LogFault, log_read};
 use std::alloc::Global;
 use std::process::Abort;
 
-/// The text of the log that is read from that text.
+/// Reads the text as a log, and writes that log again.
 fn copied(rt: &impl Abort, alloc: Global, text: &str) -> String {
     let log = log_read(alloc, text.as_bytes()).expect(rt, "a log");
     let copy = log_text(alloc, &log.secret, log.entries.as_slice()).expect(rt, "memory");
@@ -31,7 +31,7 @@ fn bad_line(alloc: Global, text: &[u8]) -> Option<u64> {
     }
 }
 
-/// The first bad line of the text that ends behind so many bytes: the one that is cut, or none.
+/// The number of the line that is cut, if the text does not end with a whole line.
 fn cut_line(text: &[u8]) -> Option<u64> {
     if text.ends_with(b"\n") {
         return None;
@@ -52,7 +52,8 @@ fn a_line_that_is_cut_is_bad(rt: HostRuntime) {
     }
 }
 
-/// A line that says the same in other bytes, or that no step within the limits has, and which one it is.
+/// Words of the log, the words that replace them, and the number of the line that is then bad: it says the same in other bytes,
+/// or it has no step within the limits.
 const BAD: [(&str, &str, u64); 10] = [
     ("nsd-log 3 0 root", "nsd-log 9 0 root", 1),
     ("nsd-log 3 0 root", "nsd-log 3 0 r t", 1),

@@ -1,5 +1,5 @@
-// Two thousand steps of two namespaces, made by runs and one by one: with ample memory both answer the same, and leave two cores
-// that look the same.
+// Two thousand steps of two namespaces are made by runs and one by one. Both ways give the same replies, and neither leaves an
+// evaluation or a plan behind.
 
 use crate::made::{copied, text};
 use crate::owned::{push, seen};
@@ -18,10 +18,10 @@ use ns_types::text::Text;
 use std::alloc::Global;
 use std::process::Abort;
 
-/// How many rounds the script has, of ten steps each, of which two are out of turn.
+/// How many rounds the script has. A round has ten steps, of which two are out of turn.
 const ROUNDS: u64 = 200;
 
-/// An answer is told by its kind, two numbers of it, and its index. A step out of turn has the kind 0, and a refusal 1.
+/// A reply in short: its kind, two of its numbers, and its index. A step out of turn has the kind 0, and a refusal 1.
 pub(crate) type Told = (u64, u64, u64, u64);
 
 fn told_content(content: &Content) -> (u64, u64, u64) {
@@ -63,7 +63,7 @@ pub(crate) fn told(answer: &Result<Reply, Refusal>) -> Told {
 
 // ---- the script
 
-/// The command of the only node: in the first round it is put, and later it is made eligible.
+/// The command about the only node: the first round puts it, and each later one makes it eligible.
 pub(crate) fn node_command(rt: &impl Abort, alloc: Global, round: u64) -> GoodNodeCommand {
     let name = text(rt, alloc, "n1");
     if round > 0 {
@@ -98,8 +98,9 @@ fn work(rt: &impl Abort, namespace: &Text, round: u64, place: u64) -> Step {
     }
 }
 
-/// The step at that place of a round: a job of the namespace is registered, and a worker takes its evaluation, which is the one
-/// of that number, looks, and looks once too often, has its plan applied and finishes. Then it takes it once too often.
+/// The step at this place of a round. A job of the namespace is registered, and a worker dequeues its evaluation, takes a
+/// snapshot, submits its plan, takes a snapshot out of turn, has its plan applied and finishes. Then it dequeues the evaluation
+/// again, out of turn.
 fn step_at(
     rt: &impl Abort,
     alloc: Global,
@@ -129,7 +130,7 @@ fn push_round(
     }
 }
 
-/// The namespace beside `default` is put.
+/// Puts the namespace `team`.
 pub(crate) fn team(rt: &impl Abort, alloc: Global, root: &Text) -> Step {
     let record = Namespace {
         description: text(rt, alloc, ""),
@@ -142,7 +143,7 @@ pub(crate) fn team(rt: &impl Abort, alloc: Global, root: &Text) -> Step {
     Step::Admin(Some(copied(rt, root)), GoodAdmin::new(command))
 }
 
-/// The rounds of the script, which go to the two namespaces in turn.
+/// Adds the rounds of the script, which go to the two namespaces in turn.
 fn push_rounds(rt: &impl Abort, alloc: Global, steps: &mut Vec<Step>, root: &Text) {
     let first = text(rt, alloc, "default");
     let second = text(rt, alloc, "team");
@@ -169,7 +170,7 @@ fn one_by_one(rt: &impl Abort, alloc: Global, core: &mut Core, steps: &[Step]) -
     all
 }
 
-/// Adds what a run was answered, and says how many steps of the list that leaves behind it.
+/// Adds the replies of a run. Returns how many steps of the list it has used, with the one at which it stopped.
 fn push_run(rt: &impl Abort, all: &mut Vec<Told>, ran: &Ran) -> usize {
     for answer in ran.answers.as_slice() {
         push(rt, all, told(answer));
@@ -181,7 +182,7 @@ fn push_run(rt: &impl Abort, all: &mut Vec<Told>, ran: &Ran) -> usize {
     ran.answers.len().saturating_add(1)
 }
 
-/// By runs, each of which goes on behind the step at which the last one stopped.
+/// Makes the steps by runs. Each run goes on after the step at which the last one stopped.
 fn by_runs(rt: &impl Abort, alloc: Global, core: &mut Core, steps: &[Step]) -> Vec<Told> {
     let mut all = Vec::new(alloc);
     let mut rest = steps;
@@ -198,7 +199,7 @@ fn by_runs(rt: &impl Abort, alloc: Global, core: &mut Core, steps: &[Step]) -> V
     all
 }
 
-/// Whether nothing is ready or planned any more, and the workers are idle.
+/// Whether no evaluation is ready, no plan is queued, and the workers are idle.
 fn rests(core: &Core) -> bool {
     let mut right = core.served().is_none() && core.first_plan().is_none();
     for worker in 0..4 {
@@ -217,7 +218,7 @@ fn count(all: &[Told], kind: u64) -> usize {
     count
 }
 
-/// Whether each round has its steps out of turn and no other step is, and none is refused.
+/// Whether each round has its two steps out of turn, no other step is out of turn, and none is refused.
 fn is_as_wanted(all: &[Told]) -> bool {
     let rounds = ROUNDS as usize;
     let mut right = all.len() == 1 + rounds * 10 && count(all, 0) == rounds * 2;
@@ -228,7 +229,7 @@ fn is_as_wanted(all: &[Told]) -> bool {
     right
 }
 
-/// What the steps are answered one by one by the core, which rests in the end.
+/// The replies of a core to the steps, made one by one. In the end its workers are idle.
 fn told_singly(rt: &impl Abort, alloc: Global, core: &mut Core, root: &Text) -> Vec<Told> {
     let steps = script(rt, alloc, root);
     let all = one_by_one(rt, alloc, core, steps.as_slice());
@@ -237,7 +238,7 @@ fn told_singly(rt: &impl Abort, alloc: Global, core: &mut Core, root: &Text) -> 
     all
 }
 
-/// The same, by runs.
+/// The replies of a core to the steps, made by runs. In the end its workers are idle.
 fn told_joined(rt: &impl Abort, alloc: Global, core: &mut Core, root: &Text) -> Vec<Told> {
     let steps = script(rt, alloc, root);
     let all = by_runs(rt, alloc, core, steps.as_slice());

@@ -1,4 +1,4 @@
-// What is asked in a namespace, with ample memory: a call that was refused for memory is made again.
+// Requests in a namespace. A request that was refused for want of memory is made again.
 ghost use Rattle.std.specs.Prelude.{◌≡◌, ◌∷◌, [], codes};
 
 use crate::made::{only, text};
@@ -42,7 +42,7 @@ pub(crate) fn groups(rt: &impl Abort, alloc: Global) -> Rows<Group>
     only(rt, alloc, group)
 }
 
-/// What `make` gives of a new core and of the secret of its first token.
+/// What `make` returns for a new core and the secret of its first token.
 pub(crate) fn with_core<R: Abort, S, F: FnOnce(&R, Global, &mut Core, &Text) -> S>(
     rt: &R,
     alloc: Global,
@@ -79,7 +79,7 @@ fn numbers(answer: &Result<Reply, Refusal>) -> Option<(u64, u64, u64)> {
     }
 }
 
-/// What refuses the command; nothing, where it is served.
+/// The refusal of the command. None: it is served.
 pub(crate) fn refusal(
     core: &mut Core,
     secret: &Text,
@@ -89,7 +89,7 @@ pub(crate) fn refusal(
     asked(core, Some(secret), namespace, command).err()
 }
 
-/// The numbers that a registration is answered: the evaluation's, its index, the job's.
+/// The numbers in the reply to a registration: the evaluation's number, its index, and the job's index.
 pub(crate) fn registered(
     core: &mut Core,
     secret: &Text,

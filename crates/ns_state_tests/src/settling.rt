@@ -25,12 +25,12 @@ fn rendered(rt: &impl Abort, alloc: Global, index: Option<u64>, body: &str) -> R
     }
 }
 
-/// The answer, which a receipt owns.
+/// The reply, as a receipt owns it.
 fn boxed(rt: &impl Abort, alloc: Global, answer: Rendered) -> Owned<Rendered> {
     Owned::boxed(alloc, answer).expect(rt, "memory")
 }
 
-/// The step, which a receipt owns.
+/// The step, as a receipt owns it.
 fn shared(rt: &impl Abort, alloc: Global, step: Step) -> Shared<Step> {
     Shared::new(alloc, step).expect(rt, "memory")
 }
@@ -59,7 +59,7 @@ fn of_worker(rt: &impl Abort, alloc: Global) -> Receipt {
     }
 }
 
-/// The receipts of a caller that asked this and, if it says so, took the worker's step.
+/// The receipts of a caller: of its request and, if `worked` is set, of the worker's step.
 fn seat(rt: &impl Abort, alloc: Global, asked: Receipt, worked: bool) -> Vec<Receipt> {
     let mut seat = Vec::new(alloc);
     push(rt, &mut seat, asked);
@@ -69,7 +69,7 @@ fn seat(rt: &impl Abort, alloc: Global, asked: Receipt, worked: bool) -> Vec<Rec
     seat
 }
 
-/// What becomes of the receipts of both.
+/// Settles the receipts of both callers against the log.
 fn settled(
     rt: &impl Abort,
     alloc: Global,

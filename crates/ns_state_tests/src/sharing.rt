@@ -1,5 +1,5 @@
-// Workers that look one after the other share the nodes that did not change. A node that changed is made anew, and what holds
-// it as it was keeps it so. What a job says stands once, for its row and for those who are shown it.
+// Workers that take snapshots one after another share the nodes that did not change. A node that changed is made anew, and an
+// older snapshot keeps it as it was. A job's document is kept once, for its row and for all snapshots.
 
 ghost use Rattle.std.specs.Prelude.{IsTrue};
 ghost use Rattle.ns_types.specs.declared.name.NameKind.TheVariants as NameKind;
@@ -18,7 +18,7 @@ use ns_types::text::Text;
 use std::alloc::Global;
 use std::process::Abort;
 
-/// How many own the only node that is seen, and whether it is eligible. None: not one node is seen.
+/// How many owners the only node of the snapshot has, and whether it is eligible. None: there is not exactly one node.
 fn only_node(seen: &Shared<Snapshot>) -> Option<(usize, bool)> {
     match seen.get().nodes.as_slice() {
         [node] => Some((node.owners(), node.get().row.eligible)),
@@ -26,7 +26,7 @@ fn only_node(seen: &Shared<Snapshot>) -> Option<(usize, bool)> {
     }
 }
 
-/// What the worker sees that takes the evaluation of that number.
+/// The snapshot of a worker that dequeues the evaluation with this number.
 fn sees(
     rt: &impl Abort,
     core: &mut Core,
@@ -38,7 +38,7 @@ fn sees(
     look(core, worker, namespace).expect(rt, "a snapshot")
 }
 
-/// Whether the job is seen, and so many own what it says.
+/// Whether the snapshot has the job, and this many owners share the job's document.
 fn has_document_of(seen: &Shared<Snapshot>, owners: usize) -> bool {
     match &seen.get().job {
         Some(job) => job.document.owners() == owners,
@@ -46,12 +46,12 @@ fn has_document_of(seen: &Shared<Snapshot>, owners: usize) -> bool {
     }
 }
 
-/// Whether only one node is seen, which so many own.
+/// Whether the snapshot has only one node, with this many owners and this eligibility.
 fn is_only(seen: &Shared<Snapshot>, owners: usize, eligible: bool) -> bool {
     only_node(seen) == Some((owners, eligible))
 }
 
-/// Whether the node is made ineligible.
+/// Makes the node ineligible. Returns whether that was done.
 fn shuts(rt: &impl Abort, core: &mut Core, root: &Text, default: &Text, node: &Text) -> bool {
     let shut = eligibility(rt, node, false);
     let refusal = refusal(core, root, default, &shut);
@@ -59,7 +59,7 @@ fn shuts(rt: &impl Abort, core: &mut Core, root: &Text, default: &Text, node: &T
     refusal.is_none()
 }
 
-/// Whether three workers that look one after the other share the node until it is made ineligible.
+/// Whether three workers that take snapshots one after another share the node until it is made ineligible.
 fn looks_share(rt: &impl Abort, core: &mut Core, root: &Text, default: &Text, node: &Text) -> bool {
     let first = sees(rt, core, 0, default, 1);
     let mut right = is_only(&first, 2, true) & has_document_of(&first, 2);
@@ -70,7 +70,7 @@ fn looks_share(rt: &impl Abort, core: &mut Core, root: &Text, default: &Text, no
     right & is_only(&first, 2, true) & is_only(&third, 2, false)
 }
 
-/// Whether a node is registered, and three jobs, each with an evaluation of its number.
+/// Whether a node and three jobs are registered. The evaluation of each job has the number of the job.
 fn registers(
     rt: &impl Abort,
     alloc: Global,

@@ -1,5 +1,5 @@
-// A copy of a core knows nobody's turn. It finds along its tables what the core has at hand: the same, in the same order. Each
-// order that is expected is written by hand.
+// A copy of a core has no queues yet, and finds the next evaluation in its tables. It serves and wakes the same evaluations as
+// the core, in the same order. Each expected order is written by hand.
 ghost use Rattle.std.specs.Prelude.{IsTrue, true};
 ghost use Rattle.std.specs.Option.{option_map_or};
 ghost use Rattle.ns_types.specs.State.Limits.{is_pool_name};
@@ -19,7 +19,7 @@ use ns_types::text::Text;
 use std::alloc::Global;
 use std::process::Abort;
 
-/// A job by the key of its first evaluation, with its priority, and whether its pool is `gpu`.
+/// A job: the key of its first evaluation, its priority, and whether its pool is `gpu`.
 type AskedJob<'a> = (KeyText<'a>, u64, bool);
 
 // ---- steps
@@ -31,7 +31,7 @@ fn is_made(alloc: Global, core: &mut Core, wanted: Step) -> bool {
     told.0 > 1
 }
 
-/// The pool beside `default` is put.
+/// Puts the pool `gpu`.
 fn gpu(rt: &impl Abort, alloc: Global, root: &Text) -> Step {
     let record = Pool {
         description: text(rt, alloc, ""),
@@ -50,7 +50,7 @@ fn pool(rt: &impl Abort, alloc: Global, gpu: bool) -> Option<Text>
     }
 }
 
-/// The job is registered, whose id is the number of its evaluation.
+/// Registers the job. Its id is the number of its evaluation.
 fn registered(rt: &impl Abort, alloc: Global, root: &Text, (key, priority, gpu): AskedJob) -> Step {
     assert!(rt; 1 <= priority && priority <= 100);
     let pool = pool(rt, alloc, gpu);
@@ -58,14 +58,14 @@ fn registered(rt: &impl Abort, alloc: Global, root: &Text, (key, priority, gpu):
     Step::Ask(text(rt, alloc, key.0), Some(copied(rt, root)), command)
 }
 
-/// Whether both namespaces and both pools are there, then.
+/// Puts the second namespace and the second pool. Returns whether both were put.
 fn begins(rt: &impl Abort, alloc: Global, core: &mut Core, root: &Text) -> bool {
     let team = team(rt, alloc, root);
     let gpu = gpu(rt, alloc, root);
     is_made(alloc, core, team) & is_made(alloc, core, gpu)
 }
 
-// ---- whose turn it is
+// ---- the next evaluation
 
 pub(crate) fn is_served(core: &Core, wanted: KeyText) -> bool {
     match core.served() {
@@ -81,7 +81,7 @@ fn is_busy(core: &Core, worker: u64, (namespace, number): KeyText) -> bool {
     }
 }
 
-/// Whether that one is served next, and the worker that takes it is busy with it.
+/// Whether this is the next evaluation, and the worker that dequeues it is busy with it.
 fn takes(rt: &impl Abort, alloc: Global, core: &mut Core, worker: u64, wanted: KeyText) -> bool {
     let served = is_served(core, wanted);
     let dequeue = Step::Dequeue(worker, text(rt, alloc, wanted.0), wanted.1);
@@ -90,7 +90,7 @@ fn takes(rt: &impl Abort, alloc: Global, core: &mut Core, worker: u64, wanted: K
 
 // ---- tests
 
-/// Those with the same priority stand apart, and not by their keys.
+/// Jobs of several priorities, mixed. Within a priority the order is not always that of their keys.
 static JOBS: [AskedJob; 9] = [
     (("default", 1), 40, false),
     (("team", 1), 70, false),
@@ -103,7 +103,7 @@ static JOBS: [AskedJob; 9] = [
     (("team", 5), 55, false),
 ];
 
-/// In which order they are served, and which are given back then: behind the others of their priority.
+/// The order in which the evaluations are dequeued, and whether each is then nacked: it comes after the others of its priority.
 static SERVED: [(KeyText, bool); 13] = [
     (("team", 3), false),
     (("team", 1), true),
@@ -120,7 +120,7 @@ static SERVED: [(KeyText, bool); 13] = [
     (("default", 2), false),
 ];
 
-/// Whether a copy serves the same as the core, and one that is made then has the worker as busy.
+/// Whether a copy of the core dequeues the same evaluation as the core, and a later copy has the worker as busy.
 fn both_take(
     rt: &impl Abort,
     alloc: Global,
@@ -162,7 +162,7 @@ fn a_copy_serves_in_the_same_order(rt: HostRuntime) {
     assert!(rt; with_core(&rt, alloc, serves_by_priority));
 }
 
-/// Each has one evaluation more before the next is registered, which is blocked.
+/// Each job gets a second evaluation, which is blocked, before the next job is registered.
 static BLOCKED: [AskedJob; 6] = [
     (("default", 1), 50, false),
     (("team", 1), 50, true),
@@ -172,7 +172,8 @@ static BLOCKED: [AskedJob; 6] = [
     (("team", 5), 50, false),
 ];
 
-/// Who is woken by a node of each pool, in this order, with the workers that take them.
+/// The evaluations that a node in the pool `default` wakes, in this order, with the workers that dequeue them. `OF_GPU` has
+/// those that a node in the pool `gpu` wakes.
 static OF_DEFAULT: [(u64, KeyText); 4] = [
     (0, ("default", 2)),
     (1, ("team", 4)),
@@ -182,7 +183,7 @@ static OF_DEFAULT: [(u64, KeyText); 4] = [
 
 static OF_GPU: [(u64, KeyText); 2] = [(4, ("team", 2)), (5, ("default", 6))];
 
-/// Whether the job is registered, and a worker finishes its evaluation, which finds no node.
+/// Whether the job is registered, and a worker finishes its evaluation without finding a node.
 fn blocks(rt: &impl Abort, alloc: Global, core: &mut Core, root: &Text, job: AskedJob) -> bool {
     let (namespace, number) = job.0;
     let dequeue = Step::Dequeue(0, text(rt, alloc, namespace), number);
@@ -196,7 +197,7 @@ fn blocks(rt: &impl Abort, alloc: Global, core: &mut Core, root: &Text, job: Ask
         & core.served().is_none()
 }
 
-/// Whether a node that is registered in the pool wakes these, in this order.
+/// Whether a node that is registered in the pool wakes these evaluations, in this order.
 fn wakes(
     rt: &impl Abort,
     alloc: Global,

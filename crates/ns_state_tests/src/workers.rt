@@ -1,4 +1,4 @@
-// A server's worker takes an evaluation and looks, with ample memory: a call that was refused for memory is made again.
+// A worker dequeues an evaluation and takes a snapshot. A call that was refused for want of memory is made again.
 ghost use Rattle.std.specs.Prelude.{◌≡◌, IfOk, Some};
 ghost use Rattle.ns_broker.specs.Snapping.{kept_at};
 
@@ -20,7 +20,7 @@ fn taken(answer: &Result<Reply, Refusal>) -> Result<Option<u64>, Refusal> {
     }
 }
 
-/// The evaluation that was taken, or why none was.
+/// The number of the evaluation that was dequeued, or the refusal.
 pub(crate) fn take(
     core: &mut Core,
     worker: u64,
@@ -34,7 +34,7 @@ pub(crate) fn take(
     seen(answer, taken)
 }
 
-/// The snapshot that is answered is the one that the worker's row keeps.
+/// Takes a snapshot. It is the one that the worker's row keeps.
 pub(crate) fn look(
     core: &mut Core,
     worker: u64,

@@ -5,7 +5,7 @@ use Rattle.ns_types.specs.declared.step.Step.{Step}
 use Rattle.ns_types.specs.State.Rows.{State}
 use Rattle.ns_types.specs.Steps.{Answer, after, said}
 
--- by the state for which a value stands, and what a step notes besides
+-- given the state for which a value stands, and what else holds of a step that was made
 module _ {S : Type 0} (state : S → State) (notes : S → Step → Answer → S → Type 0) where
   -- the step was made, with that answer
   pub record IsMade (old : S) (step : Step) (answer : Answer) (new : S) : Type 0 where
@@ -19,11 +19,11 @@ module _ {S : Type 0} (state : S → State) (notes : S → Step → Answer → S
   Chain s [] (answer ∷ answers) s' = ⊥
   Chain s (step ∷ steps) [] s' = ⊥
 
--- the call was refused for want of something, made no step, and changed nothing
+-- the call lacked something: it was refused for that, made no step, and changed nothing
 abbrev pub IsLacking : {S : Type 0} → (S → Refusal → Type 0) → S → Answer → S → Type 0
 IsLacking lacks old answer new = (refusal : Refusal) × (answer ≡ Err refusal) × lacks old refusal × (new ≡ old)
 
--- what a call for a step does, where that is all that it may lack
+-- a call for a step makes the step, or lacks something and changes nothing
 abbrev pub MakesOrLacks : {S : Type 0} → (S → State) → (S → Step → Answer → S → Type 0) → (S → Refusal → Type 0) →
     S → Step → Answer → S → Type 0
 MakesOrLacks state notes lacks old step answer new =

@@ -10,7 +10,8 @@ use Rattle.ns_types.specs.Steps.{Answer, Makes, act, after, is_allowed, is_past_
 use Rattle.ns_steps.specs.Answers.{answer_of}
 use Rattle.ns_steps.specs.Served.{IsServed, IsToldBy, is_reading}
 
--- its reply says what it should, it is never out of turn, and a read changes nothing
+-- The reply to a step that is served holds what the table says. Such a step is enabled in every state. A read changes
+-- nothing, whatever its answer.
 abbrev pub ServedTells : Type 0
 ServedTells = (step : Step) (s s' : State) (reply : Reply) → IsServed step → after step s ≡ said (Ok reply) s' →
     IsToldBy step reply.content
@@ -22,7 +23,7 @@ abbrev pub ReadingRests : Type 0
 ReadingRests = (step : Step) (s s' : State) (answer : Answer) → IsServed step → IsTrue (is_reading step) →
     after step s ≡ said answer s' → s' ≡ s
 
--- and it answers what its change says
+-- A read that is allowed, in a state whose counters are within their bounds, answers what its own change gives.
 abbrev pub ReadingMakes : Type 0
 ReadingMakes = (step : Step) (s : State) (result : Result Content Refusal) → is_allowed step s.acl ≡ true →
     is_past_bound s.world ≡ false → IsServed step → IsTrue (is_reading step)

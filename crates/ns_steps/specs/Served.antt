@@ -1,4 +1,5 @@
--- The steps that are served: one table, of what the reply to each of them holds.
+-- The steps that are served, which are those that requests ask for: one table says what the reply to each of them
+-- holds.
 use Rattle.std.specs.Prelude.{Bool, false, not, Option, Some, None, IsSome, IsSomeAnd}
 use Rattle.std.specs.Option.{option_map_or}
 use Rattle.ns_types.specs.declared.reply.Content.{Content}
@@ -8,7 +9,7 @@ use Rattle.ns_types.specs.declared.step.NodeCommand.{NodeCommand}
 use Rattle.ns_types.specs.declared.step.Step.{Step}
 use Rattle.ns_steps.specs.Told.{Shape, Holds, is_of_write}
 
--- ---- the table: all that requests ask, and no worker's step
+-- ---- the table: each step that requests ask for, and no worker's step
 
 abbrev pub served_ask : AskCommand → Option Shape
 served_ask (AskCommand.Register r) = Some Shape.Registered
@@ -63,14 +64,14 @@ served _ = None
 abbrev pub IsServed : Step → Type 0
 IsServed step = IsSome (served step)
 
--- of a line of the table: its command only reads
+-- whether the command of a line of the table only reads
 abbrev pub only_reads : Option Shape → Bool
 only_reads line = not (option_map_or is_of_write line false)
 
--- of the steps that are served
+-- whether a step that is served only reads
 abbrev pub is_reading : Step → Bool
 is_reading step = only_reads (served step)
 
--- its reply holds this
+-- the table says that the reply to the step holds this content
 abbrev pub IsToldBy : Step → Content → Type 0
 IsToldBy step content = IsSomeAnd (served step) (λ shape. Holds shape content)

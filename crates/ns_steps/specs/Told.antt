@@ -4,7 +4,7 @@ use Rattle.ns_types.specs.declared.reply.Content.{Content}
 use Rattle.ns_types.specs.declared.step.NewToken.{NewToken}
 
 pub data Shape : Type 0 where
-  -- of a read
+  -- what a read found
   Job : Shape
   Jobs : Shape
   Evaluation : Shape
@@ -21,16 +21,16 @@ pub data Shape : Type 0 where
   Nodes : Shape
   Policy : Shape
   Events : Shape
-  -- the numbers that a registration or a deregistration tells
+  -- the numbers in the reply to a registration or a deregistration
   Registered : Shape
-  -- those that a stop of an allocation tells
+  -- the numbers in the reply to the stop of an allocation
   Stopped : Shape
-  -- a write of a record has nothing to say
+  -- nothing: the reply to the write of a record
   Written : Shape
   -- the new token, with its secret
   TokenOf : NewToken → Shape
 
--- a reply that shows no rows is that of a write
+-- whether the reply is that of a write; it shows no rows
 abbrev pub is_of_write : Shape → Bool
 is_of_write Shape.Registered = true
 is_of_write Shape.Stopped = true

@@ -9,7 +9,7 @@ use ns_types::text::Text;
 /// What a worker does in a step.
 #[derive(Clone, Copy)]
 pub enum Work {
-    /// It takes the evaluation of that number.
+    /// It dequeues the evaluation with that number.
     Dequeue(u64),
     Snap,
     Submit,

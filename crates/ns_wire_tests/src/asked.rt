@@ -1,4 +1,4 @@
-// What good words come to.
+// What good words ask for.
 use ns_api::Driven;
 use ns_command_line::{Invocation, read};
 use ns_pipe::{Printed, WordsRead};
@@ -6,7 +6,7 @@ use ns_types::text::Text;
 use std::net::{Ipv4Addr, Ipv6Addr, SocketAddr};
 use std::rt::HostRuntime;
 
-/// Whether a connection is asked for with the secret `root` and these.
+/// Whether the words ask for a connection with the secret `root`, and choose this driver and this output.
 fn is_pipe(wanted: &Invocation, driven: Driven, printed: Printed) -> bool {
     match wanted {
         Invocation::Run(WordsRead::Pipe(secret, drives, prints)) => {
@@ -33,7 +33,7 @@ fn are_words(texts: &[Text], words: &[&str]) -> bool {
     right
 }
 
-/// Whether the namespace `ta` is to run alone from that entry on, with these pools and these quotas.
+/// Whether the words ask to replay the namespace `ta` alone from this entry on, with these pools and these quotas.
 fn is_alone(wanted: &Invocation, count: u64, pools: &[&str], quotas: &[&str]) -> bool {
     match wanted {
         Invocation::Run(WordsRead::Alone(replay)) => {
@@ -83,8 +83,8 @@ fn alone_with_pools_and_quotas(rt: HostRuntime) {
     assert!(rt; is_alone(&both, 1, &["east", "p-1", "east"], &["q_2", "qa"]));
 }
 
-/// Whether this server is asked for, with these workers, connections, connections to accept, idle seconds, entries, and entries and
-/// bytes to rotate at.
+/// Whether the words ask for a server with this address and secret, and with these workers, connections, connections to accept,
+/// idle seconds, entries of the log, and entries and bytes to rotate at.
 fn is_serve(
     wanted: &Invocation,
     address: SocketAddr,

@@ -45,7 +45,7 @@ fn run(alloc: Global, reader: Slow<'_>, room: usize) -> RunLeft {
     }
 }
 
-/// Whether the run left these.
+/// Whether the run left this status, this output and these errors.
 fn leaves(left: &RunLeft, status: u8, written: &[&[u8]], errors: &[u8]) -> bool {
     let mut rest = left.written.as_slice();
     for part in written {
@@ -57,7 +57,7 @@ fn leaves(left: &RunLeft, status: u8, written: &[&[u8]], errors: &[u8]) -> bool 
     rest.is_empty() && left.status == status && left.errors.as_slice() == errors
 }
 
-/// Whether both requests are answered when each read gives so many bytes.
+/// Whether both requests are answered when each read gives at most `step` bytes.
 fn is_answered(alloc: Global, step: usize) -> bool {
     let left = run(alloc, giving(INPUT, step), usize::MAX);
     leaves(&left, 0, &[REGISTERED, LISTED], b"")
@@ -70,7 +70,7 @@ fn input_is_served_at_any_cut(rt: HostRuntime) {
     }
 }
 
-/// Whether a run over all but the last byte answers the first request, and then tells of a read fault.
+/// Whether a run over all but the last byte answers the first request, and then reports a read fault.
 fn is_read_fault(alloc: Global, fails: bool) -> bool {
     let reader = Slow {
         rest: &INPUT[..INPUT.len() - 1],
@@ -87,7 +87,7 @@ fn input_that_ends_inside_a_request_or_fails(rt: HostRuntime) {
     assert!(rt; is_read_fault(rt.alloc(), true));
 }
 
-/// Whether a run whose output takes only these bytes tells of a write fault.
+/// Whether a run whose output takes only these bytes reports a write fault.
 fn is_write_fault(alloc: Global, taken: &[u8]) -> bool {
     let left = run(alloc, giving(INPUT, usize::MAX), taken.len());
     leaves(&left, 4, &[taken], b"write fault\n")

@@ -7,7 +7,7 @@ use std::alloc::{AllocError, Allocator, Global};
 use std::io::{self, ErrorKind, Read, Write};
 use std::test::Fail;
 
-/// Shows each request back: method, target, token and body.
+/// Answers each request with its method, target, token and body.
 #[derive(Drop)]
 struct Echo<A: Allocator> {
     alloc: A,
@@ -93,7 +93,7 @@ const OUTPUT: &[u8] =
 /// The length of the first reply.
 const FIRST_LEN: usize = 179;
 
-/// Whether both requests are answered where each read gives so many bytes.
+/// Whether both requests are answered when each read gives at most `step` bytes.
 fn answers_both(alloc: Global, step: usize) -> bool {
     let out = talk(alloc, giving(INPUT, step), wide(alloc));
     out.result == Ok(2) && out.bytes.as_slice() == OUTPUT && out.writes <= 2
@@ -107,7 +107,7 @@ fn any_cut(rt: HostRuntime) -> Result<(), Fail> {
     Ok(())
 }
 
-/// Whether this input ends so, after so many steps and with these bytes written.
+/// Whether a connection with this input ends with `end`, after `steps` steps and with these bytes written.
 fn ends_so(
     alloc: Global,
     input: &[u8],
@@ -137,7 +137,7 @@ fn every_prefix(rt: HostRuntime) -> Result<(), Fail> {
     Ok(())
 }
 
-/// Whether the fault of a read ends the connection, after so many steps and with these bytes written.
+/// Whether the fault of a read ends the connection, after `steps` steps and with these bytes written.
 fn ends_at_a_read(alloc: Global, reader: Slow<'_>, steps: u64, shown: &[u8]) -> bool {
     let out = talk(alloc, reader, wide(alloc));
     out.result == Err(ConnFault::Read)
@@ -259,7 +259,7 @@ impl Write for Hindered {
     }
 }
 
-/// Whether the connection ends as the writer fault that so many interrupted writes are.
+/// Whether too many interrupted writes end the connection with a write fault.
 fn is_interrupted_out(alloc: Global) -> bool {
     let mut reader = Counted::new(giving(INPUT, 4096));
     let mut writer = Counted::new(Hindered);
@@ -340,10 +340,10 @@ fn refused_heads(rt: HostRuntime) {
     }
 }
 
-/// What is repeated, between a front and an end.
+/// A front, a part that is repeated, and an end.
 type RepeatedParts<'a> = (&'a [u8], &'a [u8], &'a [u8]);
 
-/// The front, so many times the middle, and the end.
+/// The front, the middle `count` times, and the end.
 fn repeated(
     alloc: Global,
     (front, middle, end): RepeatedParts<'_>,
@@ -387,7 +387,7 @@ fn is_read_in_room(alloc: Global, input: &[u8]) -> bool {
     out.result == Ok(1) && out.reads <= (input.len() / READ_ROOM) as u64 + 2
 }
 
-/// Whether the longest body is served, and read in room.
+/// Whether the longest body is served, by no more reads than its length takes.
 fn serves_the_longest(alloc: Global) -> Result<bool, AllocError> {
     let large: RepeatedParts<'_> = (
         b"POST / HTTP/1.0\r\nContent-Length: 1048576\r\n\r\n",
@@ -410,7 +410,7 @@ fn limits(rt: HostRuntime) -> Result<(), Fail> {
     Ok(())
 }
 
-/// What came of a connection whose handler has little memory.
+/// How a connection ended whose handler has little memory.
 #[derive(Clone, Copy)]
 struct Budgeted {
     result: Result<u64, ConnFault>,

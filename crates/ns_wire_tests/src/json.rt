@@ -1,4 +1,5 @@
-// What no stored text shows: a document whose bytes are no text. A call that is refused for want of memory is made once more.
+// A document whose bytes are no text, which no stored text can show. A call that is refused for want of memory is made once
+// more.
 use ns_json::{RegistrationDocument, read_registration};
 use ns_types::refusal::Refusal;
 use std::alloc::Global;

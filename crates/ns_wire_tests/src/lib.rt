@@ -1,6 +1,6 @@
-//! Tests, through their public calls, the crates that read requests and write replies, the arguments, and a run by them: what
-//! stored lines cannot show, as readers and writers that fail, and texts on standard error. Expected bytes are written from the
-//! formats, not from the program.
+//! Tests, through their public calls, the crates that read requests, write replies, read the arguments and run the program by
+//! them. The tests show what stored lines cannot: readers and writers that fail, and texts on standard error. Expected bytes
+//! are written from the formats, not from the program.
 #![tactic(auto)]
 
 #[cfg(test)]

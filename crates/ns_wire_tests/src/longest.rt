@@ -1,4 +1,4 @@
-// The longest bodies: registrations and policies that blanks fill up to the limit, and one byte more.
+// The longest bodies: registrations and policies that are filled with blanks up to the limit, and to one byte more.
 use crate::repeated::repeated;
 use ns_documents::read_policy;
 use ns_http::{Answer, Counted, Request, serve};
@@ -51,7 +51,7 @@ impl Answer for Reading {
     }
 }
 
-/// A request whose body is this document, behind blanks that make it so long.
+/// A request whose body is this document after blanks, `len` bytes in all.
 fn request_of(alloc: Global, document: &str, len: usize) -> Result<String, AllocError> {
     let head = format!(in alloc; "POST / HTTP/1.0\r\nContent-Length: {len}\r\n\r\n")?;
     repeated(
@@ -72,7 +72,7 @@ fn answered(mut reading: Reading, input: &[u8]) -> Result<Vec<u8>, AllocError> {
     }
 }
 
-/// Whether a body of this document that is so long is answered so.
+/// Whether a body of this document, filled with blanks to `len` bytes, gets this reply.
 fn is_answered(
     reading: Reading,
     document: &str,
@@ -107,7 +107,7 @@ fn registration_of_the_longest_body(rt: HostRuntime) -> Result<(), Fail> {
     Ok(())
 }
 
-/// A policy of one rule, whose text a comment makes so long.
+/// A policy of one rule, whose text is filled to `len` bytes by a comment.
 fn policy(alloc: Global, len: usize) -> Result<String, AllocError> {
     let rule = "namespace \\\"a\\\" { policy = \\\"read\\\" } #";
     // Each of the four quotes of the text is written as two bytes.
@@ -122,7 +122,7 @@ fn policy(alloc: Global, len: usize) -> Result<String, AllocError> {
     )
 }
 
-/// Whether a policy of so many bytes of rules is answered so, in a body that has at least so many.
+/// Whether a policy with `rules` bytes of rules, in a body of at least `len` bytes, gets this reply.
 fn is_policy_answered(
     reading: Reading,
     rules: usize,

@@ -1,5 +1,5 @@
-// What no request shows: lists so deep that no stored text has them, and the texts of faults. Each call may be refused for want of
-// memory once, and then answers as with ample memory.
+// Lists so deep that no stored text has them, and the texts of faults. A call that is refused for want of memory is made once
+// more.
 use crate::repeated::repeated;
 use ns_policy::{RuleFault, read_rules};
 use ns_types::acl::Rule;
@@ -18,7 +18,7 @@ fn fault_of(alloc: Global, text: &str) -> Option<RuleFault> {
     read(alloc, text).err()
 }
 
-/// The fault of the attribute whose value is so many lists, one in the other, where this follows.
+/// The fault of an attribute whose value is `depth` lists, one in the other, and that is followed by `end`.
 fn fault_of_lists(alloc: Global, depth: usize, end: &str) -> Result<Option<RuleFault>, AllocError> {
     let opened = repeated(alloc, "x=", "[", depth, "")?;
     let text = repeated(alloc, opened.as_str(), "]", depth, end)?;

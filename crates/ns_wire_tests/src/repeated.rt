@@ -1,7 +1,7 @@
 // Long texts.
 use std::alloc::{AllocError, Global};
 
-/// A text so many times, between two others.
+/// A text, repeated `times` times, between two others.
 fn joined(
     alloc: Global,
     before: &str,
@@ -17,7 +17,7 @@ fn joined(
     Ok(text)
 }
 
-/// The same, built again where memory ran out.
+/// A text, repeated `times` times, between two others. It is built again if memory ran out.
 pub(crate) fn repeated(
     alloc: Global,
     before: &str,

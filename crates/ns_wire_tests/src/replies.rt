@@ -1,4 +1,5 @@
-// What no request shows: replies to writes without the room of a write. Each is made again where memory ran out.
+// Replies to writes that are rendered without the room of a write, which no request shows. A reply is rendered again if memory
+// ran out.
 ghost use Rattle.std.specs.Prelude.{◌≡◌, IfOk};
 ghost use Rattle.ns_replies.specs.Rendered.{IsRendered};
 
@@ -7,7 +8,7 @@ use ns_types::reply::{Content, Reply, Response};
 use std::alloc::{AllocError, Global};
 use std::test::Fail;
 
-/// A reply in a box, whose drop is sooner proved.
+/// A reply in a box, since the drop of a box is proved sooner.
 fn boxed(alloc: Global, content: Content) -> Result<Box<Reply>, AllocError>
     ensures { IfOk result (λ reply. reply.value.content ≡ content) }
 {
@@ -50,7 +51,7 @@ fn body(response: &Response) -> &str {
     }
 }
 
-/// Whether the body is these two texts, one after the other, which are sooner proved to be text.
+/// Whether the body is these two texts, one after the other. It is proved sooner that each of the two is text.
 fn shows(alloc: Global, registers: bool, first: &str, rest: &str) -> Result<bool, AllocError> {
     let response = shown(alloc, registers)?;
     Ok(body(&response).strip_prefix(first) == Some(rest))

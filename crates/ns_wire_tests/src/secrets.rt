@@ -1,4 +1,4 @@
-// The secret that a token is. Its bytes need not be a text. A call that is refused for want of memory is made once more.
+// The secret of a token, whose bytes need not be text. A call that is refused for want of memory is made once more.
 use ns_request::secret;
 use ns_types::text::Text;
 use std::alloc::{AllocError, Global};

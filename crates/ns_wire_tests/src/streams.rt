@@ -2,7 +2,7 @@
 use std::alloc::Global;
 use std::io::{self, ErrorKind, Read, Write};
 
-/// Gives at most `step` bytes a read, and fails after so many reads.
+/// Gives at most `step` bytes a read, and fails after `left` reads.
 #[derive(Drop)]
 pub(crate) struct Slow<'a> {
     pub(crate) rest: &'a [u8],
@@ -24,7 +24,7 @@ impl Read for Slow<'_> {
     }
 }
 
-/// Takes at most `step` bytes a write, and so many in all. Then it fails, or takes nothing.
+/// Takes at most `step` bytes a write, and `room` bytes in all. Then it fails if `fails` is set, and otherwise takes nothing.
 #[derive(Drop)]
 pub(crate) struct Narrow {
     pub(crate) bytes: Vec<u8>,
@@ -49,7 +49,7 @@ impl Write for Narrow {
     }
 }
 
-/// Takes all.
+/// A writer that takes all bytes.
 pub(crate) fn wide(alloc: Global) -> Narrow {
     Narrow {
         bytes: Vec::new(alloc),
@@ -59,7 +59,7 @@ pub(crate) fn wide(alloc: Global) -> Narrow {
     }
 }
 
-/// Gives all, at most `step` bytes a read.
+/// A reader that gives all bytes, at most `step` a read.
 pub(crate) fn giving(rest: &[u8], step: usize) -> Slow<'_> {
     Slow {
         rest,

@@ -9,7 +9,7 @@ use Rattle.ns_replies.specs.Bodies.{body_bytes}
 abbrev pub entry_answer : Entry → Rendered
 entry_answer entry = entry.1
 
--- it answers a worker's step
+-- the content answers a worker's step
 abbrev pub is_work : Content → Bool
 is_work (Content.Took n) = true
 is_work (Content.Snapped n) = true
@@ -19,6 +19,6 @@ is_work (Content.Finished status follower) = true
 is_work (Content.Nacked status) = true
 is_work _ = false
 
--- its body has no more bytes than are taken for it
+-- the body of the content has no more bytes than are taken for it
 abbrev pub FitsItsBytes : Content → Type 0
 FitsItsBytes content = IsSomeAnd (body_bytes content) (λ bytes. length (body_of content) ≤ bytes)

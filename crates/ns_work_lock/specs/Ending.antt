@@ -1,4 +1,4 @@
--- What is seen of a server that came out of its lock.
+-- How contracts see a server that came out of its lock.
 use Rattle.ns_work_log.specs.Logs.{History}
 use Rattle.ns_work_lock.specs.declared.ended.Ended.{Ended}
 

@@ -1,4 +1,4 @@
--- How it stands with those who share a server: whom a call wakes, and who entered and left.
+-- The threads that share a server: which of them a call wakes, and which entered and left.
 use Rattle.std.specs.Prelude.{ℕ, ◌+◌, ◌-◌, ◌%◌, ◌^◌, ◌==◌, Bool, true, false, ◌&&◌, ◌||◌, if◌then◌else◌, is_some, length, min}
 use Rattle.std.specs.Prelude.{Option, Some, None, nat_le, nat_lt}
 use Rattle.ns_driver.specs.declared.worker_step.WorkerStep.{WorkerStep}
@@ -11,7 +11,7 @@ use Rattle.ns_work_lock.specs.declared.changes.Wakes.{Wakes}
 
 -- ---- changes that others wait for
 
--- whom a worker's step wakes
+-- the threads that a worker's step wakes
 abbrev pub wakes_of : WorkerStep → Wakes
 wakes_of (WorkerStep.Dequeue evaluation) = Wakes.WhereServed
 wakes_of (WorkerStep.Submit planned) = Wakes.Planned
@@ -19,7 +19,7 @@ wakes_of WorkerStep.Apply = Wakes.Applied
 wakes_of (WorkerStep.Finish planned) = Wakes.WhereServedOrClosed
 wakes_of WorkerStep.Nack = Wakes.WhereServedOrClosed
 
--- whether a call offers work to a worker that is idle
+-- whether a call offers work to an idle worker
 abbrev pub offers_work : Wakes → Bool
 offers_work Wakes.WhereServed = true
 offers_work Wakes.WhereServedOrClosed = true
@@ -36,18 +36,18 @@ abbrev pub is_planned : Wakes → Bool
 is_planned Wakes.Planned = true
 is_planned _ = false
 
--- whether all who wait have something to do: workers end once they are idle and the server is closed
+-- whether all waiting threads are woken; workers end once they are idle and the server is closed
 abbrev pub is_of_all : Wakes → Bool → Bool
 is_of_all Wakes.All is_closed = true
 is_of_all Wakes.WhereServedOrClosed is_closed = is_closed
 is_of_all _ is_closed = false
 
--- whether the log has just as many entries as it is rotated at; so it is once, on its way to more
+-- whether the log has exactly as many entries as it is rotated at, which it has once as it grows
 abbrev pub is_due : Option ℕ → ℕ → Bool
 is_due (Some entries) len = len == entries
 is_due None len = false
 
--- who is woken: a worker only where an evaluation is served, and the applier also to rotate the log
+-- the threads that are woken: an idle worker only if there is a next evaluation, and the applier also to rotate the log
 abbrev pub notified : Wakes → Option ℕ → Bool → History → Notified
 notified wakes rotates_at is_closed h = record {
   idle = offers_work wakes && is_some (served_ready h.state.world);
@@ -59,21 +59,21 @@ notified wakes rotates_at is_closed h = record {
 abbrev pub is_any : Notified → Bool
 is_any notified = notified.idle || notified.planners || notified.applier || notified.all
 
--- one change more, where somebody is woken; the number wraps
+-- the number of changes, one more if a thread is woken; it wraps
 abbrev pub changes_after : Bool → ℕ → ℕ
 changes_after wakes changes = if wakes then (changes + 1) % 2 ^ 64 else changes
 
 -- ---- the bytes of text of the log's entries, as far as they were counted
 
--- so many more; the number ends with 64 bits
+-- the bytes and `more` more; the number stops at the greatest `u64`
 abbrev pub bytes_after : ℕ → ℕ → ℕ
 bytes_after bytes more = min (bytes + more) (2 ^ 64 - 1)
 
--- whether they pass the limit just now
+-- whether the bytes pass the limit from `old` to `new`
 abbrev pub passes : ℕ → ℕ → ℕ → Bool
 passes limit old new = nat_le old limit && nat_lt limit new
 
--- ---- who entered and left; the number of workers wraps
+-- ---- the threads that entered and left; the number of workers wraps
 
 abbrev pub workers_entered : Role → ℕ → ℕ
 workers_entered Role.Worker workers = (workers + 1) % 2 ^ 64

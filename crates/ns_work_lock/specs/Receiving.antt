@@ -1,4 +1,4 @@
--- What a seat gains by a call.
+-- The receipts that a call adds to a seat.
 use Rattle.std.specs.Prelude.{◌≡◌, ◌⊎◌, ℕ, List, [], ◌∷◌, ◌++◌, Option, Some, None, Result, Ok, Err}
 use Rattle.ns_types.specs.declared.refusal.Refusal.{Refusal}
 use Rattle.ns_types.specs.declared.reply.Rendered.{Rendered}
@@ -13,27 +13,26 @@ use Rattle.ns_work_log.specs.Logs.{History, HasPlace, IsFull, IsLogged}
 abbrev pub receipt : ℕ → Step → Rendered → Receipt
 receipt place step rendered = record { place = place; step = step; rendered = rendered }
 
--- with one receipt more, where a step was answered
+-- the receipts, and one more if a step was answered
 abbrev pub received : ℕ → Step → Option Rendered → List Receipt → List Receipt
 received place step None receipts = receipts
 received place step (Some rendered) receipts = receipts ++ receipt place step rendered ∷ []
 
--- how many receipts that is
+-- how many receipts are added
 abbrev pub count : Option Rendered → ℕ
 count None = 0
 count (Some rendered) = 1
 
 -- ---- a worker's call
 
--- a call for the step is handed a plan
+-- a call for the step takes a plan
 abbrev pub TakesPlan : Step → Type 0
 TakesPlan (Step.Submit worker ns) = Unit {0}
 TakesPlan (Step.Finish worker ns) = Unit {0}
 TakesPlan _ = ⊥
 
--- For want of memory, where the log is full, where the step is out of turn, and where the plan that it is handed is of
--- another snapshot, it made no step, and adds no receipt. Every other call adds one: at some place that step, with the
--- answer as bytes.
+-- A call made no step, and adds no receipt, if no memory was left, the log is full, the step is out of turn, or its plan is of
+-- another snapshot. Every other call adds one receipt: it has some place, the step and the answer as bytes.
 abbrev pub Receives : Step → List Receipt → Answer → List Receipt → Type 0
 Receives step old (Err Refusal.Memory) new = new ≡ old
 Receives step old (Err Refusal.LogFull) new = new ≡ old
@@ -43,29 +42,29 @@ Receives step old answer new = (place : ℕ) × (new ≡ old ++ receipt place st
 
 -- ---- a call for a step that a request asks for
 
--- It adds one receipt: at some place that step, with the bytes of the response. Where there was no memory or the log is
--- full it adds none.
+-- The call adds one receipt: it has some place, the step and the bytes of the response. If no memory was left or the log is
+-- full, the call adds none.
 abbrev pub Asks : {A : Type 0} → Step → List Receipt → Result (Response A) Refusal → List Receipt → Type 0
 Asks step old (Ok response) new = (place : ℕ) × (new ≡ old ++ receipt place step (rendered_of response) ∷ [])
 Asks step old (Err refusal) new = (new ≡ old) × ((refusal ≡ Refusal.Memory) ⊎ (refusal ≡ Refusal.LogFull))
 
--- the bytes of the response, where there is one
+-- the bytes of the response, if there is one
 abbrev pub answered : {A : Type 0} → Result (Response A) Refusal → Option Rendered
 answered (Ok response) = Some (rendered_of response)
 answered (Err refusal) = None
 
--- of what is handed out for a step: the receipt's bytes, where there are some
+-- the receipt's bytes, of the two that a call for a step returns, if it made the step
 abbrev pub receipt_of : {A : Type 0} → Result (Rendered × Response A) Refusal → Option Rendered
 receipt_of (Ok given) = Some given.0
 receipt_of (Err refusal) = None
 
--- and the response
+-- the response, of the two that a call for a step returns
 abbrev pub response_of : {A : Type 0} → Result (Rendered × Response A) Refusal → Result (Response A) Refusal
 response_of (Ok given) = Ok given.1
 response_of (Err refusal) = Err refusal
 
--- Of the server: the step was made and logged, and the response is its answer; or the log is full, which comes before all
--- else, or there was no memory, and nothing changed.
+-- What the call does to the server: the step was made and logged, and the response is its answer; or nothing changed, because
+-- the log is full, which is reported first, or no memory was left.
 abbrev pub LogsAsked : {A : Type 0} → Step → History → Result (Response A) Refusal → History → Type 0
 LogsAsked step old (Ok response) new =
     HasPlace old × ((answer : Answer) × IsLogged step old answer new × (rendered_of response ≡ rendered answer))

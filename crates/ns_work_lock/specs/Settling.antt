@@ -7,7 +7,8 @@ use Rattle.ns_log.specs.Settling.{IsFault, Settles}
 use Rattle.ns_replay.specs.Rerunning.{IsNoRunAt}
 use Rattle.ns_log.specs.Segments.{Follows, Given, IsGap, joined}
 
--- What settled: where the log begins, all of its entries, how many of them were given out in segments, and where they lead.
+-- A settled log: the state in which it begins, all of its entries, how many of them were given out in segments, and the state
+-- to which they lead.
 pub record Settlement : Type 0 where
   pub base : State
   pub log : List Entry
@@ -18,26 +19,26 @@ pub record Settlement : Type 0 where
 abbrev pub present : Settlement → List Entry
 present s = drop s.given s.log
 
--- the log is a run from where it begins to where it leads
+-- the log is a run from its first state to its last
 abbrev pub IsRun : Settlement → Type 0
 IsRun s = IsKept s.base s.log s.state
 
--- there are seats whose receipts settle with it
+-- there are seats whose receipts settle with the log
 abbrev pub IsSettled : List Entry → Type 0
 IsSettled log = (seats : List (List Receipt)) × Settles log seats
 
--- ---- yes
+-- ---- what settles
 
--- it is the log of the segments and of the entries after them, from the first state
+-- the settled log is that of the segments and of the entries after them, from the first state
 pub record IsOf (first : State) (segments : List Given) (start : ℕ) (log : List Entry) (s : Settlement) : Type 0 where
   pub base : s.base ≡ first
   pub joins : s.log ≡ joined segments log
   pub given : s.given ≡ start
   pub rest : present s ≡ log
 
--- ---- no
+-- ---- what does not settle
 
--- a receipt of the log is at fault, or a place has none; or all settle, and an entry does not fit after those before it
+-- a receipt of the log is wrong, or a place has none; or all receipts settle, and an entry does not fit after those before it
 abbrev pub SettlesNot : State → List Entry → List (List Receipt) → ℕ → ℕ → Type 0
 SettlesNot first log seats seat place = IsFault log seats seat place
     ⊎ (Settles log seats × (seat ≡ length seats) × IsNoRunAt first log place)

@@ -1,4 +1,4 @@
--- Entries that nobody needs any more.
+-- Entries that are needed no more.
 use Rattle.std.specs.Prelude.{List, [], ◌++◌, Option, Some, None}
 use Rattle.std.specs.declared.vec.Vec.{Vec}
 use Rattle.ns_types.specs.declared.reply.Rendered.{Rendered}
@@ -10,6 +10,6 @@ abbrev pub left : {X A : Type 0} → Option (Vec X A) → List X
 left None = []
 left (Some entries) = entries.items
 
--- all that are left, those that go first at the end
+-- all entries that are left; the one that is dropped next stands last
 abbrev pub waiting : Spent → List (Step × Rendered)
 waiting s = left s.last ++ left s.former

@@ -1,4 +1,4 @@
-//! What callers that wait look at.
+//! What waiting threads look at, and which of them a call wakes.
 
 ghost use Rattle.std.specs.Prelude.{◌≡◌};
 ghost use Rattle.ns_work_lock.specs.Moments.{is_any, is_applied, is_left, is_of_all, is_planned, offers_work, wakes_of};
@@ -8,14 +8,14 @@ use ns_types::key::EvalKey;
 use ns_types::text::Text;
 use ns_types::worker::Phase;
 
-/// Who enters and leaves.
+/// What a thread that enters and leaves is.
 #[derive(Clone, Copy)]
 pub enum Role {
     Worker,
     Applier,
 }
 
-/// How far the applier is.
+/// Whether the applier has begun, and whether it has left.
 #[derive(Clone, Copy)]
 pub(crate) enum Stage {
     Awaited,
@@ -34,22 +34,23 @@ impl Stage {
 /// Which of the waiting threads a call wakes.
 #[derive(Clone, Copy)]
 pub(crate) enum Wakes {
-    /// Nobody: it leaves nothing to do, but to its caller.
+    /// Nobody: the call leaves nothing for others to do.
     Nobody,
-    /// A worker that is idle, where an evaluation is ready.
+    /// An idle worker, if there is a next evaluation.
     WhereServed,
-    /// The same, and all where the server is closed, since workers end once they are idle.
+    /// An idle worker, if there is a next evaluation; and all threads if the server is closed, since workers end once they are
+    /// idle.
     WhereServedOrClosed,
     /// The applier, for the plan that was handed in.
     Planned,
-    /// The workers whose plans wait, since one was applied, and one that is idle where an evaluation is ready.
+    /// The workers whose plans wait, since one was applied; and an idle worker, if there is a next evaluation.
     Applied,
-    /// All.
+    /// All waiting threads.
     All,
 }
 
 impl Wakes {
-    /// Which of them a worker's step wakes.
+    /// The threads that a worker's step wakes.
     pub(crate) fn of(step: &WorkerStep<'_>) -> Wakes
         ensures { result ≡ wakes_of step.now }
     {
@@ -61,7 +62,7 @@ impl Wakes {
         }
     }
 
-    /// Whether it wakes a worker that is idle, where an evaluation is ready.
+    /// Whether an idle worker is woken, if there is a next evaluation.
     pub(crate) fn offers_work(self) -> bool
         ensures { result ≡ offers_work self }
     {
@@ -71,21 +72,21 @@ impl Wakes {
         )
     }
 
-    /// Whether it wakes the workers whose plans wait.
+    /// Whether the workers whose plans wait are woken.
     pub(crate) fn is_applied(self) -> bool
         ensures { result ≡ is_applied self }
     {
         matches!(self, Wakes::Applied)
     }
 
-    /// Whether it wakes the applier.
+    /// Whether the applier is woken for a plan.
     pub(crate) fn is_planned(self) -> bool
         ensures { result ≡ is_planned self }
     {
         matches!(self, Wakes::Planned)
     }
 
-    /// Whether it wakes all, where the server is closed or not.
+    /// Whether all waiting threads are woken, by whether the server is closed.
     pub(crate) fn is_of_all(self, is_closed: bool) -> bool
         ensures { result ≡ is_of_all self is_closed }
     {
@@ -97,7 +98,7 @@ impl Wakes {
     }
 }
 
-/// Who is notified.
+/// The threads that are notified.
 #[derive(Clone, Copy)]
 pub(crate) struct Notified {
     /// One worker that waits for an evaluation.
@@ -105,7 +106,7 @@ pub(crate) struct Notified {
     /// The workers that wait for their plans to be applied.
     pub(crate) planners: bool,
     pub(crate) applier: bool,
-    /// All that wait.
+    /// All waiting threads.
     pub(crate) all: bool,
 }
 
@@ -128,7 +129,7 @@ pub enum WaitsFor {
     Plans,
 }
 
-/// The counts of a server's workers and of those who wait.
+/// What waiting threads see of a shared server at one moment.
 #[derive(Clone, Copy)]
 pub struct Moment {
     /// How many changes there were that others wait for. It wraps.
@@ -136,7 +137,7 @@ pub struct Moment {
     pub is_closed: bool,
     /// How many workers entered and have not left.
     pub workers: u64,
-    /// The applier entered, and left.
+    /// Whether the applier entered and left.
     pub applier_left: bool,
 }
 
@@ -158,16 +159,16 @@ pub struct Planner {
     pub namespace: Text,
 }
 
-/// What a worker looks at before its turn, all of one moment.
+/// What a worker sees before its turn, all of one moment.
 #[derive(Drop)]
 pub struct WorkerView {
     pub seen: Moment,
     pub busy: Option<BusyWorker>,
-    /// The next evaluation, where the worker is idle.
+    /// The next evaluation, if the worker is idle.
     pub next: Option<EvalKey>,
 }
 
-/// What the applier looks at before its turn, all of one moment.
+/// What the applier sees before its turn, all of one moment.
 #[derive(Drop)]
 pub struct ApplierView {
     pub seen: Moment,

@@ -11,7 +11,7 @@ use ns_types::refusal::Refusal;
 use ns_types::reply::{Content, Rendered, Reply};
 use ns_work_log::EntryRoom;
 
-/// Whether it answers a worker's step.
+/// Whether the content answers a worker's step.
 fn is_work(content: &Content) -> bool
     ensures { result ≡ is_work content.now }
 {
@@ -26,7 +26,7 @@ fn is_work(content: &Content) -> bool
     )
 }
 
-/// The answer again, in the room that was taken for it. It is copied, if it is of a worker's step that was made.
+/// The answer as bytes once more, in the room that was taken for it. The answer of a worker's step that was made is copied.
 fn repeat(room: EntryRoom, shown: &Rendered, answer: &Result<Reply, Refusal>) -> Owned<Rendered>
     requires room { IfOk answer.now (λ reply. HasRoom room reply.content) }
     requires shown { shown.now ≡ rendered answer.now }
@@ -39,8 +39,8 @@ fn repeat(room: EntryRoom, shown: &Rendered, answer: &Result<Reply, Refusal>) ->
     }
 }
 
-/// The answer again, in the room that was taken for it, if the call made a step: its entry stands at that place then, and
-/// nothing does else. It takes no memory.
+/// The answer as bytes once more, in the room that was taken for it, if the call made a step: then its entry stands at that
+/// place, and otherwise no entry does. It takes no memory.
 pub(crate) fn repeat_entry(
     room: EntryRoom,
     log: &[Entry],

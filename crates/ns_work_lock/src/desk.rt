@@ -1,4 +1,4 @@
-//! What lies under the lock of a shared server.
+//! What the lock of a shared server guards.
 
 ghost use Rattle.std.specs.Option.{option_map_or};
 ghost use Rattle.std.specs.Prelude.{◌≡◌, false, is_some, length, nat_lt, true};
@@ -11,7 +11,7 @@ use crate::changes::{Moment, Notified, Role, Stage, Wakes};
 use crate::ended::Ended;
 use std::sync::ledger::Ledger;
 
-/// A server with its log, and the counts of its workers and of those who wait.
+/// A server with its log, and the counts of its changes and of its workers.
 #[derive(Drop)]
 pub(crate) struct Desk<L: Ledger> {
     pub(crate) kept: Ended<L>,
@@ -26,7 +26,7 @@ pub(crate) struct Desk<L: Ledger> {
 }
 
 impl<L: Ledger> Desk<L> {
-    /// Nobody has entered yet.
+    /// A desk that no thread has entered yet.
     pub(crate) fn new(kept: Ended<L>) -> Desk<L>
         ensures { result ≡ record {
           kept = kept;
@@ -47,7 +47,7 @@ impl<L: Ledger> Desk<L> {
         }
     }
 
-    /// How it stands now.
+    /// The present moment, as waiting threads see it.
     pub(crate) fn moment(&self) -> Moment
         ensures { result ≡ record {
           changes = self.now.changes;
@@ -70,7 +70,7 @@ impl<L: Ledger> Desk<L> {
         self.kept.held.core().has_served()
     }
 
-    /// Whether the log has just as many entries as it is rotated at.
+    /// Whether the log has exactly as many entries as it is rotated at.
     fn is_due(&self, rotates_at: Option<u64>) -> bool
         ensures { result ≡ is_due rotates_at (length self.now.kept.held.log) }
     {
@@ -80,7 +80,7 @@ impl<L: Ledger> Desk<L> {
         }
     }
 
-    /// Who is notified by a call that wakes those.
+    /// The threads that are notified by a call that wakes these.
     fn notified(&self, wakes: Wakes, rotates_at: Option<u64>) -> Notified
         ensures { result ≡ notified wakes rotates_at self.now.is_closed self.now.kept.held }
     {
@@ -92,7 +92,7 @@ impl<L: Ledger> Desk<L> {
         }
     }
 
-    /// Counts a change, if anyone is notified. Who is.
+    /// Counts a change, if any thread is notified. Returns which threads are.
     pub(crate) fn stir(&mut self, wakes: Wakes, rotates_at: Option<u64>) -> Notified
         ensures notified { let held = self.old.kept.held in
             result ≡ notified wakes rotates_at self.old.is_closed held }
@@ -117,7 +117,7 @@ impl<L: Ledger> Desk<L> {
         }
     }
 
-    /// Counts so many bytes of text more, and a change where they pass the limit just now. Whether they do.
+    /// Counts `more` bytes of text more, and a change if they pass the limit now. Returns whether they do.
     pub(crate) fn weigh(&mut self, more: u64, limit: u64) -> bool
         ensures passed { let bytes = bytes_after self.old.bytes more in
             result ≡ passes limit self.old.bytes bytes }

@@ -22,8 +22,8 @@ use std::sync::ledger::{Blank, Book, Ledger, Share};
 /// The parts of the ledger: one for each seat.
 pub const PARTS: u64 = u64::MAX;
 
-/// A server with its log, the book that counts the entries, those that were given out among them, and the parts that no seat
-/// has.
+/// A server with its log, the book that counts the entries, including those that were given out, and the parts of the ledger
+/// that no seat has.
 #[derive(Drop)]
 pub struct Ended<L: Ledger> {
     pub(crate) held: Held,
@@ -37,7 +37,7 @@ pub struct Ended<L: Ledger> {
 }
 
 impl<L: Ledger> Ended<L> {
-    /// With no seats yet.
+    /// A server with its log, and no seats yet.
     pub(crate) fn new(held: Held, blank: Blank) -> Ended<L>
         requires empty { held.log ≡ [] }
         requires first { held.start ≡ 0 }
@@ -111,7 +111,8 @@ impl<L: Ledger> Ended<L> {
         self.held.log().len() as u64
     }
 
-    /// Gives out the log, and begins the next one where the server is. It is no step, and the book stays as it is.
+    /// Gives out the log, and begins the next one in the present state. It is no step, and the book stays as it is. Want of
+    /// memory is the only error.
     pub(crate) fn rotate(&mut self, alloc: Global) -> Result<Segment, Refusal>
         ensures rotated { IfOk result (λ segment. IsRotated self.old.held segment self.new.held) }
         ensures same { OnErr result (self.new.held ≡ self.old.held) }

@@ -1,4 +1,4 @@
-//! Shares a server and its log between threads. Each caller has a seat, which keeps what it was answered.
+//! Shares a server and its log between threads. Each caller has a seat, which keeps the receipts of its calls.
 #![tactic(auto)]
 
 mod changes;

@@ -1,4 +1,4 @@
-//! Looks at a server that give what its callers keep.
+//! Looks at a server, with results that the callers can keep.
 
 ghost use Rattle.std.specs.Prelude.{◌≡◌, IfOk, IsNone, option_map};
 ghost use Rattle.ns_types.specs.Working.Looks.{row_of, served_ready};
@@ -11,10 +11,10 @@ use ns_types::key::EvalKey;
 use ns_types::text::same_text;
 use std::alloc::AllocError;
 
-/// Past the numbers of workers.
+/// The end of the numbers of workers: each number is below it.
 pub const WORKERS_END: u64 = 64;
 
-/// The next evaluation: the first of those of the highest priority.
+/// The next evaluation: the first of the ready ones that have the highest priority. Want of memory is the only error.
 pub(crate) fn served(core: &Core) -> Result<Option<EvalKey>, AllocError>
     ensures { IfOk result (λ key. key ≡ served_ready core.now.world) }
 {
@@ -24,7 +24,7 @@ pub(crate) fn served(core: &Core) -> Result<Option<EvalKey>, AllocError>
     }
 }
 
-/// What the worker is busy with. None: it is idle.
+/// What the worker is busy with. None: it is idle. Want of memory is the only error.
 pub(crate) fn busy(core: &Core, worker: u64) -> Result<Option<BusyWorker>, AllocError>
     ensures { IfOk result (λ busy.
         option_map fields_of busy ≡ option_map busy_of (row_of core.now.world worker)) }
@@ -40,7 +40,7 @@ pub(crate) fn busy(core: &Core, worker: u64) -> Result<Option<BusyWorker>, Alloc
     }
 }
 
-/// Whether the worker has this evaluation in the namespace: a look-up there.
+/// Whether the worker has this evaluation in its namespace. It is one look-up.
 fn has_evaluation(core: &Core, worker: u64, key: &EvalKey) -> bool
     ensures { result ≡ has_evaluation core.now.world worker key.now }
 {
@@ -50,7 +50,7 @@ fn has_evaluation(core: &Core, worker: u64, key: &EvalKey) -> bool
     }
 }
 
-/// Whether the worker is busy with this evaluation. Only of one that has it there all namespaces are asked.
+/// Whether the worker is busy with this evaluation. It looks at all namespaces only if the worker has the evaluation there.
 fn is_busy_with(core: &Core, worker: u64, key: &EvalKey) -> bool
     ensures { result ≡ is_busy_with core.now.world worker key.now }
 {
@@ -65,7 +65,7 @@ fn is_busy_with(core: &Core, worker: u64, key: &EvalKey) -> bool
     }
 }
 
-/// The first worker that is busy with this evaluation.
+/// The first worker that is busy with this evaluation. Want of memory is the only error.
 fn first_at(core: &Core, key: &EvalKey) -> Result<Option<Planner>, AllocError>
     ensures { IfOk result (λ found. IsFirstAt core.now.world key.now found) }
 {
@@ -78,7 +78,7 @@ fn first_at(core: &Core, key: &EvalKey) -> Result<Option<Planner>, AllocError>
     Ok(None)
 }
 
-/// The first worker that is busy with the evaluation whose plan is next.
+/// The first worker that is busy with the evaluation whose plan is next. Want of memory is the only error.
 pub(crate) fn planner(core: &Core) -> Result<Option<Planner>, AllocError>
     ensures { IfOk result (λ found. IsFirstPlanner core.now.world found) }
 {
@@ -88,7 +88,7 @@ pub(crate) fn planner(core: &Core) -> Result<Option<Planner>, AllocError>
     }
 }
 
-/// What the worker looks at before its turn, at that moment.
+/// What the worker sees before its turn, at that moment. Want of memory is the only error.
 pub(crate) fn worker_view(core: &Core, worker: u64, seen: Moment) -> Result<WorkerView, AllocError>
     ensures seen { IfOk result (λ view. view.seen ≡ seen) }
     ensures busy { IfOk result (λ view.
@@ -110,7 +110,7 @@ pub(crate) fn worker_view(core: &Core, worker: u64, seen: Moment) -> Result<Work
     })
 }
 
-/// What the applier looks at before its turn, at that moment.
+/// What the applier sees before its turn, at that moment. Want of memory is the only error.
 pub(crate) fn applier_view(
     core: &Core,
     seen: Moment,

@@ -36,7 +36,8 @@ pub(crate) struct Ready {
     pub(crate) number: u64,
 }
 
-/// The step with room for its answer, by the row of the worker whose step it is, as the next one of the server.
+/// The step with room for its answer, as the server's next one. `row` is the row of the worker that makes the step. Want of
+/// memory is the only error.
 fn with_room(
     alloc: Global,
     held: &Held,
@@ -65,8 +66,8 @@ fn with_room(
     }
 }
 
-/// The step in which a worker does that, with two owners, its entry and its receipt, if the log takes one more entry; with a
-/// place for the receipt, and with room for its answer by the worker's row.
+/// The worker's step of this kind with two owners, its entry and its receipt; with room for the receipt, and for its answer by
+/// the worker's row. The errors are `LogFull`, if the log takes no more entries, and `Memory`.
 pub(crate) fn prepare_work(
     alloc: Global,
     held: &Held,

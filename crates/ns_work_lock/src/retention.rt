@@ -1,4 +1,4 @@
-//! Whether what a caller was answered stays in memory.
+//! Decides whether the receipts of a seat stay in memory.
 
 ghost use Rattle.std.specs.Prelude.{◌≡◌, Bool, false, true};
 
@@ -10,7 +10,7 @@ pub trait Retention: Drop {
         ensures { result ≡ retains };
 }
 
-/// All do, so that the seat can be settled.
+/// All receipts stay, so that the seat can be settled.
 #[derive(Drop)]
 pub struct Retains;
 
@@ -22,7 +22,7 @@ impl Retention for Retains {
     }
 }
 
-/// With each call those of the calls before go, so that the seat stays as small. It can't be settled.
+/// Each call drops the receipts of the calls before it, so that the seat stays small. Such a seat can't be settled.
 #[derive(Drop)]
 pub struct Forgets;
 

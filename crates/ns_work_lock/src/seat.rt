@@ -1,4 +1,4 @@
-//! What one caller was answered.
+//! The receipts of one caller.
 
 ghost use Rattle.std.specs.Prelude.{◌≡◌, ◌+◌, ◌++◌, ◌<◌, [], IfOk, IfSome, OnOk, false, length, true};
 ghost use Rattle.std.specs.Prelude.{vec_capacity, vec_len};
@@ -20,11 +20,11 @@ use std::alloc::{AllocError, Global};
 use std::marker::{Model, PhantomData};
 use std::sync::ledger::{Book, Ledger, Share};
 
-/// The receipts of one caller, in the order of its calls. Contracts see them alone, those that are no longer in memory too. Their
-/// number is its share of the ledger's total.
+/// The receipts of one caller, in the order of its calls. Contracts see only the receipts, including those that are no longer
+/// in memory. Their number is the seat's share of the ledger's total.
 #[derive(Drop)]
 pub struct Seat<L: Ledger, M: Retention> {
-    /// Those that are no longer in memory, which come first.
+    /// The receipts that are no longer in memory, which come first.
     pub(crate) past: Past,
     pub(crate) receipts: Vec<Receipt>,
     pub(crate) share: Share<L>,
@@ -44,7 +44,7 @@ impl<L: Ledger, M: Retention> Model for Seat<L, M> {
         × (M.retains ≡ true → s.past.receipts ≡ []) };
 }
 
-/// Those that need not stay in memory go.
+/// Drops the receipts that need not stay in memory.
 fn forget<M: Retention>(past: &mut Past, receipts: &mut Vec<Receipt>)
     ensures all { past.new.receipts ++ receipts.new.items ≡ past.old.receipts ++ receipts.old.items }
     ensures number { length past.new.receipts + vec_len receipts.new
@@ -71,7 +71,8 @@ fn line_bytes(alloc: Global, receipt: &Receipt) -> Option<u64>
 }
 
 impl<L: Ledger, M: Retention> Seat<L, M> {
-    /// Receipts that need not stay in memory go from it. It is no call, and the seat has them as before. How many stay in memory.
+    /// Drops the receipts that need not stay in memory. It is no call, and contracts see the seat as before. Returns how many
+    /// receipts stay in memory.
     pub(crate) fn forget(&mut self) -> usize
         ensures { self.new ≡ self.old }
     {
@@ -79,8 +80,8 @@ impl<L: Ledger, M: Retention> Seat<L, M> {
         self.receipts.len()
     }
 
-    /// How many bytes of text the entry has that was added last, where it was added since so many receipts were in memory, and there
-    /// is memory to render it.
+    /// The bytes of text of the last entry, if it was added since `before` receipts were in memory. 0 if it was not, or if
+    /// there is no memory to render it.
     pub(crate) fn added_bytes(&self, alloc: Global, before: usize) -> u64 {
         if self.receipts.len() == before {
             return 0;
@@ -111,7 +112,7 @@ fn begin(held: &Held) -> Result<(), Refusal>
     Ok(())
 }
 
-/// A place for a receipt, if the log takes one more entry.
+/// Makes room for a receipt, if the log takes one more entry. The errors are `LogFull` and `Memory`.
 pub(crate) fn prepare_place(held: &Held, receipts: &mut Vec<Receipt>) -> Result<(), Refusal>
     ensures begins { Begins (length held.now.log) held.now.limit result }
     ensures place { OnOk result (vec_len receipts.new < vec_capacity receipts.new) }
@@ -122,7 +123,7 @@ pub(crate) fn prepare_place(held: &Held, receipts: &mut Vec<Receipt>) -> Result<
     Ok(())
 }
 
-/// The step with two owners, its entry and its receipt.
+/// The step with two owners, its entry and its receipt. Want of memory is the only error.
 pub(crate) fn shared_twice(
     alloc: Global,
     step: Step,
@@ -135,7 +136,8 @@ pub(crate) fn shared_twice(
     Ok((entry, receipt))
 }
 
-/// The step with two owners, and with a place for its receipt, if the log takes one more entry.
+/// The step with two owners, and with room for its receipt, if the log takes one more entry. The errors are `LogFull` and
+/// `Memory`.
 pub(crate) fn prepare_shared(
     alloc: Global,
     held: &Held,
@@ -156,7 +158,7 @@ pub(crate) fn prepare_shared(
     Ok((entry, receipt))
 }
 
-/// Adds a receipt, and counts it, where a step was answered.
+/// Adds a receipt, and counts it, if a step was answered.
 pub(crate) fn receive<L: Ledger>(
     receipts: &mut Vec<Receipt>,
     share: &mut Share<L>,
@@ -186,7 +188,7 @@ pub(crate) fn receive<L: Ledger>(
     }
 }
 
-/// Adds the receipt of what was handed out for a step that a request asks for, and gives the response.
+/// Adds the receipt of the step that a request asks for, if it was made, and returns the response.
 pub(crate) fn receive_given<L: Ledger>(
     receipts: &mut Vec<Receipt>,
     share: &mut Share<L>,

@@ -1,4 +1,4 @@
-//! Whether segments, the receipts of all seats and the log agree.
+//! Decides whether segments, the receipts of all seats and the log agree.
 
 ghost use Rattle.std.specs.Prelude.{◌≡◌, ◌+◌, ◌≤◌, ℕ, IfOk, IsErrOf, IsOkUnless, OnOk};
 ghost use Rattle.std.specs.Prelude.{length, map, sum_by, vec_items, vec_len};
@@ -25,15 +25,15 @@ use std::marker::Model;
 use std::snapshot::Snapshot;
 use std::sync::ledger::{Ledger, Share};
 
-/// A log with which the receipts of seats have settled, whole: with what was given out of it in segments. `Ended::settle` alone
-/// makes one. Contracts see it as a settlement.
+/// A whole log, with the entries that were given out in segments, with which the receipts of seats have settled. Only
+/// `Ended::settle` makes one. Contracts see it as a settlement.
 pub struct SettledLog {
-    /// Where the log begins.
+    /// The server where the log begins.
     base: Snapshot<Core>,
     log: Vec<Entry>,
     /// How many of its entries were given out.
     given: u64,
-    /// Where the log leads.
+    /// The server to which the log leads.
     core: Core,
 }
 
@@ -71,7 +71,7 @@ impl Model for SettledLog {
 }
 
 impl SettledLog {
-    /// The server where the log leads, to be looked at.
+    /// The server to which the log leads, for reading.
     pub fn core(&self) -> &Core
         ensures { result.now ≡ self.now.state }
     {
@@ -101,7 +101,8 @@ impl SettledLog {
     }
 }
 
-/// Takes the shares of the seats into this one, and gives out their receipts, a list for each.
+/// Merges the shares of the seats into this one, and returns their receipts, a list for each seat. Want of memory is the only
+/// error.
 fn take_in<L: Ledger>(
     alloc: Global,
     rest: &mut Share<L>,
@@ -126,7 +127,8 @@ fn take_in<L: Ledger>(
     Ok(lists)
 }
 
-/// Takes in the shares of the seats, and gives out their receipts, a list for each.
+/// Takes in the shares of the seats, and returns the server with its log, and their receipts, a list for each seat. Want of
+/// memory is the only error.
 fn hand_in<L: Ledger>(
     alloc: Global,
     ended: Ended<L>,
@@ -152,7 +154,8 @@ fn hand_in<L: Ledger>(
     Ok((held, lists))
 }
 
-/// The log of so many seats, settled: their receipts agree with it, and it is a run from the first state.
+/// Settles the log: the receipts of the seats agree with it, and it is a run from the first state. The error is the first
+/// mismatch, or want of memory.
 fn settle_run(
     alloc: Global,
     first: &Core,
@@ -188,22 +191,22 @@ fn settle_run(
 }
 
 impl<L: Ledger> Ended<L> {
-    /// The server with its log, to be looked at.
+    /// The server with its log, for reading.
     pub fn held(&self) -> &Held
         ensures { result.now ≡ held_of self.now }
     {
         &self.held
     }
 
-    /// Hands out the log, whole, if the segments, the receipts of the seats and the log agree. Looked at are, in this order:
+    /// Returns the whole log, if the segments, the receipts of the seats and the log agree. It checks in this order:
     ///
     /// 1. whether the segments follow each other from the first entry on, and the log follows the last;
     /// 2. whether the receipts settle with the segments and the log, joined: within each seat the places rise, all receipts
     ///    together name each place once, and each receipt is the entry at its place;
     /// 3. whether the joined log is a run from the first state, with its replies.
     ///
-    /// The first fault is a mismatch: of 1 and 3 with the number of seats and the place. Where all seats that were made are
-    /// handed in, they have as many receipts as there were entries.
+    /// The error is the first fault, as a mismatch: a fault of 1 or 3 has the number of seats and the place. Want of memory is
+    /// the only other error. If all seats that were made are handed in, they have as many receipts as there were entries.
     #[tactic(none)]
     pub fn settle(
         self,

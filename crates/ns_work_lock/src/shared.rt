@@ -42,13 +42,13 @@ pub struct Shared<L: Ledger> {
     idle: Condvar,
     /// Workers that wait for their plans to be applied.
     planners: Condvar,
-    /// The applier, where it waits.
+    /// The applier, if it waits.
     applier: Condvar,
     /// Entries that were given out and that are needed no more.
     spent: Mutex<Spent>,
-    /// With how many entries the log is rotated. None: never.
+    /// The number of entries at which the log is rotated. None: never.
     pub rotates_at: Option<u64>,
-    /// It is rotated as well where its entries have more than so many bytes of text.
+    /// The log is rotated as well if its entries have more bytes of text than this.
     pub rotates_past: Option<u64>,
 }
 
@@ -67,8 +67,8 @@ impl<L: Ledger> Drop for Shared<L> {
 }
 
 impl<L: Ledger> Shared<L> {
-    /// Shares a server whose log begins, counted by this ledger. Who adds an entry wakes the applier where the log has as many as
-    /// it is rotated at, or more than so many bytes of text.
+    /// Shares a server whose log begins, counted by this ledger. A call that adds an entry wakes the applier if the log then
+    /// has `rotates_at` entries, or passes `rotates_past` bytes of text.
     pub fn new(
         held: Held,
         blank: Blank,
@@ -101,7 +101,7 @@ impl<L: Ledger> Shared<L> {
         self.desk.lock(rt).kept.seat::<M>(alloc)
     }
 
-    /// Counts a change where anyone is notified. Who is.
+    /// Counts a change, if any thread is notified. Returns which threads are.
     fn stir(&self, desk: &mut Desk<L>, wakes: Wakes) -> Notified
         ensures { let held = desk.old.kept.held in
             let any = is_any (notified wakes self.now.rotates_at desk.old.is_closed held) in
@@ -110,7 +110,7 @@ impl<L: Ledger> Shared<L> {
         desk.stir(wakes, self.rotates_at)
     }
 
-    /// Notifies them. The caller has released the lock, so none of them wakes only to wait for it.
+    /// Notifies these threads. The caller has released the lock, so none of them wakes only to wait for it.
     fn notify(&self, notified: Notified) {
         if notified.all {
             self.idle.notify_all();
@@ -125,8 +125,8 @@ impl<L: Ledger> Shared<L> {
         }
     }
 
-    /// Counts the bytes of text of the entry that was added last, where the log is rotated by them, and wakes those who wait where
-    /// they pass its limit just now. The entry is rendered with no lock held.
+    /// Counts the bytes of text of the entry that was added last, if the log is rotated by them, and wakes the applier if they
+    /// pass the limit now. The entry is rendered with no lock held.
     fn weigh<R: Wait, M: Retention>(
         &self,
         rt: &R,
@@ -143,13 +143,13 @@ impl<L: Ledger> Shared<L> {
         }
     }
 
-    /// Lets an entry go that is needed no more. No lock is held meanwhile.
+    /// Drops one entry that is needed no more. No lock is held meanwhile.
     fn let_go<R: Wait>(&self, rt: &R) {
         let entry = self.spent.lock(rt).take_out();
         drop(entry);
     }
 
-    /// What follows each call for a step.
+    /// Does what follows each call for a step.
     fn follow<R: Wait, M: Retention>(
         &self,
         rt: &R,
@@ -187,7 +187,7 @@ impl<L: Ledger> Shared<L> {
         answer
     }
 
-    /// Makes the step of the worker in the namespace, and wakes those whom it concerns once the lock is free.
+    /// Makes the step of the worker in the namespace, and wakes the threads that it concerns once the lock is free.
     fn work<R: Wait, M: Retention>(
         &self,
         rt: &R,
@@ -211,7 +211,7 @@ impl<L: Ledger> Shared<L> {
         answer
     }
 
-    /// Makes the step in which a worker takes the evaluation of that number in the namespace, which is the next one.
+    /// Makes the step in which a worker dequeues the evaluation of that number in the namespace, which is the next one.
     pub fn dequeue<R: Wait, M: Retention>(
         &self,
         rt: &R,
@@ -333,7 +333,8 @@ impl<L: Ledger> Shared<L> {
         self.work(rt, alloc, seat, worker, namespace, WorkerStep::Nack)
     }
 
-    /// Gives out the log, and begins the next one where the server is. It makes no step, adds no receipt, and wakes nobody.
+    /// Gives out the log, and begins the next one in the present state. It makes no step, adds no receipt, and wakes nobody.
+    /// Want of memory is the only error.
     pub fn rotate<R: Wait>(&self, rt: &R, alloc: Global) -> Result<Segment, Refusal>
         ensures { IfErr result (λ refusal. refusal ≡ Refusal.Memory) }
     {
@@ -343,14 +344,14 @@ impl<L: Ledger> Shared<L> {
         Ok(segment)
     }
 
-    /// Takes a segment that is needed no more. Its entries go one by one, each with a later call for a step, so that their memory
-    /// comes back where entries are made. Two segments wait so at most: what is left of one before them goes now.
+    /// Takes a segment that is needed no more. Each later call for a step drops one of its entries, so that their memory comes
+    /// back where entries are made. At most two segments wait so: what is left of one before them is dropped now.
     pub fn spend<R: Wait>(&self, rt: &R, segment: Segment) {
         let left = self.spent.lock(rt).add(segment);
         drop(left);
     }
 
-    /// How many entries are left of the two segments that were spent last, first of the earlier one.
+    /// How many entries are left of the two segments that were spent last: of the earlier one, and of the later one.
     pub fn spent<R: Wait>(&self, rt: &R) -> (u64, u64) {
         self.spent.lock(rt).counts()
     }
@@ -360,7 +361,8 @@ impl<L: Ledger> Shared<L> {
         self.desk.lock(rt).kept.entries()
     }
 
-    /// Whether the log has as many entries as it is rotated at or more, or more bytes of text than it is rotated past.
+    /// Whether the log is to be rotated: it has at least as many entries as it is rotated at, or more bytes of text than it is
+    /// rotated past.
     pub fn is_due<R: Wait>(&self, rt: &R) -> bool
         ensures { IsNone self.now.rotates_at → IsFalse result }
     {
@@ -376,13 +378,13 @@ impl<L: Ledger> Shared<L> {
         }
     }
 
-    /// What the worker looks at before its turn, under one lock.
+    /// What the worker sees before its turn, under one lock. Want of memory is the only error.
     pub fn worker_view<R: Wait>(&self, rt: &R, worker: u64) -> Result<WorkerView, AllocError> {
         let desk = self.desk.lock(rt);
         looking::worker_view(desk.kept.held.core(), worker, desk.moment())
     }
 
-    /// What the applier looks at before its turn, under one lock.
+    /// What the applier sees before its turn, under one lock. Want of memory is the only error.
     pub fn applier_view<R: Wait>(&self, rt: &R) -> Result<ApplierView, AllocError>
         ensures { IsNone self.now.rotates_at → IfOk result (λ view. IsFalse view.is_due) }
     {
@@ -391,27 +393,27 @@ impl<L: Ledger> Shared<L> {
         looking::applier_view(desk.kept.held.core(), desk.moment(), is_due)
     }
 
-    /// The next evaluation: the first of those of the highest priority.
+    /// The next evaluation: the first of the ready ones that have the highest priority. Want of memory is the only error.
     pub fn served<R: Wait>(&self, rt: &R) -> Result<Option<EvalKey>, AllocError> {
         looking::served(self.desk.lock(rt).kept.held.core())
     }
 
-    /// What the worker is busy with. None: it is idle.
+    /// What the worker is busy with. None: it is idle. Want of memory is the only error.
     pub fn busy<R: Wait>(&self, rt: &R, worker: u64) -> Result<Option<BusyWorker>, AllocError> {
         looking::busy(self.desk.lock(rt).kept.held.core(), worker)
     }
 
-    /// The worker whose plan is next.
+    /// The worker whose plan is next. Want of memory is the only error.
     pub fn first_plan<R: Wait>(&self, rt: &R) -> Result<Option<Planner>, AllocError> {
         looking::planner(self.desk.lock(rt).kept.held.core())
     }
 
-    /// Taken before a look, it is what a wait for a change needs to miss none after the look.
+    /// The present moment. A caller that takes it before a look, and then waits past it, misses no change after the look.
     pub fn now<R: Wait>(&self, rt: &R) -> Moment {
         self.desk.lock(rt).moment()
     }
 
-    /// Waits for a change after this moment that concerns whoever waits for that.
+    /// Waits for a change after this moment, with the threads that wait for this, and returns the new moment.
     pub fn wait_past<R: Wait>(&self, rt: &R, waits: WaitsFor, seen: Moment) -> Moment
         ensures { result.changes ≢ seen.changes }
     {
@@ -431,7 +433,8 @@ impl<L: Ledger> Shared<L> {
         self.desk.lock(rt).enter(role);
     }
 
-    /// Takes back what `enter` noted, and wakes those who wait: workers for the applier, and the applier for workers.
+    /// Takes a worker out of the count, or notes that the applier has left, and wakes all waiting threads: workers may wait for
+    /// the applier, and the applier for workers.
     pub fn leave<R: Wait>(&self, rt: &R, role: Role) {
         let mut desk = self.desk.lock(rt);
         desk.leave(role);
@@ -440,7 +443,7 @@ impl<L: Ledger> Shared<L> {
         self.notify(notified);
     }
 
-    /// Lets workers end once they are idle, and the applier once they ended.
+    /// Closes the server, and wakes all waiting threads: workers end once they are idle, and the applier once they have ended.
     pub fn close<R: Wait>(&self, rt: &R) {
         let mut desk = self.desk.lock(rt);
         desk.close();
@@ -449,12 +452,12 @@ impl<L: Ledger> Shared<L> {
         self.notify(notified);
     }
 
-    /// Whether it was closed. It is never opened again.
+    /// Whether the server was closed. It is never opened again.
     pub fn is_closed<R: Wait>(&self, rt: &R) -> bool {
         self.desk.lock(rt).is_closed
     }
 
-    /// The server with its log and the book, out of the lock.
+    /// Takes the server with its log and the book out of the lock.
     pub fn end(self) -> Ended<L> {
         let Shared {
             desk,

@@ -1,4 +1,4 @@
-//! Entries that are needed no more, which go one by one.
+//! Entries that are needed no more, which are dropped one by one.
 
 ghost use Rattle.std.specs.Prelude.{◌≡◌, ◌++◌, [], IfNone, IsSomeAnd, None, length, option_to_list};
 ghost use Rattle.ns_work_lock.specs.Spending.{left, waiting};
@@ -10,12 +10,12 @@ use std::mem;
 /// Entries of two segments at most, which are needed no more.
 #[derive(Drop)]
 pub(crate) struct Spent {
-    /// What is left of the earlier one. It goes first.
+    /// What is left of the earlier segment. It is dropped first.
     pub(crate) former: Option<Vec<Entry>>,
     pub(crate) last: Option<Vec<Entry>>,
 }
 
-/// How many are left.
+/// How many entries are left.
 fn count(entries: &Option<Vec<Entry>>) -> u64
     ensures { result ≡ length (left entries.now) }
 {
@@ -25,7 +25,7 @@ fn count(entries: &Option<Vec<Entry>>) -> u64
     }
 }
 
-/// Takes the last one out, if one is left.
+/// Takes the last entry out, if one is left.
 fn pop(entries: &mut Option<Vec<Entry>>) -> Option<Entry>
     ensures left { left entries.old ≡ left entries.new ++ option_to_list result }
     ensures none { IfNone result ((left entries.old ≡ []) × (left entries.new ≡ [])) }
@@ -46,14 +46,14 @@ impl Spent {
         }
     }
 
-    /// How many are left of the earlier segment and of the later one.
+    /// How many entries are left of the earlier segment and of the later one.
     pub(crate) fn counts(&self) -> (u64, u64)
         ensures { result ≡ (length (left self.now.former), length (left self.now.last)) }
     {
         (count(&self.former), count(&self.last))
     }
 
-    /// Takes a segment's entries, and gives out what is left of the one before the last.
+    /// Takes a segment's entries, and returns what is left of the segment before the last one.
     pub(crate) fn add(&mut self, segment: Segment) -> Option<Vec<Entry>>
         ensures out { result ≡ self.old.former }
         ensures former { self.new.former ≡ self.old.last }
@@ -63,7 +63,7 @@ impl Spent {
         mem::replace(&mut self.former, last)
     }
 
-    /// Takes out the entry that goes next, if one is left.
+    /// Takes out the entry that is dropped next, if one is left.
     pub(crate) fn take_out(&mut self) -> Option<Entry>
         ensures waiting { waiting self.old ≡ waiting self.new ++ option_to_list result }
         ensures none { IfNone result (waiting self.old ≡ []) }

@@ -1,4 +1,4 @@
-//! The steps of workers, each with its receipt.
+//! Makes the steps of workers, each with its receipt.
 
 ghost use Rattle.std.specs.Prelude.{◌≡◌, ◌+◌, ◌<◌, IfOk, Some, option_map, slice_get, vec_capacity, vec_len};
 ghost use Rattle.ns_types.specs.declared.step.Step.TheVariants as Step;
@@ -29,7 +29,8 @@ use ns_work_log::{row_for, snapped};
 use std::alloc::Global;
 use std::sync::ledger::{Book, Ledger, Share};
 
-/// Adds the receipt of a step in which a worker looked, in the same way.
+/// Adds the receipt of a step in which a worker took a snapshot, with the answer that its entry has, and counts it. It takes no
+/// memory.
 fn receive_snapped<L: Ledger>(
     receipts: &mut Vec<Receipt>,
     share: &mut Share<L>,

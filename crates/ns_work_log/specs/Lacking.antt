@@ -5,7 +5,7 @@ use Rattle.ns_types.specs.declared.step.Step.{Step}
 use Rattle.ns_types.specs.Steps.{after}
 use Rattle.ns_work_log.specs.Logs.{History, HasPlace, IsFull}
 
--- the log is full, which comes before all else; or it is not, and there was no memory, or the step is out of turn
+-- the log is full, which is reported first; or it is not full, and no memory was left or the step is out of turn
 abbrev pub HeldLacks : History → Step → Refusal → Type 0
 HeldLacks h step Refusal.LogFull = IsFull h
 HeldLacks h step Refusal.Memory = HasPlace h

@@ -1,4 +1,4 @@
--- A server with the log of what it did since a first state.
+-- A server with the log of its steps since a first state.
 use Rattle.std.specs.Prelude.{◌≡◌, ◌<◌, ◌≤◌, ℕ, ◌+◌, ◌-◌, ◌^◌, List, [], ◌∷◌, ◌++◌, length, map, zip, None, Err}
 use Rattle.ns_types.specs.declared.refusal.Refusal.{Refusal}
 use Rattle.ns_types.specs.declared.step.Step.{Step}
@@ -7,8 +7,8 @@ use Rattle.ns_types.specs.Steps.{Answer, after}
 use Rattle.ns_steps.specs.Chains.{IsMade}
 use Rattle.ns_json.specs.Replies.{Entry, IsKept, rendered}
 
--- Where the log began, and how many entries were given out before; what the server did since, with each answer as bytes,
--- and where it is; and how many entries the log takes. Entry i of the log has the place start + i.
+-- The state in which the log began, and how many entries were given out before; the steps since then, with each answer as
+-- bytes, and the present state; and how many entries the log takes. Entry i of the log has the place start + i.
 pub record History : Type 0 where
   pub base : State
   pub start : ℕ
@@ -20,12 +20,12 @@ pub record History : Type 0 where
 abbrev pub next_place : History → ℕ
 next_place h = h.start + length h.log
 
--- no entry has this place
+-- the end of the places: each entry has a place below it
 abbrev pub places_end : ℕ
 places_end = 2 ^ 64 - 1
 
--- the log's steps and rendered answers are a run from the base to the state, and are no more than the limit; and there is a
--- place for as many
+-- the log's steps and rendered answers are a run from the base to the state, and there are no more than the limit; there are
+-- places for as many entries as the limit
 abbrev pub Stands : History → Type 0
 Stands h = (IsKept h.base h.log h.state × (length h.log ≤ h.limit)) × (h.start + h.limit < 2 ^ 64)
 
@@ -53,8 +53,8 @@ pub record AreNoted (old : History) (steps : List Step) (answers : List Answer) 
   pub start : new.start ≡ old.start
   pub limit : new.limit ≡ old.limit
 
--- What a call for a step does, by its answer. That the log is full comes before all else, and want of memory may come
--- next. These, and a call out of turn, are no steps, and change nothing. Every other answer is the step's, and is logged.
+-- What a call for a step does, by its answer. A full log is reported first, and want of memory may come next. With these, and
+-- with a call out of turn, no step is made, and nothing changes. Every other answer is the step's, and is logged.
 abbrev pub Logs : Step → History → Answer → History → Type 0
 Logs step old (Err Refusal.LogFull) new = IsFull old × (new ≡ old)
 Logs step old (Err Refusal.Memory) new = HasPlace old × (new ≡ old)

@@ -6,16 +6,16 @@ use Rattle.ns_types.specs.Steps.{Answer}
 use Rattle.ns_laws.specs.Refusals.{is_of_steps}
 use Rattle.ns_json.specs.Replies.{Entry, rendered}
 
--- an answer of a step, and not of a call that made none
+-- the answer is a step's, and not that of a call that made no step
 abbrev pub is_answer : Answer → Bool
 is_answer (Ok reply) = true
 is_answer (Err refusal) = is_of_steps refusal
 
--- the log with the step and its answer as bytes, where it is one
+-- the log, followed by the step and its answer as bytes, if the answer is a step's
 abbrev pub noted : Step → Answer → List Entry → List Entry
 noted step answer log = if is_answer answer then log ++ (step, rendered answer) ∷ [] else log
 
--- whether a log of so many entries takes one more, for which there is room then
+-- whether a log of `entries` entries takes one more; then there is room for it
 abbrev pub Begins : {X : Type 0} → ℕ → ℕ → Result X Refusal → Type 0
 Begins entries limit (Ok _) = entries < limit
 Begins entries limit (Err Refusal.LogFull) = entries ≡ limit

@@ -3,7 +3,7 @@ use Rattle.std.specs.Prelude.{◌≡◌, ◌+◌, ◌-◌, [], length, min}
 use Rattle.ns_log.specs.Segments.{Given}
 use Rattle.ns_work_log.specs.Logs.{History, places_end}
 
--- the log was given out whole; the next one is empty and begins where the server is, behind all entries that were given out
+-- the log was given out whole; the next one is empty and begins in the present state, behind all entries that were given out
 pub record IsRotated (old : History) (segment : Given) (new : History) : Type 0 where
   pub gives_start : segment.start ≡ old.start
   pub gives_log : segment.log ≡ old.log
@@ -11,5 +11,5 @@ pub record IsRotated (old : History) (segment : Given) (new : History) : Type 0 
   pub start : new.start ≡ old.start + length old.log
   pub log : new.log ≡ []
   pub state : new.state ≡ old.state
-  -- it takes as many entries, as far as there are places
+  -- the next log takes as many entries as this one, as far as there are places
   pub limit : new.limit ≡ min old.limit (places_end - new.start)

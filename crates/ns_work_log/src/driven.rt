@@ -1,4 +1,4 @@
-//! A held server's workers can be driven.
+//! Lets the workers of a held server be driven.
 
 use crate::held::Held;
 use ns_broker::Busy;

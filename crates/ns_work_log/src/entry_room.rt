@@ -31,7 +31,7 @@ impl Model for EntryRoom {
     ghost view = { λ room. room.answer };
 }
 
-/// A box for an answer, with none in it.
+/// A box for an answer, with an empty one in it. Want of memory is the only error.
 fn empty_place(alloc: Global) -> Result<Box<Rendered>, AllocError> {
     let none = Rendered {
         status: 0,
@@ -43,7 +43,7 @@ fn empty_place(alloc: Global) -> Result<Box<Rendered>, AllocError> {
 }
 
 impl EntryRoom {
-    /// The answer's room, and a box for it.
+    /// The answer's room, with a box for it. Want of memory is the only error.
     fn of(alloc: Global, answer: AnswerRoom) -> Result<EntryRoom, AllocError>
         ensures { IfOk result (λ room. room ≡ answer) }
     {
@@ -51,7 +51,8 @@ impl EntryRoom {
         Ok(EntryRoom { answer, place })
     }
 
-    /// Room for the answer of the step. The row is the worker's before the step, if it is a worker's step.
+    /// Room for the answer of the step. The row is the worker's before the step, if it is a worker's step. Want of memory is
+    /// the only error.
     pub fn for_step(
         alloc: Global,
         step: &Step,
@@ -63,7 +64,7 @@ impl EntryRoom {
         EntryRoom::of(alloc, answer)
     }
 
-    /// Room for a copy of an answer that this one has room for.
+    /// Room for a copy of an answer that this one has room for. Want of memory is the only error.
     pub fn for_copy(&self, alloc: Global) -> Result<EntryRoom, AllocError>
         ensures { IfOk result (λ copy. copy ≡ copy_room self.now) }
     {
@@ -71,14 +72,14 @@ impl EntryRoom {
         EntryRoom::of(alloc, answer)
     }
 
-    /// The same for the response, which owns its answer without a box.
+    /// Room for a copy in the response, which owns its answer without a box. Want of memory is the only error.
     pub fn for_response(&self, alloc: Global) -> Result<AnswerRoom, AllocError>
         ensures { IfOk result (λ copy. copy ≡ copy_room self.now) }
     {
         self.answer.for_copy(alloc)
     }
 
-    /// What the step was answered. It takes no memory.
+    /// The step's reply as bytes. It takes no memory.
     pub fn render(self, reply: &Reply) -> Owned<Rendered>
         requires { HasRoom self reply.now.content }
         ensures shown { result ≡ rendered (Ok reply.now) }
@@ -89,7 +90,7 @@ impl EntryRoom {
         Owned::alone(place)
     }
 
-    /// What the step was answered where it was refused. It takes no memory.
+    /// The step's refusal as bytes. It takes no memory.
     pub fn refuse(self, refusal: Refusal) -> Owned<Rendered>
         ensures shown { result ≡ refused refusal }
         ensures fits { length result.body ≤ answer_bytes self }

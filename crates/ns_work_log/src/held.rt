@@ -1,4 +1,4 @@
-//! A server with the log of what it did.
+//! A server with the log of its steps.
 
 ghost use Rattle.std.specs.Prelude.{◌≡◌, ◌↔◌, [], IsFalse, IsTrue};
 ghost use Rattle.ns_json.specs.Replies.{IsKept};
@@ -11,9 +11,9 @@ use std::marker::Model;
 use std::snapshot::Snapshot;
 
 /// A server, with an entry for each step that it made since its log began. Contracts see it as a history, whose log is a run
-/// from where it began to where it is.
+/// from its first state to the present one.
 pub struct Held {
-    /// Where the log begins.
+    /// The server where the log begins.
     pub(crate) base: Snapshot<Core>,
     pub(crate) core: Core,
     /// How many entries were given out before the log began.
@@ -59,7 +59,7 @@ impl Model for Held {
 }
 
 impl Held {
-    /// Begins the log of a server, which has at most so many entries.
+    /// Begins the log of a server, which has at most `limit` entries.
     pub fn new(alloc: Global, core: Core, limit: u64) -> Held
         ensures { result ≡ record {
           base = core;
@@ -92,7 +92,7 @@ impl Held {
         self.start + self.log.len() as u64
     }
 
-    /// The server, to be looked at.
+    /// The server, for reading.
     pub fn core(&self) -> &Core
         ensures { result.now ≡ self.now.state }
     {
@@ -107,7 +107,7 @@ impl Held {
         self.log.as_slice()
     }
 
-    /// Its log alone.
+    /// Returns the log, and drops the rest.
     pub fn into_log(self) -> Vec<Entry>
         ensures { result.items ≡ self.log }
     {

@@ -1,4 +1,4 @@
-//! Entries of a log, for which there is room before their steps.
+//! Adds entries to a log, in room that is made before their steps.
 
 ghost use Rattle.std.specs.Prelude.{◌≡◌, ◌<◌, ◌≤◌, IfOk, IfErr, OnOk, length, option_copied, vec_len, vec_capacity};
 ghost use Rattle.ns_types.specs.declared.refusal.Refusal.TheVariants as Refusal;
@@ -15,7 +15,7 @@ use ns_types::step::Step;
 use ns_types::worker::Worker;
 use std::alloc::Global;
 
-/// Whether the log takes one more entry. Then there is room for it.
+/// Makes room for one more entry. The errors are `LogFull`, if the log has as many entries as the limit, and `Memory`.
 pub fn begin(log: &mut Vec<Entry>, limit: u64) -> Result<(), Refusal>
     requires { length log.old.items ≤ limit }
     ensures begins { Begins (length log.old.items) limit result }
@@ -29,7 +29,7 @@ pub fn begin(log: &mut Vec<Entry>, limit: u64) -> Result<(), Refusal>
     Ok(())
 }
 
-/// The step, with room for its answer, by the row of the worker whose step it is.
+/// The step, with room for its answer. `row` is the worker's row, if it is a worker's step. Want of memory is the only error.
 pub fn with_room(
     alloc: Global,
     step: Shared<Step>,
@@ -47,7 +47,7 @@ pub fn with_room(
     }
 }
 
-/// Whether a step can be refused so, and not only a call that makes none.
+/// Whether this is a refusal of a step, and not of a call that made no step.
 pub fn is_of_steps(refusal: Refusal) -> bool
     ensures { result ≡ is_of_steps refusal }
 {
@@ -63,7 +63,7 @@ pub fn is_of_steps(refusal: Refusal) -> bool
     )
 }
 
-/// Adds the step with its answer, if it is the answer of a step.
+/// Adds the step with its answer, if the answer is a step's.
 pub fn note(
     log: &mut Vec<Entry>,
     step: Shared<Step>,

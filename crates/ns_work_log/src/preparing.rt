@@ -1,4 +1,4 @@
-//! Steps that are about to be made, once the log takes one more entry and there is room for the answer.
+//! Prepares steps: the log takes one more entry, and there is room for the answer.
 
 ghost use Rattle.std.specs.Prelude.{◌≡◌, ◌<◌, ◌≤◌, IfOk, OnOk, length, option_copied, vec_len, vec_capacity};
 ghost use Rattle.ns_types.specs.Working.Looks.{worker_at};
@@ -21,7 +21,7 @@ use ns_types::text::Text;
 use ns_types::worker::Worker;
 use std::alloc::Global;
 
-/// The worker's row, where the room of its step's answer depends on it.
+/// The worker's row, if the room for its step's answer depends on it.
 pub fn row_for<'a>(
     core: &'a Core,
     worker: u64,
@@ -39,7 +39,7 @@ pub fn row_for<'a>(
     }
 }
 
-/// The step of a worker for its entry, if the log takes one more.
+/// The step of a worker for its entry. The errors are `LogFull`, if the log takes no more entries, and `Memory`.
 pub(crate) fn worker_entry(
     alloc: Global,
     held: &Held,
@@ -58,7 +58,8 @@ pub(crate) fn worker_entry(
     Ok(entry)
 }
 
-/// The step, if the log takes one more entry, with room for its answer, by the row of the worker whose step it is.
+/// The step, with room for its entry and its answer. `row` is the worker's row, if it is a worker's step. The errors are
+/// `LogFull` and `Memory`.
 pub(crate) fn prepare(
     alloc: Global,
     log: &mut Vec<Entry>,

@@ -1,4 +1,4 @@
-//! The steps that requests ask for, whose answers are handed out as bytes.
+//! Makes the steps that requests ask for, and returns their answers as bytes.
 
 ghost use Rattle.std.specs.Prelude.{◌≡◌, ◌<◌, ◌≤◌, IfErr, IfOk, None, OnErr, OnOk, false, length, true, vec_len};
 ghost use Rattle.std.specs.Prelude.{vec_capacity};
@@ -25,7 +25,7 @@ use ns_types::shared::Shared;
 use ns_types::step::Step;
 use std::alloc::{AllocError, Global};
 
-/// Room for the answer of a step that a request asks for: in the log, and for its copies, a receipt's and the response's.
+/// Room for the answer of a request's step: in the log, and for its copies in a receipt and in the response.
 #[derive(Drop)]
 struct Rooms {
     entry: EntryRoom,
@@ -35,7 +35,7 @@ struct Rooms {
     ghost response_is: { response ≡ copy_room entry },
 }
 
-/// Rooms like that in the log for the copies of the answer.
+/// Adds room for the copies of an answer that the entry has room for. Want of memory is the only error.
 fn with_copies(alloc: Global, entry: EntryRoom) -> Result<Rooms, AllocError>
     ensures { IfOk result (λ rooms. rooms.entry ≡ entry) }
 {
@@ -48,7 +48,7 @@ fn with_copies(alloc: Global, entry: EntryRoom) -> Result<Rooms, AllocError>
     })
 }
 
-/// The step, if the log takes one more entry, with rooms for its answer.
+/// The step, with room for its entry and for its answer and the copies. The errors are `LogFull` and `Memory`.
 fn with_rooms(
     alloc: Global,
     log: &mut Vec<Entry>,
@@ -72,7 +72,8 @@ fn with_rooms(
     }
 }
 
-/// Adds the step with its answer, and hands the answer out, if it is the answer of a step. It takes no memory.
+/// Adds the step with its answer and returns the answer, if it is a step's. Otherwise the error is `Memory`. It takes no
+/// memory.
 fn note_given(
     log: &mut Vec<Entry>,
     step: Shared<Step>,
@@ -108,7 +109,8 @@ fn note_given(
     }
 }
 
-/// The answer in new memory, for the log, and what is handed out of it, if it is the answer of a step.
+/// The answer as bytes in new memory: for the log, for a receipt and as the response. The only error is that no memory is left,
+/// or that the answer is no step's.
 fn given_anew(
     alloc: Global,
     answer: &Result<Reply, Refusal>,
@@ -121,7 +123,7 @@ fn given_anew(
     shared_with(alloc, answer, shown)
 }
 
-/// Adds the step with its answer in new memory, and hands the answer out, if it is the answer of a step.
+/// Adds the step with its answer in new memory, and returns the answer. The error is `Memory`, also if the answer is no step's.
 fn give(
     log: &mut Vec<Entry>,
     alloc: Global,
@@ -156,7 +158,8 @@ fn take(core: &mut Core, step: &Shared<Step>) -> Result<Reply, Refusal>
 }
 
 impl Held {
-    /// The rooms of the answer are taken before the step, so a step that was made is answered.
+    /// Makes a step that may change the state. The rooms of the answer are taken before the step, so a step that was made is
+    /// answered.
     fn write_rendered(
         &mut self,
         alloc: Global,
@@ -179,7 +182,7 @@ impl Held {
         given
     }
 
-    /// A read changes nothing, so there may still be no memory for its answer. Then it was not made.
+    /// Makes a read. A read changes nothing, so if there is no memory for its answer, it counts as not made.
     fn read_rendered(
         &mut self,
         alloc: Global,
@@ -205,9 +208,10 @@ impl Held {
         given
     }
 
-    /// Makes the step that a request asks for, and hands out its answer twice as bytes: for a receipt, and as the response.
-    /// Both are made before a read has its entry, and their room is taken before any other step; so a step that was made is
-    /// answered. At `Err` none was made. Of a read, the entry and the receipt own the bytes together.
+    /// Makes the step that a request asks for, and returns its answer twice as bytes: for a receipt, and as the response. For a
+    /// read both are made before its entry, and for any other step their room is taken before the step; so a step that was made
+    /// is answered. The errors are `LogFull` and `Memory`, and then no step was made. The entry and the receipt of a read own
+    /// the bytes together.
     pub fn take_rendered(
         &mut self,
         alloc: Global,

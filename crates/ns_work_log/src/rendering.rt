@@ -1,4 +1,4 @@
-//! Answers of steps as bytes, for their callers.
+//! Writes answers of steps as bytes, for their callers.
 
 ghost use Rattle.std.specs.Prelude.{◌≡◌, ◌≤◌, IfOk, IfSome, OnOk, length, true};
 ghost use Rattle.ns_types.specs.Wire.Responses.{rendered_of};
@@ -16,7 +16,7 @@ use ns_types::reply::{Rendered, Reply, Response};
 use ns_types::shared::Shared;
 use std::alloc::{AllocError, Global};
 
-/// The answer in the room that was taken for it, if it is the answer of a step. It takes no memory.
+/// The answer as bytes in the room that was taken for it, if it is a step's. It takes no memory.
 pub fn rendered_in(room: EntryRoom, answer: &Result<Reply, Refusal>) -> Option<Owned<Rendered>>
     requires { IfOk answer.now (λ reply. HasRoom room reply.content) }
     ensures shown { result ≡ rendered_step answer.now }
@@ -32,7 +32,7 @@ pub fn rendered_in(room: EntryRoom, answer: &Result<Reply, Refusal>) -> Option<O
     }
 }
 
-/// The answer of a step in new memory. What is no answer of a step fails as want of memory does.
+/// The answer as bytes in new memory. Want of memory is an error, and so is an answer that is no step's.
 pub(crate) fn rendered_anew(
     alloc: Global,
     answer: &Result<Reply, Refusal>,
@@ -47,7 +47,7 @@ pub(crate) fn rendered_anew(
     }
 }
 
-/// The answer as the response, of these bytes.
+/// The response that has the answer, with these bytes.
 pub(crate) fn response(answer: &Result<Reply, Refusal>, shown: Rendered) -> Response
     requires { shown ≡ rendered answer.now }
     ensures { rendered_of result ≡ rendered answer.now }
@@ -64,7 +64,7 @@ pub(crate) fn response(answer: &Result<Reply, Refusal>, shown: Rendered) -> Resp
     }
 }
 
-/// A copy that has the same bytes.
+/// A copy that has the same bytes. Want of memory is the only error.
 fn copied(shown: &Rendered) -> Result<Rendered, AllocError>
     ensures { IfOk result (λ copy. copy ≡ shown.now) }
 {
@@ -75,8 +75,9 @@ fn copied(shown: &Rendered) -> Result<Rendered, AllocError>
     })
 }
 
-/// The answer's bytes for its entry, and what is handed out: for a receipt, which owns them together with the entry, and as the
-/// response. The entry has a copy, which takes no more memory than it has bytes, and the response what was rendered.
+/// The answer's bytes for its entry; for a receipt, which owns them together with the entry; and as the response. The entry has
+/// a copy, which takes no more memory than it has bytes, and the response has what was rendered. Want of memory is the only
+/// error.
 pub(crate) fn shared_with(
     alloc: Global,
     answer: &Result<Reply, Refusal>,

@@ -1,4 +1,4 @@
-//! A log is given out, and the next one begins where the server is.
+//! Gives a log out, and begins the next one in the present state.
 
 ghost use Rattle.std.specs.Prelude.{◌≡◌, IfErr, IfOk, OnErr};
 ghost use Rattle.ns_types.specs.declared.refusal.Refusal.TheVariants as Refusal;
@@ -12,8 +12,8 @@ use std::mem;
 use std::snapshot::Snapshot;
 
 impl Held {
-    /// Gives out the log, and begins the next one where the server is. The next log has as much room as this one, so that it is not
-    /// moved where it comes to some entries more. Want of memory for that room is the only error. It is no step, and makes no entry.
+    /// Gives out the log, and begins the next one in the present state. The next log has as much room as this one, so that it
+    /// is not moved as it fills. Want of memory for that room is the only error. It is no step, and makes no entry.
     pub fn rotate(&mut self, alloc: Global) -> Result<Segment, Refusal>
         ensures rotated { IfOk result (λ segment. IsRotated self.old segment self.new) }
         ensures same { OnErr result (self.new ≡ self.old) }

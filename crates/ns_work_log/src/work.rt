@@ -1,4 +1,4 @@
-//! The steps of workers, each with its entry.
+//! Makes the steps of workers, each with its entry.
 
 ghost use Rattle.std.specs.Prelude.{◌≡◌, ◌<◌, IfOk, Some, vec_len, vec_capacity};
 ghost use Rattle.ns_types.specs.declared.step.Step.TheVariants as Step;
@@ -25,7 +25,7 @@ use ns_types::step::Step;
 use ns_types::text::Text;
 use std::alloc::Global;
 
-/// What a worker that looks is answered.
+/// The answer to a worker that takes a snapshot.
 pub fn snapped(seen: &Result<Shared<Snapshot>, Refusal>) -> Result<Reply, Refusal>
     ensures { result ≡ snapped seen.now }
 {
@@ -38,7 +38,7 @@ pub fn snapped(seen: &Result<Shared<Snapshot>, Refusal>) -> Result<Reply, Refusa
     }
 }
 
-/// Adds the step in which a worker looks, with its answer.
+/// Adds the step in which a worker takes a snapshot, with its answer.
 fn note_snapped(
     log: &mut Vec<Entry>,
     step: Shared<Step>,
@@ -55,7 +55,7 @@ fn note_snapped(
 }
 
 impl Held {
-    /// Makes the step of the worker in the namespace. Its entry is the step that is handed in, which others may own too.
+    /// Makes the step of the worker in the namespace. Its entry is `entry`, which may have other owners too.
     pub fn work_as(
         &mut self,
         alloc: Global,
@@ -106,7 +106,7 @@ impl Held {
     }
 
     /// Makes the step in which a worker takes a snapshot of its evaluation: one value, which its row keeps and the caller
-    /// reads. Its entry is the step that is handed in, which others may own too.
+    /// reads. Its entry is `entry`, which may have other owners too.
     pub fn snap_as(
         &mut self,
         alloc: Global,

@@ -1,4 +1,4 @@
--- What becomes of the receipts of a thread that works.
+-- How the receipts of a worker's thread, and of the applier's, grow.
 use Rattle.std.specs.Prelude.{◌≡◌, ℕ, List, ◌++◌, All}
 use Rattle.ns_types.specs.declared.step.Step.{Step}
 use Rattle.ns_log.specs.declared.receipts.receipt.Receipt.{Receipt}
@@ -18,11 +18,11 @@ abbrev pub IsApply : Step → Type 0
 IsApply (Step.Apply worker ns) = Unit {0}
 IsApply _ = ⊥
 
--- that of the worker whose plan is served next
+-- the Apply of this planner's plan
 abbrev pub IsApplyOf : Planner → Step → Type 0
 IsApplyOf planner step = step ≡ Step.Apply planner.worker planner.namespace
 
--- The receipts stay, in their order, and behind them come those of such steps.
+-- The receipts stay, in their order, and behind them come receipts of the thread's own steps.
 pub record Grows (IsOwn : Step → Type 0) (old new : List Receipt) : Type 0 where
   pub more : List Receipt
   pub is_grown : new ≡ old ++ more

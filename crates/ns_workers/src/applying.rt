@@ -22,7 +22,7 @@ enum Course {
     GoesOn,
     /// It tries again after a pause.
     Pauses,
-    /// The log is full. The same, where the log is rotated; else it closes the server, and ends.
+    /// The log is full. If the log is rotated, the applier tries again after a pause; otherwise it closes the server, and ends.
     Full,
     /// It closes the server, and ends.
     Ends,
@@ -39,7 +39,7 @@ fn course_after(answer: Result<Reply, Refusal>) -> Course
     }
 }
 
-/// Closes the server, where the log is full for ever. Whether the applier goes on: after a pause, where the log is rotated.
+/// If the log is rotated, pauses. Otherwise the log stays full, and it closes the server. Returns whether the applier goes on.
 fn outlasts_full<L: Ledger, R: Wait + Clock>(rt: &R, shared: &Shared<L>) -> bool
     ensures { IsNone shared.now.rotates_at → IsFalse result }
 {
@@ -51,7 +51,7 @@ fn outlasts_full<L: Ledger, R: Wait + Clock>(rt: &R, shared: &Shared<L>) -> bool
     true
 }
 
-/// Applies the plan. Whether the applier goes on.
+/// Applies the plan. Returns whether the applier goes on.
 fn apply<L: Ledger, R: Wait + Clock, M: Retention>(
     rt: &R,
     alloc: Global,
@@ -83,7 +83,7 @@ fn is_over(seen: Moment) -> bool
     seen.is_closed && seen.workers == 0
 }
 
-/// Waits for a plan. Whether one may still come.
+/// Waits for a plan, if one may still come. Returns whether one may.
 fn await_plan<L: Ledger, R: Wait>(rt: &R, shared: &Shared<L>, seen: Moment) -> bool
     ensures over { is_over seen ≡ true → IsFalse result }
     ensures awaits { is_over seen ≡ false → IsTrue result }
@@ -95,7 +95,7 @@ fn await_plan<L: Ledger, R: Wait>(rt: &R, shared: &Shared<L>, seen: Moment) -> b
     true
 }
 
-/// Hands the segment to the keeper. Its entries are spent where it is needed no more.
+/// Hands the segment to the keeper. If the keeper gives it back, its entries are spent.
 fn hand_over<L: Ledger, K: Keep, R: Wait>(
     rt: &R,
     alloc: Global,
@@ -110,8 +110,8 @@ fn hand_over<L: Ledger, K: Keep, R: Wait>(
     }
 }
 
-/// Rotates the log where that is due, and hands the segment to the keeper with no lock held. False: memory is wanting, so that it
-/// has to be tried again.
+/// Rotates the log if that is due, and hands the segment to the keeper with no lock held. False: no memory was left, so it has
+/// to be tried again.
 fn rotate<L: Ledger, K: Keep, R: Wait>(
     rt: &R,
     alloc: Global,
@@ -134,7 +134,7 @@ fn rotate<L: Ledger, K: Keep, R: Wait>(
     }
 }
 
-/// Applies the next plan, or waits for one. Whether the applier goes on.
+/// Applies the next plan, or waits for one. Returns whether the applier goes on.
 fn apply_next<L: Ledger, R: Wait + Clock, M: Retention>(
     rt: &R,
     alloc: Global,
@@ -150,8 +150,8 @@ fn apply_next<L: Ledger, R: Wait + Clock, M: Retention>(
     }
 }
 
-/// Rotates the log where that is due, and then applies the next plan, or waits for one. Whether the applier goes on. What it looks
-/// at is of one moment, so a wait past that moment misses no change.
+/// Rotates the log if that is due, and then applies the next plan, or waits for one. Returns whether the applier goes on. It
+/// looks at the server at one moment, so a wait past that moment misses no change.
 fn step<L: Ledger, K: Keep, R: Wait + Clock, M: Retention>(
     rt: &R,
     alloc: Global,
@@ -174,11 +174,12 @@ fn step<L: Ledger, K: Keep, R: Wait + Clock, M: Retention>(
     apply_next(rt, alloc, shared, seat, &view)
 }
 
-/// Applies one plan after another, and rotates the log before a plan, where it has as many entries as it is rotated at or more, or
-/// more bytes of text than it is rotated past. The keeper takes the segments. For want of memory it tries again after a pause. Where a counter is full, or the log for ever, it
-/// closes the server and ends; it ends as well once the server is closed, no plan waits and no worker is left.
+/// Applies one plan after another. Before a plan it rotates the log, if the log has at least as many entries as it is rotated
+/// at, or more bytes of text than it is rotated past; the keeper takes the segments. If no memory is left, it tries again after
+/// a pause. If a counter is full, or the log is full and is not rotated, it closes the server and ends. It ends as well once
+/// the server is closed, no plan waits and no worker is left.
 ///
-/// It has to run beside the workers: one whose plan waits goes on only once it was applied, or the applier has ended.
+/// It has to run beside the workers: a worker waits until its plan was applied, or the applier has ended.
 pub fn applier<L: Ledger, K: Keep, R: Wait + Clock, M: Retention>(
     rt: &R,
     alloc: Global,

@@ -1,4 +1,4 @@
-//! What a worker passes between its steps, with no lock held.
+//! The gate that a worker passes between its steps, with no lock held.
 
 ghost use Rattle.std.specs.Prelude.{◌≡◌, IfOk, IsOkUnless, IsTrue, OnOk, if◌then◌else◌};
 ghost use Rattle.ns_types.specs.declared.refusal.Refusal.TheVariants.{Full, Memory};
@@ -21,9 +21,9 @@ pub enum Point {
     Finished,
 }
 
-/// What workers pass. Its calls come from several threads at once.
+/// A gate that workers pass. Its calls come from several threads at once.
 pub trait Gate {
-    /// It lets every worker go on.
+    /// The gate lets every worker go on.
     ghost opens: { Self → Type 0 } = { λ _. ⊥ };
 
     /// The plan of the snapshot, as `ns_schedule` makes it.
@@ -42,7 +42,7 @@ pub trait Gate {
         ensures { opens self.now → IsTrue result };
 }
 
-/// Always open.
+/// A gate that is always open.
 #[derive(Clone, Copy)]
 pub struct Open;
 

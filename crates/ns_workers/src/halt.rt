@@ -9,15 +9,16 @@ use std::alloc::AllocError;
 
 #[derive(Clone, Copy, PartialEq, Eq)]
 pub enum Halt {
-    /// Another was faster. It looks again at once, since the server has changed.
+    /// Another thread was faster. The worker looks again at once, since the server has changed.
     Late,
-    /// It gives its evaluation back, and goes on after a pause.
+    /// No memory was left. The worker gives its evaluation back, and goes on after a pause.
     Memory,
-    /// The log is full. It ends, unless the log is rotated: then it goes on after a pause.
+    /// The log is full. The worker ends, unless the log is rotated and the applier has not ended: then it goes on after a
+    /// pause.
     Full,
-    /// It gives its evaluation back if it may, and ends.
+    /// The worker gives its evaluation back if it may, and ends.
     Leaves,
-    /// It ends.
+    /// The worker ends.
     Ends,
 }
 

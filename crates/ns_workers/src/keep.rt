@@ -1,4 +1,4 @@
-//! Who takes the segments that the applier gives out.
+//! The keeper of the segments that the applier gives out.
 
 ghost use Rattle.std.specs.Prelude.{◌≡◌, IfSome};
 ghost use Rattle.ns_log.specs.Segments.{Given};
@@ -8,16 +8,16 @@ use std::alloc::Global;
 
 /// Takes segments of a log, one after the other. No lock is held meanwhile.
 pub trait Keep {
-    /// What it is before and after it takes a segment.
+    /// The keeper before and after it takes a segment.
     ghost takes: { Self → Given → Self → Type 0 };
 
-    /// Takes a segment, and gives it back where it needs it no more.
+    /// Takes a segment, and gives it back if it does not need it any more.
     fn keep(&mut self, alloc: Global, segment: Segment) -> Option<Segment>
         ensures takes { takes self.old segment self.new }
         ensures back { IfSome result (λ back. back ≡ segment) };
 }
 
-/// Needs none.
+/// A keeper that gives each segment back at once.
 #[derive(Clone, Copy)]
 pub struct KeepsNothing;
 

@@ -1,13 +1,13 @@
-//! What a thread does that ran into want of memory.
+//! The pause of a thread before it tries again.
 
 use std::rt::Clock;
 use std::thread;
 use std::time::Duration;
 
-/// How long it pauses.
+/// The length of a pause.
 const MILLISECONDS: u64 = 100;
 
-/// Pauses before it tries again. It does not wait for a change of the server, since none need come.
+/// Pauses before the thread tries again. It does not wait for a change of the server, since none may come.
 pub fn pause<R: Clock>(rt: &R) {
     thread::sleep(rt, Duration::from_millis(MILLISECONDS));
 }

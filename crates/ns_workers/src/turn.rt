@@ -1,4 +1,4 @@
-//! One turn of a worker: the steps up to where it has to wait for others, or a wait.
+//! One turn of a worker: its steps until it has to wait for others, or a wait.
 
 ghost use Rattle.std.specs.Prelude.{◌≡◌, ◌≤◌, IfErr, IsErrOf, IsFalse, IsOk, IsTrue};
 ghost use Rattle.ns_workers.specs.declared.halt.Halt.TheVariants as Halt;
@@ -27,7 +27,7 @@ pub struct Post<'a, L: Ledger, G: Gate, R: Wait> {
 }
 
 impl<'a, L: Ledger, G: Gate, R: Wait> Post<'a, L, G, R> {
-    /// Goes on after the step of that name, if the gate lets the worker.
+    /// Passes the gate after this step. If the gate stops the worker, the error is `Leaves`.
     fn pass(&self, point: Point) -> Result<(), Halt>
         ensures open { G.opens self.now.gate.now → IsOk result }
         ensures leaves { IfErr result (λ halt. halt ≡ Halt.Leaves) }
@@ -39,7 +39,7 @@ impl<'a, L: Ledger, G: Gate, R: Wait> Post<'a, L, G, R> {
         }
     }
 
-    /// Takes the next evaluation and goes on with it, or waits for one until the server is closed.
+    /// Dequeues the next evaluation and plans it, or waits for one until the server is closed.
     fn take<M: Retention>(
         &self,
         seat: &mut Seat<L, M>,
@@ -62,7 +62,7 @@ impl<'a, L: Ledger, G: Gate, R: Wait> Post<'a, L, G, R> {
         self.plan_anew(seat, kept, key.namespace())
     }
 
-    /// Takes this evaluation.
+    /// Dequeues this evaluation.
     fn dequeue<M: Retention>(&self, seat: &mut Seat<L, M>, key: &EvalKey) -> Result<(), Halt>
         ensures { Grows (IsOfWorker self.now.number) seat.old seat.new }
     {
@@ -106,7 +106,7 @@ impl<'a, L: Ledger, G: Gate, R: Wait> Post<'a, L, G, R> {
         Ok(planned)
     }
 
-    /// Ends the evaluation by the plan that was made last.
+    /// Finishes the evaluation by the plan that was made last.
     fn finish<M: Retention>(
         &self,
         seat: &mut Seat<L, M>,
@@ -123,7 +123,7 @@ impl<'a, L: Ledger, G: Gate, R: Wait> Post<'a, L, G, R> {
         self.pass(Point::Finished)
     }
 
-    /// Hands in the plan, or finishes where it does nothing.
+    /// Hands in the plan, or finishes if the plan does nothing.
     fn place<M: Retention>(
         &self,
         seat: &mut Seat<L, M>,
@@ -144,7 +144,7 @@ impl<'a, L: Ledger, G: Gate, R: Wait> Post<'a, L, G, R> {
         self.pass(Point::Queued)
     }
 
-    /// Takes a snapshot, and hands in its plan, or finishes where it does nothing.
+    /// Takes a snapshot, and hands in its plan, or finishes if the plan does nothing.
     fn plan_anew<M: Retention>(
         &self,
         seat: &mut Seat<L, M>,
@@ -190,8 +190,8 @@ impl<'a, L: Ledger, G: Gate, R: Wait> Post<'a, L, G, R> {
         }
     }
 
-    /// Makes the steps that are due until the worker has to wait for others, or waits. What it looks at is of one moment, so a wait
-    /// past that moment misses no change.
+    /// Makes the steps that are due until the worker has to wait for others, or waits. It looks at the server at one moment, so
+    /// a wait past that moment misses no change.
     pub fn turn<M: Retention>(&self, seat: &mut Seat<L, M>, kept: &mut Kept) -> Result<(), Halt>
         ensures { Grows (IsOfWorker self.now.number) seat.old seat.new }
     {

@@ -15,7 +15,7 @@ use std::rt::Clock;
 use std::sync::Wait;
 use std::sync::ledger::Ledger;
 
-/// Pauses where the log is rotated and the applier, who rotates it, has not ended. Whether the worker goes on.
+/// Pauses if the log is rotated and the applier, which rotates it, has not ended. Returns whether the worker goes on.
 fn await_rotation<L: Ledger, G: Gate, R: Wait + Clock>(post: &Post<'_, L, G, R>) -> bool
     ensures { IsNone post.now.shared.now.rotates_at → IsFalse result }
 {
@@ -26,7 +26,8 @@ fn await_rotation<L: Ledger, G: Gate, R: Wait + Clock>(post: &Post<'_, L, G, R>)
     true
 }
 
-/// Gives the evaluation back, and pauses. Whether the worker goes on: not where a counter is full, or the log for ever.
+/// Gives the evaluation back, and pauses. Returns whether the worker goes on: not if a counter is full, or if the log is full
+/// and stays so.
 fn goes_on_later<L: Ledger, G: Gate, R: Wait + Clock, M: Retention>(
     post: &Post<'_, L, G, R>,
     seat: &mut Seat<L, M>,
@@ -44,7 +45,7 @@ fn goes_on_later<L: Ledger, G: Gate, R: Wait + Clock, M: Retention>(
     }
 }
 
-/// Whether the worker goes on, after it gave its evaluation back where that is due.
+/// Gives the evaluation back if that is due. Returns whether the worker goes on.
 fn goes_on<L: Ledger, G: Gate, R: Wait + Clock, M: Retention>(
     post: &Post<'_, L, G, R>,
     seat: &mut Seat<L, M>,
@@ -70,7 +71,7 @@ fn goes_on<L: Ledger, G: Gate, R: Wait + Clock, M: Retention>(
     }
 }
 
-/// A turn. Whether the worker goes on.
+/// Makes one turn. Returns whether the worker goes on.
 fn step<L: Ledger, G: Gate, R: Wait + Clock, M: Retention>(
     post: &Post<'_, L, G, R>,
     seat: &mut Seat<L, M>,
@@ -84,13 +85,13 @@ fn step<L: Ledger, G: Gate, R: Wait + Clock, M: Retention>(
     }
 }
 
-/// Takes what is ready, plans it with no lock held, and finishes it once its plan was applied. For want of memory it gives
-/// its evaluation back, and pauses before it tries again; where the log is full and is rotated, it pauses until it was. It ends
-/// where a counter is full, or the log for ever, where the gate lets it go no further, where its plan waits and the applier has
-/// ended, and where it is idle once the server is closed.
+/// Dequeues one evaluation after another, plans it with no lock held, and finishes it once its plan was applied. If no memory
+/// is left, it gives its evaluation back, and pauses before it tries again. If the log is full and is rotated, it pauses until
+/// it was rotated. It ends if a counter is full, if the log is full and stays so, if the gate stops it, if its plan waits and
+/// the applier has ended, and if it is idle once the server is closed.
 ///
-/// Each worker has a number of its own, below 64: one with another number ends at once. One that enters once the server is
-/// closed takes nothing, so none need have entered before the applier may end.
+/// Each worker has a number of its own, below 64: a worker with another number ends at once. A worker that enters once the
+/// server is closed dequeues nothing, so the applier may end before all workers have entered.
 pub fn worker<L: Ledger, G: Gate, R: Wait + Clock, M: Retention>(
     rt: &R,
     alloc: Global,

@@ -7,11 +7,11 @@ use Rattle.ns_faults.specs.declared.status.TheConstants.{SERVED, MISMATCH, WRITE
 use Rattle.ns_listener.specs.Ending.{EndsInPart, EndsSettled, EndsUnsettled, IsEnd, IsLastLine}
 use Rattle.ns_listener.specs.declared.service.Service.{Service}
 
--- this holds with some generators, which draw so
+-- this holds for some random generators, which draw as `draws` says
 abbrev pub ForSomeDrawers : {D : Type 0} → (D → List ℕ → D → Type 0) → (List D → Type 0) → Type 0
 ForSomeDrawers {D} draws Holds = (drawers : List D) × Holds drawers
 
--- a server that was asked to be this ended with this status
+-- a server with these settings ended with this status
 pub record EndsHosted {D W E : Type 0} (draws : D → List ℕ → D → Type 0) (contents : W → Option (List ℕ))
     (error_text : E → Option (List ℕ)) (service : Service) (status : ℕ) (writer writer' : Counted W)
     (errors errors' : Counted E) : Type 0 where

@@ -24,7 +24,8 @@ use std::sync::Wait;
 use std::sync::ledger::{Blank, Ledger};
 use std::thread::Threads;
 
-/// Serves as is asked, with a generator for each thread of connections and one for the secret, and says the exit status.
+/// Runs a server with these settings, with a random generator for each connection thread and one for the secret. Returns the
+/// exit status and the writer.
 fn host<
     R: Threads
         + Wait
@@ -54,7 +55,8 @@ fn host<
     serve::<Brand, _, _, _, _>(rt, alloc, service, draws, blank, writer, errors)
 }
 
-/// Ends what the words came to: runs the server, where they ask for one. Says how that ended; a server reads no input.
+/// Finishes what the command line asks for: runs the server, if it asks for one. Returns how that ended. A server reads no
+/// input.
 pub fn conclude<
     T: Threads
         + Wait

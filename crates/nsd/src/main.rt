@@ -1,4 +1,4 @@
-//! Is the program `nsd`: a scheduling server that tenants who do not trust each other can share.
+//! The program `nsd`: a scheduling server that tenants who do not trust each other can share.
 #![tactic(auto)]
 
 mod host;
@@ -14,7 +14,7 @@ use std::alloc::{AllocError, Global};
 use std::env;
 use std::process::ExitCode;
 
-/// The words as texts.
+/// The words of the command line as texts.
 fn texts<'a>(alloc: Global, words: &'a [String]) -> Result<Vec<&'a str>, AllocError> {
     words.iter().map(|word| word.as_str()).collect(alloc)
 }

@@ -1,4 +1,4 @@
-//! How answers are written, a line each.
+//! Writes replies, one line each.
 
 use crate::words::{write_line, write_words};
 use itoa::Buffer;
@@ -11,7 +11,7 @@ use ns_types::text::Text;
 use ns_types::worker::Phase;
 use std::io::{self, Write};
 
-/// Status, index and body.
+/// Writes the status, the index and the body.
 pub fn write_response<W: Write>(out: &mut W, response: &Response) -> io::Result<()> {
     let mut digits = Buffer::new();
     match response {
@@ -25,7 +25,7 @@ pub fn write_response<W: Write>(out: &mut W, response: &Response) -> io::Result<
     }
 }
 
-/// Why a worker's step was refused.
+/// Writes why a worker's step was refused.
 pub fn write_refusal<W: Write>(out: &mut W, refusal: Refusal) -> io::Result<()> {
     let text = match refusal {
         Refusal::NotEnabled => "not enabled",
@@ -45,7 +45,7 @@ fn status_text(status: Status) -> &'static str {
     }
 }
 
-/// With a space before each.
+/// Writes the numbers with a space before each, or `nothing`.
 fn write_numbers<W: Write>(out: &mut W, numbers: &[u64]) -> io::Result<()> {
     if numbers.is_empty() {
         write_words(out, &[" nothing"])?;
@@ -57,7 +57,7 @@ fn write_numbers<W: Write>(out: &mut W, numbers: &[u64]) -> io::Result<()> {
     Ok(())
 }
 
-/// With a space before each.
+/// Writes the names with a space before each, or `nothing`.
 fn write_names<W: Write>(out: &mut W, names: &[Text]) -> io::Result<()> {
     if names.is_empty() {
         write_words(out, &[" nothing"])?;
@@ -68,7 +68,7 @@ fn write_names<W: Write>(out: &mut W, names: &[Text]) -> io::Result<()> {
     Ok(())
 }
 
-/// The allocations that were made, and the nodes that were dropped.
+/// Writes the allocations that were made, and the nodes that were dropped.
 fn write_applied<W: Write>(out: &mut W, made: &[u64], dropped: &[Text]) -> io::Result<()> {
     write_words(out, &["applied"])?;
     write_numbers(out, made)?;
@@ -77,7 +77,7 @@ fn write_applied<W: Write>(out: &mut W, made: &[u64], dropped: &[Text]) -> io::R
     write_line(out, &[])
 }
 
-/// How the evaluation ended, and its follower.
+/// Writes how the evaluation ended, and its follower.
 fn write_finished<W: Write>(out: &mut W, status: Status, follower: Option<u64>) -> io::Result<()> {
     let mut digits = Buffer::new();
     let follower = match follower {
@@ -103,7 +103,7 @@ fn write_content<W: Write>(out: &mut W, content: &Content) -> anyhow::Result<()>
     Ok(written?)
 }
 
-/// The answer to a worker's step. It has no index.
+/// Writes the reply to a worker's step, with its index if it has one.
 pub fn write_reply<W: Write>(out: &mut W, answer: &Result<Reply, Refusal>) -> anyhow::Result<()> {
     match answer {
         Ok(reply) => {
@@ -116,12 +116,12 @@ pub fn write_reply<W: Write>(out: &mut W, answer: &Result<Reply, Refusal>) -> an
     }
 }
 
-/// The number of the evaluation whose snapshot was taken.
+/// Writes the number of the evaluation whose snapshot was taken.
 pub fn write_snapped<W: Write>(out: &mut W, number: u64) -> io::Result<()> {
     write_line(out, &["snapped ", Buffer::new().format(number)])
 }
 
-/// An evaluation of a list, if there is one.
+/// Writes the key of an evaluation, or `nothing`.
 pub fn write_key<W: Write>(out: &mut W, key: Option<&EvalKey>) -> io::Result<()> {
     match key {
         Some(key) => {
@@ -143,7 +143,7 @@ fn phase_text(phase: Phase) -> &'static str {
     }
 }
 
-/// How far the worker is with which evaluation, and how many tries its plan has left.
+/// Writes the phase and the evaluation of the worker, and how many tries its plan has left.
 pub fn write_phase<W: Write>(out: &mut W, core: &Core, worker: u64) -> io::Result<()> {
     match core.phase(worker) {
         Some(busy) => {

@@ -1,4 +1,4 @@
-//! One connection with a new server, of which the replies or the log are shown.
+//! One connection with a new server, whose replies or log are returned.
 
 use crate::ended::PlayEnd;
 use crate::same_bytes::SameBytes;
@@ -10,7 +10,7 @@ use ns_pipe::{pipe, pipe_log};
 use ns_types::name::Secret;
 use std::alloc::Global;
 
-/// A name that begins with `driven` is that of a part whose server drives a worker after each request.
+/// Whether a worker is driven after each request: if the name of the part begins with `driven`.
 fn driven_of(name: &str) -> Driven {
     if name.starts_with("driven ") {
         Driven::Worker
@@ -19,7 +19,7 @@ fn driven_of(name: &str) -> Driven {
     }
 }
 
-/// The text with the spaces that the name begins with: `spaces`, how many, and the rest of the name.
+/// The text, followed by spaces if the name begins with `spaces` and their number.
 fn spaced(alloc: Global, text: &str, name: &str) -> anyhow::Result<String> {
     let mut input = String::from_str(alloc, text)?;
     if let Some(rest) = name.strip_prefix("spaces ") {
@@ -32,8 +32,8 @@ fn spaced(alloc: Global, text: &str, name: &str) -> anyhow::Result<String> {
     Ok(input)
 }
 
-/// Serves the requests, for the replies. The words are the bootstrap secret, the step of the draws, and a name, before which stands
-/// `driven` where a worker is driven, or `spaces` with a number where so many spaces follow the requests.
+/// Serves the requests, and returns the replies. The words are the bootstrap secret, the step of the draws, and a name. The
+/// name begins with `driven` if a worker is driven, and with `spaces` and a number if that many spaces follow the requests.
 pub fn serve(alloc: Global, words: &str, requests: &str) -> anyhow::Result<PlayEnd> {
     let (secret, words) = first_word(words);
     let (step, name) = first_word(words);
@@ -64,7 +64,7 @@ pub fn serve(alloc: Global, words: &str, requests: &str) -> anyhow::Result<PlayE
     })
 }
 
-/// Serves the requests, for their log. Each draw is the same.
+/// Serves the requests, and returns their log. Each draw is the same.
 pub fn log_of(alloc: Global, requests: &str, driven: Driven) -> anyhow::Result<PlayEnd> {
     let bootstrap = Secret::read(alloc, ROOT)?.context("no secret")?;
     let mut next = 1;
@@ -93,7 +93,7 @@ pub fn log_of(alloc: Global, requests: &str, driven: Driven) -> anyhow::Result<P
     })
 }
 
-/// The same by a head, whose words are a name, before which stands `driven` where a worker is driven.
+/// Serves the requests, and returns their log. A worker is driven if the name begins with `driven`.
 pub fn log(alloc: Global, name: &str, requests: &str) -> anyhow::Result<PlayEnd> {
     log_of(alloc, requests, driven_of(name))
 }

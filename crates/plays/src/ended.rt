@@ -4,7 +4,7 @@ use crate::words::write_line;
 use itoa::Buffer;
 use std::io::Write;
 
-/// The exit status, what was written, and what was written of faults.
+/// The exit status, the output, and what was written of faults.
 #[derive(Drop)]
 pub struct PlayEnd {
     pub status: u8,
@@ -13,7 +13,7 @@ pub struct PlayEnd {
 }
 
 impl PlayEnd {
-    /// Writes what was written, the exit status on a line of its own, and what was written of faults.
+    /// Writes the output, the exit status on a line of its own, and what was written of faults.
     pub fn print<W: Write>(&self, out: &mut W) -> anyhow::Result<()> {
         out.write_all(self.written.as_slice())?;
         write_line(out, &["\nstatus ", Buffer::new().format(self.status)])?;

@@ -26,7 +26,8 @@ impl Takes for Lent<'_> {
     }
 }
 
-/// What the core answers the request. The byte that is drawn next is `next`, and then one that is greater by `step`.
+/// The response of the core to the request. The first draw is of the byte `next`, and each later one of a byte that is greater
+/// by `step`.
 pub fn answered(
     alloc: Global,
     core: &mut Core,

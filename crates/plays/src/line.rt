@@ -7,7 +7,7 @@ use ns_types::name::{Name, NameKind};
 pub enum Line<'a> {
     /// Empty, or a comment.
     Remark,
-    /// From now on each call is watched, by a read of the target beside what was watched before.
+    /// From now on each call is watched by a read of this target, besides the earlier ones.
     Watch(&'a str),
     /// The secret of the requests that follow, if they have one.
     Token(Option<&'a [u8]>),
@@ -21,15 +21,16 @@ pub enum Line<'a> {
 pub enum ScriptWork {
     Dequeue(u64),
     Snap,
-    /// The plan of the snapshot that was taken at that place in the script is handed in, or of the worker's last.
+    /// Submits the plan of the snapshot that was taken at this place in the script's order, from 1 on. None: of the worker's
+    /// last.
     Submit(Option<u64>),
     Apply,
-    /// By the plan of the snapshot, as it is handed in.
+    /// Finishes by the plan of a snapshot, which is chosen as in `Submit`.
     Finish(Option<u64>),
     Nack,
 }
 
-/// What a worker does, or what is looked at.
+/// What a worker does, or what is read.
 #[derive(Clone, Copy)]
 pub enum Call<'a> {
     /// The worker, and the namespace.
@@ -37,7 +38,7 @@ pub enum Call<'a> {
     Served,
     Planned,
     Phase(u64),
-    /// Each call that takes no memory is made so often, about the namespace and the pool.
+    /// Makes each call that takes no memory this often, about the namespace and the pool.
     Looks(u64, &'a str, &'a str),
 }
 
@@ -48,14 +49,14 @@ fn namespace(text: &str) -> Option<&str> {
     }
 }
 
-/// The worker and the namespace of a step, and what stands behind them.
+/// The worker and the namespace of a step, and the rest of the text.
 fn worker_in(text: &str) -> Option<(u64, &str, &str)> {
     let (worker, rest) = first_word(text);
     let (name, rest) = first_word(rest);
     Some((number(worker)?, namespace(name)?, rest))
 }
 
-/// The place of a snapshot, if it is said.
+/// The place of a snapshot, if one is given.
 fn place(text: &str) -> Option<Option<u64>> {
     if text.is_empty() {
         return Some(None);
@@ -105,7 +106,7 @@ impl<'a> Call<'a> {
 }
 
 impl<'a> Line<'a> {
-    /// None: it says nothing that is known.
+    /// Reads a line of a script. None: it is no such line.
     pub fn read(text: &'a str) -> Option<Line<'a>> {
         if text.is_empty() || text.starts_with('#') {
             return Some(Line::Remark);

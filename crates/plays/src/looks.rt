@@ -1,4 +1,4 @@
-//! The calls of a core that take no memory, and so can't be refused for want of it.
+//! The calls of a core that take no memory, and so cannot be refused for want of memory.
 
 use crate::words::{ROOT, write_line, write_words};
 use itoa::Buffer;
@@ -10,8 +10,8 @@ use ns_types::text::Text;
 use std::alloc::{AllocError, Global};
 use std::io::{self, Write};
 
-/// What they are asked about: what a secret may do, whether a namespace has a pool and the quota `qa` to itself, and whether there is
-/// room for a step.
+/// What the calls are about: what a secret may do, whether a namespace has a pool and the quota `qa` to itself, and whether
+/// there is room for a step.
 #[derive(Drop)]
 pub struct LookTargets {
     secret: Text,
@@ -34,7 +34,7 @@ impl LookTargets {
     }
 }
 
-/// What they answer.
+/// What the calls return.
 #[derive(Clone, Copy, PartialEq, Eq)]
 struct Looked {
     served: u64,
@@ -71,7 +71,7 @@ fn write_number<W: Write>(out: &mut W, name: &str, number: u64) -> io::Result<()
 }
 
 impl Looked {
-    /// Each call once.
+    /// Makes each call once.
     fn at(core: &Core, asked: &LookTargets) -> Looked {
         let LookTargets {
             secret,
@@ -116,7 +116,7 @@ impl Looked {
     }
 }
 
-/// Makes each call so often, and writes what they answer: the same each time.
+/// Makes each call `times` times, and writes what they return, which has to be the same each time.
 pub fn write_looks<W: Write>(
     out: &mut W,
     core: &Core,

@@ -1,5 +1,5 @@
-//! Plays stored parts, each with a server of its own, whose draws are fixed: connections of which the replies or the log are shown,
-//! logs of which a namespace's own part is replayed alone, and scripts, in which workers make their steps between requests.
+//! Plays stored parts, each with a new server whose draws are fixed. A part is a connection whose replies or log are printed, a
+//! log from which a namespace's own steps are replayed alone, or a script in which workers make steps between requests.
 #![tactic(auto)]
 
 mod answers;

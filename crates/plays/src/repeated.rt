@@ -1,4 +1,4 @@
-//! A long log: that of requests which are made over and over, with what a driven worker does after each.
+//! A long log: that of requests that are made over and over, each followed by the steps of a driven worker.
 
 use crate::connection::log_of;
 use crate::ended::PlayEnd;
@@ -8,10 +8,10 @@ use anyhow::Context;
 use ns_api::Driven;
 use std::alloc::Global;
 
-/// Stands between the requests that are made once and those that are made over and over.
+/// Separates the requests that are made once from those that are made over and over.
 const AGAIN: &str = "\n--- again\n";
 
-/// The requests that are made once, and then the others so many times.
+/// The requests that are made once, followed by the others `times` times.
 fn repeated(alloc: Global, text: &str, times: u64) -> anyhow::Result<String> {
     let (once, again) = text
         .split_once(AGAIN)
@@ -38,8 +38,8 @@ fn last_line(text: &str) -> anyhow::Result<(u64, &str)> {
     Ok((lines as u64, last))
 }
 
-/// Replays the log of the requests, for how many lines that prints, and the last of them. The words are the namespace, how many of
-/// the first entries make the base, how many rounds there are, and a name.
+/// Replays the log of the requests, and returns how many lines that prints, and the last of them. The words are the namespace,
+/// how many of the first entries set up the server, the number of rounds, and a name.
 pub fn rounds(alloc: Global, words: &str, text: &str) -> anyhow::Result<PlayEnd> {
     let (_namespace, rest) = first_word(words);
     let (_from, rest) = first_word(rest);

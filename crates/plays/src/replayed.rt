@@ -1,4 +1,4 @@
-//! A log, of which a namespace's own part is replayed alone.
+//! Replays a namespace's own steps of a log alone.
 
 use crate::ended::PlayEnd;
 use crate::words::{BAD_HEAD, first_word};
@@ -9,7 +9,7 @@ use ns_types::rows::Rows;
 use ns_types::text::Text;
 use std::alloc::Global;
 
-/// The words that stand behind that one.
+/// The words that follow the word `wanted`.
 fn behind(alloc: Global, words: &str, wanted: &str) -> anyhow::Result<Rows<Text>> {
     let mut names = Rows::new(alloc);
     let mut is_behind = false;
@@ -22,8 +22,8 @@ fn behind(alloc: Global, words: &str, wanted: &str) -> anyhow::Result<Rows<Text>
     Ok(names)
 }
 
-/// The words are the namespace, how many of the first entries make the base, and others, of which those are read that stand behind
-/// `--pool` and `--quota`.
+/// The replay that the words ask for: first the namespace, then how many of the first entries set up the server. Each word
+/// after `--pool` or `--quota` is one that the namespace has to itself. Other words are not read.
 fn replay_of(alloc: Global, words: &str) -> anyhow::Result<Replay> {
     let (namespace, words) = first_word(words);
     let (from, words) = first_word(words);
@@ -35,7 +35,7 @@ fn replay_of(alloc: Global, words: &str) -> anyhow::Result<Replay> {
     })
 }
 
-/// Replays the log by the words.
+/// Makes the replay of the log that the words ask for.
 pub fn alone(alloc: Global, words: &str, log: &[u8]) -> anyhow::Result<PlayEnd> {
     let replay = replay_of(alloc, words)?;
     let mut errors = Counted::new(Vec::new(alloc));

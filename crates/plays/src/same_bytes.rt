@@ -2,7 +2,7 @@
 
 use ns_endpoints::Draws;
 
-/// Draws sixteen times the same byte, and `step` more each time.
+/// Draws sixteen times the same byte, which is greater by `step` in each later draw.
 #[derive(Drop)]
 pub struct SameBytes<'a> {
     /// The byte that is drawn next.

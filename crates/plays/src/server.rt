@@ -24,7 +24,7 @@ use std::io::Write;
 struct ScriptServer<'a> {
     alloc: Global,
     core: Core,
-    /// That of the requests that follow.
+    /// The secret of the requests that follow.
     token: Option<&'a [u8]>,
     /// The byte that is drawn next.
     next: u8,
@@ -61,7 +61,7 @@ impl<'a> ScriptServer<'a> {
         answered(self.alloc, &mut self.core, &mut self.next, 1, request)
     }
 
-    /// A request that was refused for memory is made once more, with the same draws.
+    /// Makes the request. If it is refused for want of memory, it is made once more, with the same draws.
     fn ask(&mut self, request: &Request<'_>) -> anyhow::Result<Response> {
         let before = self.watch.before(&self.core)?;
         let next = self.next;
@@ -93,7 +93,7 @@ impl<'a> ScriptServer<'a> {
         Ok(written?)
     }
 
-    /// A look that was refused for memory is made once more.
+    /// Takes a snapshot. If it is refused for want of memory, it is taken once more.
     fn snapped(
         &mut self,
         worker: u64,
@@ -120,7 +120,7 @@ impl<'a> ScriptServer<'a> {
         }
     }
 
-    /// A worker's step in the namespace.
+    /// Makes a step of the worker in the namespace, and writes the reply.
     fn work<W: Write>(
         &mut self,
         worker: u64,
@@ -179,7 +179,7 @@ impl<'a> ScriptServer<'a> {
         Ok(written?)
     }
 
-    /// Does what the line says, and writes what it is answered.
+    /// Does what the line says, and writes the reply.
     fn obey<W: Write>(&mut self, line: Line<'a>, out: &mut W) -> anyhow::Result<()> {
         match line {
             Line::Remark => Ok(()),
@@ -193,7 +193,7 @@ impl<'a> ScriptServer<'a> {
         }
     }
 
-    /// Writes each line, and below it what it is answered.
+    /// Writes each line, and below it the reply.
     fn play<W: Write>(&mut self, lines: &'a str, out: &mut W) -> anyhow::Result<()> {
         for text in lines.split('\n') {
             write_line(out, &[text])?;

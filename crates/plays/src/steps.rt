@@ -1,4 +1,4 @@
-//! The steps of workers that are answered by a reply.
+//! The steps of workers that return a reply.
 
 use crate::answers::write_reply;
 use crate::watch::CopyWatch;
@@ -16,15 +16,15 @@ use std::io::Write;
 #[derive(Clone, Copy)]
 pub enum ScriptStep<'a> {
     Dequeue(u64),
-    /// The plan of the snapshot is made and handed in.
+    /// Makes the plan of the snapshot, and submits it.
     Submit(&'a Shared<Snapshot>),
     Apply,
-    /// By the plan of the snapshot, which is made once more.
+    /// Makes the plan of the snapshot once more, and finishes by it.
     Finish(&'a Shared<Snapshot>),
     Nack,
 }
 
-/// The evaluation is finished by the plan of the snapshot.
+/// Finishes the evaluation by the plan of the snapshot.
 fn finished(
     core: &mut Core,
     alloc: Global,
@@ -55,7 +55,7 @@ impl ScriptStep<'_> {
         }
     }
 
-    /// Makes the step, and writes what it is answered. A step that was refused for memory is made once more.
+    /// Makes the step, and writes the reply. A step that was refused for want of memory is made once more.
     pub fn tell<W: Write>(
         self,
         core: &mut Core,

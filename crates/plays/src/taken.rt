@@ -30,18 +30,18 @@ impl Snapshots {
         Ok(())
     }
 
-    /// The one that the worker took last.
+    /// The snapshot that the worker took last.
     fn last_of(&self, worker: u64) -> Option<&Taken> {
         self.taken.iter().rev().find(|taken| taken.worker == worker)
     }
 
-    /// The one that was taken at that place in the order, counted from 1.
+    /// The snapshot at this place in the order, counted from 1.
     fn at(&self, place: u64) -> Option<&Taken> {
         let place = usize::try_from(place.checked_sub(1)?).ok()?;
         self.taken.get(place)
     }
 
-    /// The one at the place, or else the one that the worker took last.
+    /// The snapshot at the place, or without a place the one that the worker took last.
     pub fn find(&self, worker: u64, place: Option<u64>) -> anyhow::Result<&Shared<Snapshot>> {
         let taken = match place {
             Some(place) => self.at(place),

@@ -1,4 +1,5 @@
-//! What a refused call leaves of a server: the core is copied before each call, and compared with the copy where the call was refused.
+//! Checks that a refused call changes nothing: the core is copied before each call, and compared with the copy if the call was
+//! refused.
 
 use crate::answers::{write_key, write_phase, write_response};
 use crate::lent::answered;
@@ -13,30 +14,31 @@ use ns_types::snapshot::Snapshot;
 use std::alloc::{AllocError, Global};
 use std::io::Write;
 
-/// Behind the last number of a worker.
+/// The number after that of the last worker.
 const WORKERS_END: u64 = 64;
 
-/// By an allocation of so many bytes `bench/refusing.py`, which refuses allocations, is told that those that follow are the
-/// comparison's own, and not to be refused; and by one of so many that it is over.
+/// An allocation of `BEGINS` bytes tells `bench/refusing.py`, which refuses allocations, not to refuse those that follow, since
+/// the comparison makes them. One of `ENDS` bytes says that the comparison is over.
 const BEGINS: usize = 40_009;
 
 const ENDS: usize = 40_013;
 
-/// Makes an allocation of that size.
+/// Makes an allocation of this size.
 fn signal(alloc: Global, size: usize) -> Result<(), AllocError> {
     let list: Vec<u8> = Vec::with_capacity(alloc, size)?;
     drop(list);
     Ok(())
 }
 
-/// The targets of reads by which both are compared, beside all that workers and lists show. Without one nothing is copied.
+/// The targets of the reads by which the core and its copy are compared, besides all that workers and lists show. Without a
+/// target nothing is copied.
 #[derive(Drop)]
 pub struct CopyWatch<'a> {
     alloc: Global,
     targets: Vec<&'a str>,
 }
 
-/// A copy that was refused for memory is made once more.
+/// A copy of the core. If it is refused for want of memory, it is made once more.
 fn copied(alloc: Global, core: &Core) -> Result<Core, AllocError> {
     match core.copy(alloc) {
         Ok(copy) => Ok(copy),
@@ -44,7 +46,8 @@ fn copied(alloc: Global, core: &Core) -> Result<Core, AllocError> {
     }
 }
 
-/// What a read of the target is answered. One that found no memory is made once more, so that it shows what the core holds.
+/// The response to a read of the target. If it is refused for want of memory, it is made once more, so that it shows what the
+/// core holds.
 fn read(alloc: Global, core: &mut Core, target: &str) -> Result<Response, AllocError> {
     let request = Request {
         method: b"GET",
@@ -59,7 +62,7 @@ fn read(alloc: Global, core: &mut Core, target: &str) -> Result<Response, AllocE
     }
 }
 
-/// Writes what a read of the target is answered.
+/// Writes the response to a read of the target.
 fn write_read<W: Write>(
     alloc: Global,
     core: &mut Core,
@@ -72,7 +75,7 @@ fn write_read<W: Write>(
     Ok(written?)
 }
 
-/// Writes which evaluation and which plan are served next, and how far each worker is.
+/// Writes the next evaluation, the next plan, and the phase of each worker.
 fn write_work<W: Write>(core: &Core, out: &mut W) -> anyhow::Result<()> {
     write_key(out, core.served())?;
     write_key(out, core.first_plan())?;
@@ -121,7 +124,7 @@ impl<'a> CopyWatch<'a> {
         Ok(())
     }
 
-    /// A copy of the core, where something is watched.
+    /// A copy of the core. None: nothing is watched.
     pub fn before(&self, core: &Core) -> Result<Option<Core>, AllocError> {
         if self.targets.is_empty() {
             return Ok(None);
@@ -157,7 +160,7 @@ impl<'a> CopyWatch<'a> {
         Ok(signal(self.alloc, ENDS)?)
     }
 
-    /// Behind a call: fails where it was refused, and the core shows something else than the copy that was made before it.
+    /// Called after a call. Fails if the call was refused and the core shows something else than the copy from before the call.
     pub fn after(
         &self,
         before: Option<Core>,

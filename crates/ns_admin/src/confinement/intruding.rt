@@ -1,4 +1,4 @@
-//! Who intrudes on pools and quotas that a namespace is to have to itself.
+//! Whether a namespace intrudes on pools and quotas that another one is to have to itself.
 
 ghost use Rattle.std.specs.Prelude.{◌≡◌, not, ◌&&◌, true, false};
 ghost use Rattle.std.specs.List.{list_all, list_any};
@@ -105,7 +105,7 @@ fn some_intrudes(
         .any(|slot| other_intrudes(slot, namespace, pools, quotas))
 }
 
-/// Whether some other namespace does.
+/// Whether some other namespace intrudes on these pools and quotas.
 pub(crate) fn any_intrudes(
     tables: &Tables,
     namespace: &Text,

@@ -1,4 +1,4 @@
-//! What of a namespace names another pool than those of a list.
+//! Whether something of a namespace names a pool that is not in a list.
 
 ghost use Rattle.std.specs.Prelude.{◌≡◌};
 ghost use Rattle.std.specs.List.{list_any};
@@ -82,21 +82,21 @@ fn any_allocation_strays(slots: &[NumberSlot<Allocation>], pools: &[Text]) -> bo
 
 // ---- in a namespace
 
-/// Whether an open evaluation names another pool.
+/// Whether an open evaluation names a pool that is not in the list.
 pub fn has_evaluation_astray(tenant: &TenantRows, pools: &[Text]) -> bool
     ensures { result ≡ has_evaluation_astray pools.now (tenant_of tenant.now) }
 {
     any_evaluation_strays(tenant.evaluations.rows().as_slice(), pools)
 }
 
-/// Whether a kept snapshot names another pool.
+/// Whether a kept snapshot names a pool that is not in the list.
 pub fn has_worker_astray(tenant: &TenantRows, pools: &[Text]) -> bool
     ensures { result ≡ has_worker_astray pools.now (tenant_of tenant.now) }
 {
     any_worker_strays(tenant.workers.as_slice(), pools)
 }
 
-/// Whether an allocation that the client has not ended names another pool.
+/// Whether an allocation that the client has not ended names a pool that is not in the list.
 pub fn has_allocation_astray(tenant: &TenantRows, pools: &[Text]) -> bool
     ensures { result ≡ has_allocation_astray pools.now (tenant_of tenant.now) }
 {

@@ -16,7 +16,7 @@ use ns_types::plan::{Placement, Plan};
 use ns_types::snapshot::Snapshot;
 use ns_types::text::{Text, same_text};
 
-// ---- its own namespace
+// ---- the plan's own namespace
 
 fn any_placed(placements: &[Placement], committed: &Places<'_>) -> bool
     ensures { result ≡ list_any (λ p. has_number committed.now p.node) placements.now }
@@ -36,7 +36,8 @@ fn any_live(headroom: &Headroom, namespace: &Text, numbers: &[u64]) -> bool
     numbers.iter().any(|n| headroom.lives_at(namespace, *n))
 }
 
-/// Whether the number of the last allocation passes. They are counted only where as many as there are placements would.
+/// Whether the number of the last allocation passes its bound. It counts the placements only if the number of all of
+/// them would pass it.
 fn numbers_pass(
     headroom: &Headroom,
     namespace: &Text,
@@ -62,7 +63,7 @@ fn does_something(
         || any_placed(plan.placing.placements.as_slice(), committed)
 }
 
-/// Whether the number of the last allocation passes, or the index of the plan's namespace.
+/// Whether the number of the last allocation, or the index of the plan's namespace, passes its bound.
 fn own_passes(headroom: &Headroom, snapshot: &Snapshot, plan: &Plan, committed: &Places<'_>) -> bool
     ensures { result ≡ own_passes headroom.now snapshot.now.namespace
         (doing headroom.now snapshot.now plan.now committed.now) }
@@ -75,7 +76,7 @@ fn own_passes(headroom: &Headroom, snapshot: &Snapshot, plan: &Plan, committed: 
 
 // ---- nodes
 
-/// The name of the node at the place of the snapshot, or no name.
+/// The name of the node at that place of the snapshot, or an empty name.
 fn node_name<'a>(snapshot: &'a Snapshot, nameless: &'a Text, place: u64) -> &'a Text
     requires { nameless.now ≡ [] }
     ensures { result.now ≡ node_name snapshot.now place }
@@ -100,7 +101,7 @@ fn is_on(
     committed.has(placement.node) && same_text(name, node_name(snapshot, nameless, placement.node))
 }
 
-/// How many placements are on the node of that name.
+/// How many placements are on the committed node of that name.
 fn count_on(
     snapshot: &Snapshot,
     nameless: &Text,
@@ -118,7 +119,8 @@ fn count_on(
         .count()
 }
 
-/// Whether the node's number of places passes. They are counted only where as many as there are placements would.
+/// Whether the node's number of places passes its bound. It counts the placements on the node only if the number of all
+/// placements would pass it.
 fn node_passes(
     headroom: &Headroom,
     snapshot: &Snapshot,
@@ -161,7 +163,7 @@ fn any_node_passes(
     ))
 }
 
-/// Whether the number of places of a node passes.
+/// Whether the number of places of a committed node passes its bound.
 fn places_pass(
     headroom: &Headroom,
     snapshot: &Snapshot,
@@ -187,7 +189,7 @@ fn any_stop_passes(headroom: &Headroom, namespace: &Text, numbers: &[u64]) -> bo
     numbers.iter().any(|n| headroom.lives_at(namespace, *n) && headroom.end_passes(namespace, *n))
 }
 
-/// Whether a counter passes by what one of the stops releases.
+/// Whether a counter passes its bound by what one of the stops releases.
 fn stops_pass(headroom: &Headroom, snapshot: &Snapshot, plan: &Plan) -> bool
     ensures { let kept = snapshot.now in
         let stops = live_numbers headroom.now kept.namespace plan.now.stops in
@@ -196,12 +198,11 @@ fn stops_pass(headroom: &Headroom, snapshot: &Snapshot, plan: &Plan) -> bool
     any_stop_passes(headroom, &snapshot.namespace, plan.stops.as_slice())
 }
 
-/// Whether a counter passes its bound by what is placed on the nodes at those places of the snapshot and by what is
-/// stopped: the number of the last allocation, the index of the plan's namespace, the number of places of a node, or a
-/// release.
+/// Whether a counter passes its bound by what the plan places on the committed nodes and by what it stops: the number
+/// of the last allocation, the index of the plan's namespace, the number of places of a node, or a release.
 ///
-/// It costs a look-up for each of the nodes and each stop. Only where a number is so near its bound that as many as the
-/// plan has placements would pass it, it goes over the placements to count them.
+/// It costs a look-up for each of the nodes and each stop. It counts the placements only if a number is so near its
+/// bound that the number of all placements would pass it.
 pub fn own_part_passes(
     headroom: &Headroom,
     snapshot: &Snapshot,

@@ -1,4 +1,4 @@
-//! What the end of an allocation releases, judged for many of them by the same tables. It takes no memory.
+//! Judges what the end of an allocation releases, for many allocations over the same tables. It takes no memory.
 
 ghost use Rattle.std.specs.Prelude.{◌≡◌, ◌+◌, [], false, nat_lt};
 ghost use Rattle.ns_types.specs.declared.node.Class.{Class};
@@ -22,7 +22,7 @@ use ns_types::plan::{Eviction, Placement, Plan};
 use ns_types::text::Text;
 use std::marker::Model;
 
-/// Whether a counter passes its bound by so much more.
+/// Whether a counter passes its bound by `more` more.
 fn is_past(count: u64, more: u64) -> bool
     ensures { result ≡ nat_lt greatest (count + more) }
 {
@@ -56,7 +56,7 @@ fn allocations_pass(tables: &Tables, namespace: &Text, count: u64) -> bool
     }
 }
 
-/// Whether an allocation ends where the plan is applied: it stops one, or evicts one.
+/// Whether the plan stops or evicts an allocation.
 fn ends_any(plan: &Plan) -> bool {
     !plan.stops.as_slice().is_empty() || evicts_any(plan.placing.placements.as_slice())
 }
@@ -67,11 +67,11 @@ fn evicts_any(placements: &[Placement]) -> bool {
         .any(|placement| !placement.evictions.as_slice().is_empty())
 }
 
-/// The tables, as the counters that releases may pass are looked at. Contracts see the world.
+/// The tables, prepared for looking at the counters that releases raise. Contracts see the world.
 ///
-/// Where no blocked evaluation is of a namespace whose index is at its bound, none that wakes passes an index. That is
-/// looked at once, and only for a plan that ends an allocation. From then on a release costs a look-up. Only where an
-/// index may pass it costs a walk over the blocked evaluations.
+/// If no blocked evaluation is of a namespace whose index is at its bound, no evaluation that wakes passes an index.
+/// That is looked at once, and only for a plan that ends an allocation. Then a release costs a look-up. Only if an
+/// index may pass its bound, a release costs a walk over the blocked evaluations.
 #[derive(Drop)]
 pub struct Headroom<'a> {
     tables: &'a Tables,
@@ -96,7 +96,7 @@ impl<'a> Model for Headroom<'a> {
 }
 
 impl<'a> Headroom<'a> {
-    /// Of the world that the tables hold, for the plan that is to be applied to it. Only where that ends an allocation it
+    /// For a plan that is to be applied to the world that the tables hold. Only if the plan ends an allocation, it
     /// looks at all namespaces, or at all blocked evaluations if these are fewer.
     pub fn new(tables: &'a Tables, plan: &Plan) -> Headroom<'a>
         ensures { result ≡ world_of tables.now }
@@ -131,14 +131,14 @@ impl<'a> Headroom<'a> {
         is_last_index(self.tables, namespace)
     }
 
-    /// Whether the number of the last of so many more allocations passes its bound.
+    /// Whether the number of the last of `count` more allocations passes its bound.
     pub(crate) fn allocations_pass(&self, namespace: &Text, count: u64) -> bool
         ensures { result ≡ allocations_pass self.now namespace.now count }
     {
         allocations_pass(self.tables, namespace, count)
     }
 
-    /// Whether the node's number of places passes its bound by so many more.
+    /// Whether the node's number of places passes its bound by `count` more.
     pub(crate) fn node_passes(&self, pool: &Text, name: &Text, count: u64) -> bool
         ensures { result ≡ node_passes self.now pool.now name.now count }
     {
@@ -178,7 +178,7 @@ impl<'a> Headroom<'a> {
         }
     }
 
-    /// Whether a counter passes its bound by what an allocation of the namespace leaves of its quota.
+    /// Whether a counter passes its bound by what an allocation of the namespace releases of its quota.
     fn left_quota_passes(&self, namespace: &Text) -> bool
         ensures { result ≡ left_quota_passes self.now namespace.now }
     {
@@ -197,8 +197,8 @@ impl<'a> Headroom<'a> {
             None => false,
         }
     }
-    /// Whether a counter passes its bound by the eviction, where that counts: by what the end of its allocation
-    /// releases, or the index of its namespace.
+    /// Whether a counter passes its bound by an eviction that counts: by what the end of its allocation releases, or
+    /// the index of its namespace.
     pub fn eviction_passes(&self, eviction: &Eviction) -> bool
         ensures { result ≡ eviction_passes self.now eviction.now }
     {

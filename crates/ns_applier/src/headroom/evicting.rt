@@ -14,7 +14,8 @@ use ns_plan::{View, counts};
 use ns_types::plan::{Eviction, Placement, Plan};
 use ns_types::snapshot::Snapshot;
 
-/// Whether one of the evictions counts on that node and passes. Whether it counts is asked only where it passes.
+/// Whether one of the evictions counts on that node and passes a bound. It looks whether an eviction counts only if it
+/// passes one.
 fn any_eviction_passes<V: View>(
     headroom: &Headroom,
     view: &V,
@@ -35,7 +36,7 @@ fn any_eviction_passes<V: View>(
     )
 }
 
-/// The same of a placement, where its node is in the snapshot and does its part.
+/// Whether the placement is on a committed node of the snapshot, and one of its evictions counts and passes a bound.
 fn placement_passes<V: View>(
     headroom: &Headroom,
     view: &V,
@@ -78,12 +79,12 @@ fn any_placement_passes<V: View>(
     placements.iter().any(|p| placement_passes(headroom, view, snapshot, stops, committed, p))
 }
 
-/// Whether a counter passes its bound by what the nodes at those places of the snapshot evict: a release, or the index
-/// of a namespace that loses an allocation. Whether the namespaces have numbers for the evaluations of their jobs is
-/// not asked here.
+/// Whether a counter passes its bound by what the plan evicts on the committed nodes: a release, or the index of a
+/// namespace that loses an allocation. It does not look whether the namespaces have numbers for the evaluations of
+/// their jobs.
 ///
-/// It costs a walk over the stops, and a look-up for each eviction of these nodes. Whether one counts is asked only
-/// where it passes.
+/// It costs a walk over the stops, and a look-up for each eviction of these nodes. It looks whether an eviction counts
+/// only if it passes a bound.
 pub fn lost_part_passes<V: View>(
     headroom: &Headroom,
     view: &V,

@@ -5,13 +5,13 @@ ghost use Rattle.ns_applier.specs.Passing.{PassesByEnds};
 ghost use Rattle.ns_applier.specs.Raising.{PassesByCounts};
 ghost use Rattle.ns_applier.specs.Shown.{EndedIsShown};
 
-/// A step that releases nothing but by the allocations that it ends passes a bound by what it counts itself, or by what
-/// one of these allocations releases.
+/// A step that releases something only by the allocations that it ends passes a bound by what it counts itself, or by
+/// what one of these allocations releases.
 pub fn passes_by_ends()
     ensures { PassesByEnds }
 {}
 
-/// Where it only counts besides, the state before it and the counts tell.
+/// If such a step otherwise only counts, the state before it and the counts decide whether it passes a bound.
 pub fn passes_by_counts()
     ensures { PassesByCounts }
 {}
@@ -22,7 +22,7 @@ pub fn passes_by_apply()
     ensures { PassesByApply }
 {}
 
-/// An allocation that ends is shown otherwise than before.
+/// An allocation that ends is shown differently than before.
 pub fn ended_is_shown()
     ensures { EndedIsShown }
 {}

@@ -1,4 +1,4 @@
-//! A plan is checked against the present state.
+//! Checks a plan against the present state.
 
 ghost use Rattle.ns_live_index.specs.Index.{IsRight};
 ghost use Rattle.ns_plan.specs.Looks.{AreCounted, IsChecked, IsOnFewNodes};
@@ -11,9 +11,9 @@ use ns_tables::Tables;
 use ns_types::plan::Plan;
 use ns_types::snapshot::Snapshot;
 
-/// Which nodes do their part of the snapshot's plan in the world that the tables hold. It takes no memory, and nothing
-/// is written. That loads and uses are counted holds of each valid world (`ns_plan::laws::sound_is_counted`), and that
-/// the plan is on few nodes of each snapshot that a valid state keeps (`ns_plan::laws::kept_is_on_few_nodes`).
+/// Decides which nodes commit their part of the snapshot's plan in the world that the tables hold. It takes no memory,
+/// and writes nothing. In each valid world loads and uses are counted (`ns_plan::laws::sound_is_counted`), and the plan
+/// of each snapshot that a valid state keeps is on few nodes (`ns_plan::laws::kept_is_on_few_nodes`).
 ///
 /// `ns_plan::check` says what it costs: most of all a few look-ups for each stop, each placement and each eviction.
 pub fn check(tables: &Tables, live: &Live, snapshot: &Snapshot, plan: &Plan) -> Outcome

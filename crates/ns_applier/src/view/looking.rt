@@ -1,4 +1,4 @@
-//! Rows of the tables, by owner and name or number.
+//! Looks up jobs and the limits of quotas in the tables.
 
 ghost use Rattle.std.specs.Prelude.{◌≡◌, option_copied};
 ghost use Rattle.ns_plan.specs.Looks.{job_at, limits_of};
@@ -10,7 +10,7 @@ use ns_types::job::Job;
 use ns_types::resources::{Limit, Limits};
 use ns_types::text::Text;
 
-/// What a quota that is not there allows.
+/// The limits of a quota that does not exist.
 const ALL: Limits = Limits {
     cpu: Limit::Unlimited,
     memory: Limit::Unlimited,

@@ -41,7 +41,7 @@ impl<'a> Model for Present<'a> {
 }
 
 impl<'a> Present<'a> {
-    /// The world that the tables hold, by an index that is right for it. It takes no memory.
+    /// Joins the tables with an index that is right for them. It takes no memory.
     pub fn new(tables: &'a Tables, live: &'a Live) -> Present<'a>
         requires { IsRight (world_of tables.now) live.now }
         ensures { result ≡ world_of tables.now }

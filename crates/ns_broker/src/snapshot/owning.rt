@@ -1,4 +1,4 @@
-//! The job's own allocations.
+//! The job's own allocations, as a snapshot has them.
 
 ghost use Rattle.std.specs.Prelude.{◌≡◌, ◌++◌, IfOk, OnOk, flat_map, option_copied};
 ghost use Rattle.ns_types.specs.State.Rows.{is_done};
@@ -24,7 +24,7 @@ fn is_done(row: &Allocation) -> bool
     matches!(row.desired, DesiredStatus::Run) && matches!(row.client, ClientStatus::Complete)
 }
 
-/// Whether it was made for the batch job as it is, and completed.
+/// Whether the allocation completed, and was made for the batch job as it is now.
 fn is_done_for(job: Option<&Job>, row: &Allocation) -> bool
     ensures { result ≡ is_done_for (option_copied job.entry) row.now }
 {
@@ -63,7 +63,7 @@ fn add_own(
     Ok(())
 }
 
-/// Those at the numbers.
+/// The job's own allocations at these numbers.
 fn own_at_numbers(
     alloc: Global,
     id: &Text,
@@ -81,7 +81,7 @@ fn own_at_numbers(
     Ok(own)
 }
 
-/// Those that are live or done, by number. Only the job's own numbers are looked up.
+/// The job's allocations that are live or done, by number. It looks up only the job's own numbers.
 pub(crate) fn own_allocations(
     alloc: Global,
     tenant: &TenantRows,

@@ -34,7 +34,7 @@ pub(crate) struct SeenRows {
 }
 
 impl SeenRows {
-    /// The node with these.
+    /// The node with these live allocations.
     pub(crate) fn into_node(
         self,
         alloc: Global,
@@ -72,7 +72,7 @@ fn seen_live(
     })
 }
 
-/// Of several that have one place the first counts.
+/// Adds a live allocation at its place, unless there is one at that place already.
 fn add_seen(
     seen: &mut ByPlace,
     namespace: &Shared<Text>,
@@ -85,7 +85,7 @@ fn add_seen(
     seen.add(row.place, seen_live(namespace, number, row)?)
 }
 
-/// Only a place after the last one counts.
+/// Adds a live allocation only if its place is after the last one.
 fn add_past(
     seen: &mut ByPlace,
     last: Option<u64>,
@@ -138,7 +138,7 @@ fn add_numbers(
     Ok(())
 }
 
-/// One, if a row at the number is placed after the last one, and else none.
+/// One, if an allocation at the number is placed after the last one, and otherwise zero.
 fn past_at(last: Option<u64>, allocations: &NumberTable<Allocation>, slot: &NumberSlot<()>) -> usize
     ensures { result ≡ past_at last allocations.now slot.now }
 {
@@ -228,7 +228,7 @@ fn add_namespace(
     )
 }
 
-/// Adds the rows of all these namespaces that are placed after the last one: `most` of them at most.
+/// Adds the rows of all these namespaces that are placed after the last one, which are at most `most` rows.
 fn add_namespaces(
     seen: &mut ByPlace,
     most: usize,
@@ -280,7 +280,7 @@ fn key_count(slot: &NameSlot<NumberTable<()>>) -> usize
     }
 }
 
-/// How many keys of these namespaces there are. More than memory can hold are want of memory.
+/// How many keys these namespaces have. More than a `usize` can count is want of memory.
 fn keys_among(slots: &[NameSlot<NumberTable<()>>]) -> Result<usize, AllocError>
     ensures { IfOk result (λ count. count ≡ keys_among slots.now) }
 {
@@ -291,7 +291,7 @@ fn keys_among(slots: &[NameSlot<NumberTable<()>>]) -> Result<usize, AllocError>
     Ok(count)
 }
 
-/// No rows, with memory for so many.
+/// No rows, with memory for `most` rows.
 fn no_rows(alloc: Global, most: usize) -> Result<ByPlace, AllocError>
     ensures { IfOk result (λ seen. seen ≡ empty) }
 {
@@ -299,7 +299,7 @@ fn no_rows(alloc: Global, most: usize) -> Result<ByPlace, AllocError>
     Ok(NumberTable::from_slots(slots))
 }
 
-/// The rows at the keys that are placed after the last one, each at its place. There are at most so many.
+/// The allocations at the keys that are placed after the last one, each at its place. There are at most `most` of them.
 fn by_place(
     tables: &Tables,
     keys: &KeySet,
@@ -314,7 +314,7 @@ fn by_place(
     Ok(seen)
 }
 
-/// The place of the last of the base's.
+/// The place of the last allocation of the base, if there is one.
 fn last_of(base: Option<&SeenNode>) -> Option<u64>
     ensures { result ≡ base_last (option_copied base.entry) }
 {
@@ -324,7 +324,7 @@ fn last_of(base: Option<&SeenNode>) -> Option<u64>
     }
 }
 
-/// How many the base has.
+/// How many allocations the base has.
 fn count_of(base: Option<&SeenNode>) -> usize
     ensures { result ≡ length (base_rows (option_copied base.entry)) }
 {
@@ -334,7 +334,7 @@ fn count_of(base: Option<&SeenNode>) -> usize
     }
 }
 
-/// Those of the base, with memory for so many more.
+/// The allocations of the base, with memory for `more` further ones.
 fn copied_base(alloc: Global, base: Option<&SeenNode>, more: usize) -> Result<LiveRows, AllocError>
     ensures { IfOk result (λ rows. rows ≡ base_rows (option_copied base.entry)) }
 {
@@ -344,8 +344,8 @@ fn copied_base(alloc: Global, base: Option<&SeenNode>, more: usize) -> Result<Li
     }
 }
 
-/// Those of the base, and behind them the rows at the keys that are placed after its last. It goes through no others, where
-/// the new ones have the highest numbers of their namespaces.
+/// The allocations of the base, and behind them those at the keys that are placed after its last. It goes through no other
+/// allocations, if the new ones have the highest numbers of their namespaces.
 fn after_base(
     tables: &Tables,
     keys: &KeySet,
@@ -362,7 +362,7 @@ fn after_base(
     appended(rows, last, fresh.into_slots())
 }
 
-/// Those of all namespaces, by an index that is right for the tables.
+/// The live allocations of all namespaces on the node, if the index is right for the tables.
 pub(crate) fn live_on(
     tables: &Tables,
     live: &Live,

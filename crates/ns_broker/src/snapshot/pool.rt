@@ -1,5 +1,5 @@
-//! The nodes of a pool, with their live allocations. A node that did not change since it was last shown is shared. One to which
-//! only allocations came is made from what was shown of it.
+//! The nodes of a pool, with their live allocations. A node that did not change since it was last shown is shared. A node that
+//! only gained allocations is made from what was shown of it.
 
 ghost use Rattle.std.specs.Prelude.{◌≡◌, ◌++◌, IfOk, OnOk, Some, flat_map};
 ghost use Rattle.ns_types.specs.State.Rows.{node_at};
@@ -37,7 +37,7 @@ fn made_node(
     seen.into_node(tables.alloc, copy, present)
 }
 
-/// The node as it was last shown. One that changed since is made anew, and shown so from now on.
+/// The node as it was last shown. If it has changed since, it is made anew, and is the shown node from now on.
 fn shared_node(
     tables: &Tables,
     live: &mut Live,
@@ -101,8 +101,8 @@ fn nodes_in(
     Ok(nodes)
 }
 
-/// By name, by an index that is right for the tables and stays so. None: there is no such pool. What is shown of a node
-/// is shared, and the others are shown from now on.
+/// The nodes of the pool, by name; a pool that is not there has none. The premise is that the index is right for the tables,
+/// and it stays right. A node that is shown already is shared, and the others are shown from now on.
 pub(crate) fn nodes_of(
     tables: &Tables,
     live: &mut Live,

@@ -36,7 +36,7 @@ fn seen(tables: &Tables, live: &Live, name: &Text, row: &QuotaRows) -> Result<Qu
     })
 }
 
-/// None: there is no such quota.
+/// The quota of that name, as a snapshot has it. None: there is no such quota.
 fn quota_seen(tables: &Tables, live: &Live, name: &Text) -> Result<Option<QuotaSeen>, AllocError>
     requires right { IsRight (world_of tables.now) live.now }
     requires fits { IsCounted (quota_use (world_of tables.now) name.now) }
@@ -48,7 +48,8 @@ fn quota_seen(tables: &Tables, live: &Live, name: &Text) -> Result<Option<QuotaS
     }
 }
 
-/// With its use and the namespaces that name it: no other namespace is looked at. None: the namespace names none.
+/// The namespace's quota, with its use and the namespaces that name it. It looks at no other namespace. None: the namespace
+/// names no quota, or one that is not there.
 pub(crate) fn quota_for(
     tables: &Tables,
     live: &Live,

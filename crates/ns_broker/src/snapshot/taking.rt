@@ -1,4 +1,4 @@
-//! A snapshot is taken.
+//! The taking of a snapshot.
 
 ghost use Rattle.std.specs.Prelude.{◌≡◌, IfOk, option_copied};
 ghost use Rattle.std.specs.FinMap.{get};
@@ -19,7 +19,7 @@ use ns_types::snapshot::Snapshot;
 use ns_types::text::Text;
 use std::alloc::AllocError;
 
-/// The job's pool, or its evaluation's where the job is gone.
+/// The job's pool, or the evaluation's pool if the job is gone.
 fn pool_for<'a>(evaluation: &'a Evaluation, job: Option<&'a Job>) -> &'a Text
     ensures { result.now ≡ pool_for evaluation.now (option_copied job.entry) }
 {
@@ -29,7 +29,7 @@ fn pool_for<'a>(evaluation: &'a Evaluation, job: Option<&'a Job>) -> &'a Text
     }
 }
 
-/// The number of the pool's last release, or zero.
+/// The number of the pool's last release, or zero if there is no such pool.
 fn release_of(tables: &Tables, pool: &Text) -> u64
     ensures { result
         ≡ option_map_or (λ p. p.release) (get (world_of tables.now).pools pool.now) 0 }
@@ -49,12 +49,13 @@ fn copied_job(job: Option<&Job>) -> Result<Option<Job>, AllocError>
     }
 }
 
-/// The snapshot of the namespace's evaluation of that number. Want of memory is the only error. The index is right for
-/// the tables, and what is used of the namespace's quota fits 64 bits, as in each valid world; the index stays right.
+/// The snapshot for the namespace's evaluation of that number. Want of memory is the only error. The premises are that the
+/// index is right for the tables, and that the use of the namespace's quota fits 64 bits, as in each valid world. The index
+/// stays right.
 ///
-/// It costs a pointer for each node of the pool, a copy of each with its live allocations that changed since it was last
-/// shown, and a walk over the namespace's own allocations; where the namespace has a quota, a copy of the name of each
-/// namespace that names it, too.
+/// It costs a pointer for each node of the pool, a copy of each node that changed since it was last shown, with its live
+/// allocations, and a walk over the job's own allocations. If the namespace has a quota, it also costs a copy of the name of
+/// each namespace that names it.
 pub fn snapshot(
     tables: &Tables,
     live: &mut Live,

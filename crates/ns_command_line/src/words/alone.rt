@@ -1,4 +1,4 @@
-//! What `alone` is given.
+//! The arguments of `alone`.
 
 ghost use Rattle.std.specs.Prelude.{◌≡◌, IfOk, IfErr, Some, codes};
 ghost use Rattle.clap.specs.Words.{kind_of, subcommand_rows_of};
@@ -25,7 +25,7 @@ const BAD_POOL: &str = "a pool has 1 to 128 letters, digits, hyphens and undersc
 
 const BAD_QUOTA: &str = "a quota has 1 to 128 letters, digits, hyphens and underscores";
 
-/// The names of that kind that are given for that argument. None: one of them is no such name.
+/// The names that are given for this argument. None: one of them is no name of this kind.
 fn names_given(
     alloc: Global,
     matches: &ArgMatches,
@@ -38,7 +38,7 @@ fn names_given(
     names(alloc, kind, all_given(matches, "alone", id).unwrap_or(&[]))
 }
 
-/// What `alone` is given besides this namespace, or the fault in it.
+/// The replay that the arguments of `alone` ask for, in this namespace, or the fault in them.
 pub fn alone_given(
     alloc: Global,
     command: &mut Command,

@@ -1,4 +1,4 @@
-//! What `pipe` is given.
+//! The arguments of `pipe`.
 
 ghost use Rattle.std.specs.Prelude.{◌≡◌, ℕ, List, IfOk, IfErr, option_map};
 ghost use Rattle.clap.specs.Words.{kind_of, subcommand_rows_of};
@@ -18,7 +18,7 @@ pub const BAD_SECRET: &str = "the bootstrap secret has 1 to 64 printable bytes w
 
 const BAD_PRINT: &str = "what is printed is replies or log";
 
-/// Which worker to drive, by what is given for the flag.
+/// Whether a worker is driven, from the value of the flag.
 fn driven(given: Option<&str>) -> Driven
     ensures { result ≡ driven_by (option_map (λ s. s.now) given.entry) }
 {
@@ -28,7 +28,7 @@ fn driven(given: Option<&str>) -> Driven
     }
 }
 
-/// What to print, by what is given for it.
+/// What to print, from the value of the argument. None: the value is bad.
 fn printed(given: Option<&str>) -> Option<Printed>
     ensures { result ≡ printed_by (option_map (λ s. s.now) given.entry) }
 {
@@ -40,7 +40,7 @@ fn printed(given: Option<&str>) -> Option<Printed>
     }
 }
 
-/// What `pipe` is given, or the fault in it.
+/// The secret, whether a worker is driven, and what to print, from the arguments of `pipe`; or the fault in them.
 pub fn pipe_given(
     alloc: Global,
     command: &mut Command,

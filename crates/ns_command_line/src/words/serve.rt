@@ -1,4 +1,4 @@
-//! What `serve` is given.
+//! The arguments of `serve`.
 
 ghost use Rattle.std.specs.Prelude.{◌≡◌, IfOk, IfErr, Some, codes};
 ghost use Rattle.clap.specs.Words.{kind_of, subcommand_rows_of};
@@ -34,7 +34,7 @@ const BAD_ROTATE: &str =
 const BAD_ROTATE_BYTES: &str =
     "beside --rotate, the bytes that the log is rotated past are a decimal number from 1 on, below 2^64";
 
-/// What `serve` is given besides this address, or the fault in it.
+/// The settings that the arguments of `serve` give, with this address, or the fault in them.
 pub fn serve_given(
     alloc: Global,
     command: &mut Command,

@@ -1,4 +1,4 @@
-//! Values among the words, and the fault in one.
+//! The values of arguments, and the error for a bad one.
 
 ghost use Rattle.std.specs.Prelude.{◌≡◌, [], map, option_map, unwrap_or};
 ghost use Rattle.clap.specs.Words.{subcommand_rows_of};
@@ -8,7 +8,7 @@ ghost use Rattle.ns_command_line.specs.Words.{IsRefusal};
 use clap::error::ErrorKind;
 use clap::{ArgMatches, Command, Error};
 
-/// What is given for that argument of that subcommand.
+/// The value of this argument of this subcommand. None: it is not given.
 pub fn given<'a>(matches: &ArgMatches<'a>, command: &str, id: &str) -> Option<&'a str>
     ensures { option_map (λ s. s.now) result
         ≡ given_for command.now id.now (subcommand_rows_of matches.now) }
@@ -17,7 +17,7 @@ pub fn given<'a>(matches: &ArgMatches<'a>, command: &str, id: &str) -> Option<&'
     matches.get_str(id)
 }
 
-/// All that is given for that argument of that subcommand, in order. None: it is not given.
+/// All values of this argument of this subcommand, in order. None: it is not given.
 pub fn all_given<'b, 'a>(
     matches: &'b ArgMatches<'a>,
     command: &str,
@@ -30,7 +30,7 @@ pub fn all_given<'b, 'a>(
     matches.get_strs(id)
 }
 
-/// The fault of words that are refused for this reason.
+/// The error for words that are refused for this reason.
 pub fn refused(command: &mut Command, reason: &str) -> Error
     ensures { IsRefusal result }
 {

@@ -31,7 +31,8 @@ fn infeasible_among(
     Ok(classes)
 }
 
-/// The classes of those nodes on which a constraint fails that does not escape classes: in their order, each once.
+/// The classes of the snapshot's nodes on which a constraint fails that does not escape classes: in the order of classes, each
+/// once. Want of memory is the only error.
 pub fn infeasible_classes(alloc: Global, snapshot: &Snapshot) -> Result<Rows<Class>, AllocError>
     ensures { IfOk result (λ classes. classes ≡ infeasible_classes snapshot.now) }
 {

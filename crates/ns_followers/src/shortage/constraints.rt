@@ -1,4 +1,4 @@
-//! What a job's constraints tell of a node's class. Nomad's page on the constraint block of a job specification.
+//! What a job's constraints say of a node's class. Nomad's page on the constraint block of a job specification.
 
 ghost use Rattle.std.specs.Prelude.{◌≡◌};
 ghost use Rattle.std.specs.List.{list_any};
@@ -22,8 +22,8 @@ fn target_escapes(target: &Target) -> bool
     }
 }
 
-/// Whether a constraint that does not escape classes fails on the node of that name, and so on its whole class. It takes
-/// no memory.
+/// Whether a constraint that does not escape classes fails on the node, which has that name, and so on each node of its class.
+/// It takes no memory.
 pub fn is_class_infeasible(constraints: &[Constraint], name: &Text, node: &Node) -> bool
     ensures { result ≡ is_class_infeasible constraints.now name.now node.now }
 {

@@ -37,7 +37,7 @@ fn compare(a: &Class, b: &Class) -> Ordering
     by_name.then(compare_attributes(a.attributes.as_slice(), b.attributes.as_slice()))
 }
 
-/// Where the class is to stand. None: it is there.
+/// The place in the order where the class belongs. None: it is in the list already.
 fn place_of(classes: &[Class], class: &Class) -> Option<usize>
     ensures { Takes class.now classes.now result }
 {
@@ -51,7 +51,7 @@ fn place_of(classes: &[Class], class: &Class) -> Option<usize>
     Some(classes.len())
 }
 
-/// The class is at its place in the order, unless it was there.
+/// Adds the class at its place in the order, unless it is in the list already.
 pub(crate) fn add(classes: &mut Vec<Class>, class: Class) -> Result<(), AllocError>
     ensures ok { OnOk result (classes.new.items ≡ insert_key class_cmp classes.old.items class) }
     ensures err { OnErr result (classes.new.items ≡ classes.old.items) }

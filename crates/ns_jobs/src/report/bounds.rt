@@ -1,5 +1,5 @@
-//! Whether a counter passes its bound once a report has settled. It takes no memory, so that this is judged before
-//! anything that does.
+//! Whether a counter passes its bound once a report has settled. It takes no memory, so it can be decided before anything that
+//! takes memory.
 
 ghost use Rattle.std.specs.Prelude.{◌≡◌};
 ghost use Rattle.ns_jobs.specs.Reporting.{number_passes, release_passes, report_passes};
@@ -29,9 +29,9 @@ fn release_passes(
     ends(row, client) && ending_passes(tables, tenant, row)
 }
 
-/// Whether a counter passes its bound once the allocation has that status, which it had not: its namespace's index, the
-/// number of the evaluation that the status calls for, or one by what the end of the allocation releases. The work grows
-/// with the number of blocked evaluations, and only where the allocation ends.
+/// Whether a counter passes its bound once the allocation has this status, which it did not have: its namespace's index, the
+/// number of the evaluation that the status calls for, or a counter that the end of the allocation raises by what it releases.
+/// Only if the allocation ends, the work grows with the number of blocked evaluations.
 pub(crate) fn report_passes(
     tables: &Tables,
     tenant: &TenantRows,

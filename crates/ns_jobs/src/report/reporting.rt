@@ -1,4 +1,4 @@
-//! A client's report of one allocation.
+//! The report of a node's client about one allocation.
 
 ghost use Rattle.std.specs.Prelude.{◌≡◌, Some, false, is_some};
 ghost use Rattle.std.specs.FinMap.{get};
@@ -28,7 +28,7 @@ fn has_node(tables: &Tables, pool: &Text, name: &Text) -> bool
     tables.node(pool, name).is_some()
 }
 
-/// What a report of a stored allocation comes to.
+/// The reply and the change of a report about a stored allocation, or its refusal.
 fn report_of(
     tables: &Tables,
     tenant: &TenantRows,
@@ -56,15 +56,15 @@ fn report_of(
     reported(tables, tenant, row, report)
 }
 
-/// A node's client says how an allocation on the node is doing. A status that the allocation has already changes nothing.
-/// Another one is written, and where an allocation that was to run failed, or completed and is not of a batch job, an
-/// evaluation of its job is made.
+/// Prepares the report of a node's client about an allocation on the node. A status that the allocation has already changes
+/// nothing. Another status is written. If the allocation was to run and has failed, or has completed and is not of a batch
+/// job, an evaluation of its job is made.
 ///
-/// `NotFound`: there is no such pool, no such node in it, no such namespace, no such allocation in that, or the allocation
-/// is not on the node. `Conflict`: it may not get that status. `Full`: a counter would pass its bound, be it the
-/// namespace's index, the number of its evaluations where one is made, or, where the allocation was live and is not any
-/// more, one by the room that it leaves on the node or by the release of its namespace's quota. In this order. A report
-/// that ends the allocation costs work that grows with the number of blocked evaluations.
+/// `NotFound`: there is no such pool, no such node in it, no such namespace, no such allocation in the namespace, or the
+/// allocation is not on the node. `Conflict`: the allocation may not get that status. `Full`: a counter would pass its bound:
+/// the namespace's index; the number of its evaluations, if one is made; or, if the allocation was live and is no longer, a
+/// counter that rises by the room that it leaves on the node or by the release of its namespace's quota. In this order. Want
+/// of memory comes last. A report that ends the allocation costs work that grows with the number of blocked evaluations.
 pub fn report(
     tables: &Tables,
     pool: &Text,

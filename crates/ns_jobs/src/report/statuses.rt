@@ -1,4 +1,4 @@
-//! What a client may say of an allocation, and what that calls for.
+//! The statuses that a client may report of an allocation, and which of them call for an evaluation.
 
 ghost use Rattle.std.specs.Prelude.{◌≡◌, ◌&&◌, not};
 ghost use Rattle.ns_types.specs.Asking.Nodes.{calls_for_one, is_of_batch, is_on, may_become, same_client};
@@ -31,7 +31,7 @@ pub(crate) fn same_client(a: ClientStatus, b: ClientStatus) -> bool
     }
 }
 
-/// Whether an allocation of the one status may get the other.
+/// Whether an allocation may change from the one status to the other.
 pub(crate) fn may_become(from: ClientStatus, to: ClientStatus) -> bool
     ensures { result ≡ may_become from to }
 {
@@ -53,7 +53,7 @@ fn is_held(client: ClientStatus) -> bool
     matches!(client, ClientStatus::Pending | ClientStatus::Running)
 }
 
-/// Whether the allocation was live, and is not with that status.
+/// Whether the allocation is live, and no longer is with that status.
 pub(crate) fn ends(row: &Allocation, client: ClientStatus) -> bool
     ensures { result ≡ ends row.now client }
 {
@@ -70,8 +70,8 @@ fn is_of_batch(tenant: &TenantRows, row: &Allocation) -> bool
     }
 }
 
-/// Whether that status asks for an evaluation of the job: a failure does, and a completion that is not of a batch job,
-/// both of an allocation that was to run.
+/// Whether the status calls for an evaluation of the job. It does if the allocation was to run, and it has failed, or it has
+/// completed and is not of a batch job.
 pub(crate) fn calls_for_one(tenant: &TenantRows, row: &Allocation, client: ClientStatus) -> bool
     ensures { result ≡ calls_for_one (tenant_of tenant.now) row.now client }
 {

@@ -1,4 +1,4 @@
-//! What a report changes.
+//! The change of a report.
 
 ghost use Rattle.std.specs.Prelude.{◌≡◌, Some, false};
 ghost use Rattle.keyed.specs.Table.{row_at};
@@ -21,8 +21,8 @@ use ns_types::reply::Content;
 use ns_types::step::Report;
 use std::alloc::AllocError;
 
-/// The allocation gets the client's status, and where that calls for one an evaluation of its job is made. The premises
-/// are that nothing was changed before, and that the namespace has a number for the evaluation.
+/// Gives the allocation the client's status, and makes an evaluation of its job if the status calls for one. The premises are
+/// that nothing was changed before, and that the namespace has a number for the evaluation.
 fn write_report(
     tables: &Tables,
     change: &mut Change,
@@ -44,7 +44,7 @@ fn write_report(
     make(tables, change, &report.namespace, evaluation)
 }
 
-/// What a report of another status answers and changes.
+/// The reply and the change of a report of a status that the allocation did not have.
 pub(crate) fn reported(
     tables: &Tables,
     tenant: &TenantRows,

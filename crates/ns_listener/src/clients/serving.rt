@@ -1,4 +1,4 @@
-//! One connection, answered over a seat, which gains the receipts.
+//! Answers one connection over a seat, which gains the receipts.
 
 ghost use Rattle.std.specs.Prelude.{◌≡◌, ◌+◌, ◌≤◌, min, length, IfOk, IsErrOf, IsTrue, false, Err};
 ghost use Rattle.ns_types.specs.Wire.Http.{End};
@@ -20,8 +20,8 @@ use std::sync::ledger::Ledger;
 /// Answers requests by steps of a server that threads share.
 pub type Client<'a, L, R, D, M> = Api<SharedSeat<'a, L, R, M>, D, NoFollower>;
 
-/// Answers the requests of a connection, one after the other, and says how many there were. The receipts that are gained are
-/// those of the steps which the requests made, in their order.
+/// Answers the requests of a connection, one after the other, and returns how many there were. The seat gains the receipts of
+/// the steps that the requests made, in their order.
 pub fn serve<A: Allocator + Copy, I: Read, W: Write, L: Ledger, R: Wait, D: Draws, M: Retention>(
     alloc: A,
     reader: &mut Counted<I>,
@@ -43,17 +43,17 @@ pub fn serve<A: Allocator + Copy, I: Read, W: Write, L: Ledger, R: Wait, D: Draw
         × IsWriteFault writer.old.counts writer.new.counts }
     ensures memory { IsErrOf result ConnFault.Memory
         → (reader.new ≡ reader.old) × (writer.new ≡ writer.old) × (client.new ≡ client.old) }
-    // No read follows one that found the end, or that failed otherwise than by interruption, and
-    // no write one that failed so.
+    // No read follows one that found the end, or one that failed otherwise than by interruption. No
+    // write follows one that failed so.
     ensures stops { IsOpen reader.old.counts → reader.new.counts.went_on ≡ false }
     ensures write_stops { IsOpen writer.old.counts → writer.new.counts.went_on ≡ false }
-    // And such a failure is the fault that is named.
+    // Such a failure is the fault that is returned.
     ensures broken { IsOpen reader.old.counts → IsTrue reader.new.counts.broken
         → result ≡ Err ConnFault.Read }
     ensures write_broken { IsOpen writer.old.counts → IsTrue writer.new.counts.broken
         → result ≡ Err ConnFault.Write }
     ensures reads { reader.new.counts.calls ≤ reader.old.counts.calls + READ_LIMIT }
-    // Each read has room for so many bytes.
+    // Each read has room for at least `READ_ROOM` bytes.
     ensures room { min reader.old.counts.least_room READ_ROOM ≤ reader.new.counts.least_room }
 {
     ns_api::serve(alloc, reader, writer, client)

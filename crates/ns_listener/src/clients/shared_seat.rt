@@ -8,7 +8,7 @@ use std::alloc::Global;
 use std::sync::Wait;
 use std::sync::ledger::Ledger;
 
-/// A seat at a server that threads share. A call waits while others are at the server.
+/// A seat at a server that threads share. A call for a step waits while another thread holds the server.
 #[derive(Drop)]
 pub struct SharedSeat<'a, L: Ledger, R, M: Retention> {
     pub rt: &'a R,
@@ -19,7 +19,7 @@ pub struct SharedSeat<'a, L: Ledger, R, M: Retention> {
 impl<L: Ledger, R: Wait, M: Retention> Takes for SharedSeat<'_, L, R, M> {
     ghost use Rattle.ns_listener.specs.Answering.{GainsOrWants};
 
-    // Others may make steps at that server in between, so this says nothing of its state.
+    // Other threads may make steps in between, so this says nothing about the state of the server.
     ghost takes = { λ step old reply new. GainsOrWants step old.seat reply new.seat };
 
     fn respond(&mut self, alloc: Global, step: Step) -> Response {

@@ -13,7 +13,7 @@ use crate::receipts::receipt::Receipt;
 use ns_equality::Equal;
 use std::alloc::Global;
 
-/// Whether the receipt tells of the entry at its place, and the place is not marked.
+/// Whether the receipt is of the entry at its place, and the place is not marked.
 fn fits(log: &[Entry], marks: &[bool], receipt: &Receipt) -> bool
     requires { length marks.now ≡ length log.now }
     ensures { IsTrue result ↔ FitsUnmarked log.now marks.now receipt.now }
@@ -28,7 +28,7 @@ fn fits(log: &[Entry], marks: &[bool], receipt: &Receipt) -> bool
     }
 }
 
-/// The place of a seat's first receipt that does not fit. Where each fits, their places are marked.
+/// The place that the seat's first receipt names that does not fit. If each receipt fits, their places are marked.
 fn seat_fault(log: &[Entry], marks: &mut [bool], receipts: &[Receipt]) -> Option<u64>
     requires { length marks.old ≡ length log.now }
     ensures fit { IfNone result
@@ -65,7 +65,7 @@ fn first_unmarked(marks: &[bool]) -> Option<u64>
     None
 }
 
-/// The same as `settle`, where no place is marked yet.
+/// Settles as `settle` does, with marks of which none is set yet.
 fn settle_marking(
     log: &[Entry],
     marks: &mut [bool],
@@ -91,8 +91,9 @@ fn settle_marking(
     }
 }
 
-/// Whether within each seat the places rise, all receipts together name each place of the log once, and each receipt
-/// tells of the entry at its place. It takes one list of marks, as long as the log.
+/// Checks that within each seat the places rise, that all receipts together name each place of the log once, and that each
+/// receipt is of the entry at its place. `Mismatch`: it is not so, with the first fault. Else want of memory is the only error.
+/// It takes one list of marks, as long as the log.
 pub fn settle(alloc: Global, log: &[Entry], seats: &[Vec<Receipt>]) -> Result<(), SettleFault>
     ensures ok { OnOk result (Settles log.now (map vec_items seats.now)) }
     ensures settled { Settles log.now (map vec_items seats.now)

@@ -8,8 +8,8 @@ use thiserror::Error;
 
 #[derive(Clone, Copy, Debug, PartialEq, Eq, Error)]
 pub enum SettleFault {
-    /// The first receipt that is at fault: its seat, and the place that it names. Where none is, the number of the
-    /// seats, and the first place of the log that no receipt names.
+    /// The first receipt that does not fit: its seat, and the place that it names. If each fits: the number of the seats, and
+    /// the first place of the log that no receipt names.
     #[error("at seat {seat} the receipts and the log differ, at place {place}")]
     Mismatch { seat: u64, place: u64 },
     #[error("out of memory")]

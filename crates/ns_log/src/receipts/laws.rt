@@ -1,13 +1,13 @@
-//! Laws of the definitions, each the contract of a function that does nothing.
+//! Laws of settling, each the contract of a function that does nothing.
 
 ghost use Rattle.ns_log.specs.Laws.{SettledIsNotFaulted, OneFault};
 
-/// Where receipts and log settle, there is no fault to tell.
+/// If the receipts and the log settle, there is no first fault.
 pub fn settled_is_not_faulted()
     ensures { SettledIsNotFaulted }
 {}
 
-/// At most one fault is the first.
+/// There is at most one first fault.
 pub fn one_fault()
     ensures { OneFault }
 {}

@@ -7,7 +7,7 @@ ghost use Rattle.ns_log.specs.declared.receipts.receipt.Receipt.{Receipt};
 use crate::receipts::receipt::Receipt;
 use std::marker::Model;
 
-/// Receipts in the order of the calls, which only clauses see: they take no memory. So nothing can be settled with them.
+/// Receipts in the order of the calls, which only contracts see. They take no memory, so nothing can be settled with them.
 #[derive(Drop)]
 pub struct Past {
     pub ghost receipts: { List Receipt },
@@ -18,14 +18,14 @@ impl Model for Past {
 }
 
 impl Past {
-    /// None yet.
+    /// No receipts yet.
     pub fn new() -> Past
         ensures { result.receipts ≡ [] }
     {
         Past {}
     }
 
-    /// These behind the ones before.
+    /// The receipts before, and behind them these.
     pub fn with(_before: &Past, _receipts: &Vec<Receipt>) -> Past
         ensures { result.receipts ≡ _before.now.receipts ++ _receipts.now.items }
     {

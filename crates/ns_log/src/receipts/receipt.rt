@@ -1,13 +1,13 @@
-//! What a call was answered.
+//! The receipt of a call that made a step.
 
 use crate::owned::Owned;
 use ns_types::reply::Rendered;
 use ns_types::shared::Shared;
 use ns_types::step::Step;
 
-/// That a step was made and answered so, and where in the log its entry stands.
+/// A step that was made, its answer as bytes, and the place of its entry in the log.
 pub struct Receipt {
-    /// How many entries stand before it.
+    /// How many entries stand before the step's entry.
     pub place: u64,
     pub step: Shared<Step>,
     pub rendered: Owned<Rendered>,

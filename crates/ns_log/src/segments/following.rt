@@ -5,8 +5,8 @@ ghost use Rattle.ns_log.specs.Segments.{Follows, IsGap};
 
 use crate::segments::segment::Segment;
 
-/// Whether the segments follow each other from the first entry on, and a log that begins there follows them. If not, the
-/// first place where the next one should start and does not.
+/// Checks that the segments follow each other from place 0 on, and that a log that begins at `start` follows them. The error is
+/// the first place where the next segment, or that log, should start and does not.
 pub fn follow(segments: &[Segment], start: u64) -> Result<(), u64>
     ensures ok { OnOk result (Follows 0 segments.now start) }
     ensures gap { IfErr result (IsGap 0 segments.now start) }

@@ -1,4 +1,4 @@
-//! What segments are together.
+//! Joins segments to one log.
 
 ghost use Rattle.std.specs.Prelude.{◌≡◌, IfOk};
 ghost use Rattle.ns_log.specs.Segments.{joined};
@@ -7,7 +7,7 @@ use crate::Entry;
 use crate::segments::segment::Segment;
 use std::alloc::{AllocError, Global};
 
-/// The entries of the segments, one after the other, and then those of the log.
+/// The entries of the segments, one segment after the other, and then those of the log. Want of memory is the only error.
 pub fn join(
     alloc: Global,
     segments: Vec<Segment>,

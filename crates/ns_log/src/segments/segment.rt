@@ -48,7 +48,7 @@ impl Segment {
         self.log.as_slice()
     }
 
-    /// How many entries were given out before the end of it.
+    /// How many entries were given out up to the segment's end.
     pub fn end(&self) -> u64
         ensures { result ≡ self.now.start + length self.now.log }
     {

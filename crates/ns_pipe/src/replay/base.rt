@@ -12,8 +12,9 @@ use ns_replay::rerun::rerun;
 use ns_types::name::Secret;
 use std::alloc::Global;
 
-/// A new server with that bootstrap secret, which has made the steps of the entries. Each must be
-/// answered as is logged: the first that is not is the fault.
+/// A new server with that bootstrap secret, which has made the steps of the entries. Each answer
+/// must be the logged one: the first that is not is the fault. Want of memory is the only other
+/// error.
 pub fn base_of(alloc: Global, secret: &Secret, entries: &[Entry]) -> Result<Core, ReplayFault>
     ensures base { IfOk result (λ base. IsKept (opening secret.now) entries.now base) }
     ensures fault { IfErr result (IsBaseFault (opening secret.now) entries.now) }

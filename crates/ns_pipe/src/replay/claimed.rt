@@ -18,7 +18,7 @@ pub(crate) struct Claimed {
     pub(crate) quotas: Rows<Text>,
 }
 
-/// The pool, and those of the list behind it.
+/// The pool, and behind it those of the list. Want of memory is the only error.
 fn listed(alloc: Global, first: &Text, others: &[Text]) -> Result<Rows<Text>, AllocError>
     ensures { IfOk result (λ names. names ≡ first.now ∷ others.now) }
 {
@@ -30,7 +30,7 @@ fn listed(alloc: Global, first: &Text, others: &[Text]) -> Result<Rows<Text>, Al
     Ok(names)
 }
 
-/// The default pool and those of the list, if there is a list.
+/// The default pool and those of the list, if there is a list. Want of memory is the only error.
 fn pools_of(alloc: Global, namespace: &Namespace) -> Result<Rows<Text>, AllocError>
     ensures { IfOk result (λ pools. pools ≡ pools_of namespace.now) }
 {
@@ -40,7 +40,7 @@ fn pools_of(alloc: Global, namespace: &Namespace) -> Result<Rows<Text>, AllocErr
     }
 }
 
-/// The quota, if there is one.
+/// The quota, if there is one. Want of memory is the only error.
 fn quotas_of(alloc: Global, namespace: &Namespace) -> Result<Rows<Text>, AllocError>
     ensures { IfOk result (λ quotas. quotas ≡ quotas_of namespace.now) }
 {
@@ -51,7 +51,8 @@ fn quotas_of(alloc: Global, namespace: &Namespace) -> Result<Rows<Text>, AllocEr
     Ok(quotas)
 }
 
-/// The pools to which the namespace is confined in the base, and its quota there. One that is not there has none.
+/// The pools to which the namespace is confined in the base, and its quota there. A namespace that does not exist has none.
+/// Want of memory is the only error.
 pub(crate) fn claimed_in(
     alloc: Global,
     base: &Core,

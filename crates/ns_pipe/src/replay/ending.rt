@@ -10,13 +10,13 @@ use std::alloc::AllocError;
 pub enum ReplayEnd {
     /// A server that holds the namespace alone answers its own steps as the log has them.
     Same,
-    /// A line is not that of a log.
+    /// This line is no line of a log.
     BadLine(u64),
-    /// The entry is no step of the server, or is answered otherwise.
+    /// The entry is no step of the server, or the server's answer is not the logged one.
     NotARun(u64),
-    /// The namespace does not have its pools and its quotas to itself, or a put of its own is refused since its table is full.
+    /// The namespace does not have its pools and its quotas to itself, or an own put is refused because its table is full.
     PremiseFails(u64),
-    /// A server that holds the namespace alone answers its own step otherwise.
+    /// A server that holds the namespace alone answers this own step differently.
     Differs(u64),
 }
 
@@ -33,7 +33,7 @@ impl ReplayEnd {
     }
 }
 
-/// Adds the line of the ending.
+/// Adds the line of the ending. Want of memory is the only error.
 pub fn push_ending(text: &mut String, ending: ReplayEnd) -> Result<(), AllocError>
     ensures { OnOk result (string_bytes text.new ≡ string_bytes text.old ++ last_line ending) }
 {

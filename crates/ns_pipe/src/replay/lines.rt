@@ -10,7 +10,8 @@ use ns_types::reply::Rendered;
 use ns_types::text::Text;
 use std::alloc::{AllocError, Global};
 
-/// Adds the line of an answer: the place of its entry, its status and its body.
+/// Adds the line of an answer: the place of its entry, its status and its body. Want of memory is
+/// the only error.
 fn push_answer(text: &mut String, place: u64, answer: &Rendered) -> Result<(), AllocError>
     ensures { OnOk result
         (string_bytes text.new ≡ string_bytes text.old ++ answer_line place answer.now) }
@@ -20,7 +21,7 @@ fn push_answer(text: &mut String, place: u64, answer: &Rendered) -> Result<(), A
 }
 
 /// The lines of those entries whose steps are the namespace's own, with these pools and these
-/// quotas. The first entry stands at the place `first`.
+/// quotas. The first entry stands at the place `first`. Want of memory is the only error.
 pub fn own_lines(
     alloc: Global,
     first: u64,

@@ -1,4 +1,4 @@
-//! What a log comes to.
+//! The result of replaying a log.
 
 ghost use Rattle.std.specs.Prelude.{◌≡◌, ◌+◌, ◌^◌, ◌<◌, IfOk, length, string_bytes};
 ghost use Rattle.ns_pipe.specs.Claimed.{pools_for, quotas_for};
@@ -23,7 +23,7 @@ struct ReplayLines {
     ending: ReplayEnd,
 }
 
-/// Where the entry of the fault stands among those replayed.
+/// The place of the fault's entry among the replayed entries.
 fn place_of(fault: ReplayFault) -> u64
     ensures { result ≡ place_of fault }
 {
@@ -104,7 +104,7 @@ fn replay_behind(
     replay_from(alloc, base, first, entries, namespace, pools, quotas)
 }
 
-/// What the bytes come to.
+/// Reads the log and replays it. Want of memory is the only error.
 fn outcome_of(alloc: Global, bytes: &[u8], replay: &Replay) -> Result<ReplayLines, AllocError>
     ensures { IfOk result (λ o. ComesTo bytes.now replay.now (string_bytes o.lines) o.ending) }
 {
@@ -137,7 +137,7 @@ pub struct Printout {
     pub status: u8,
 }
 
-/// What is printed of the bytes of a log for this replay.
+/// The text that is printed for this replay of a log's bytes. Want of memory is the only error.
 pub fn printout_of(alloc: Global, bytes: &[u8], replay: &Replay) -> Result<Printout, AllocError>
     ensures printout { IfOk result (λ printout.
         IsPrintout bytes.now replay.now (string_bytes printout.text) printout.status) }

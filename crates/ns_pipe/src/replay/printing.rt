@@ -1,4 +1,4 @@
-//! A replay from an input to an output.
+//! Replays a log from an input to an output.
 
 ghost use Rattle.std.specs.Prelude.{◌≡◌, ◌+◌, ◌<◌, ◌≤◌};
 ghost use Rattle.ns_http.specs.Whole.{FailsToRead};
@@ -13,11 +13,11 @@ use ns_http::{ConnFault, Counted, READ_LIMIT, read_to_end, write_all};
 use std::alloc::Global;
 use std::io::{Read, Write};
 
-/// Reads a log to the end of the input, replays it for the namespace alone, and writes what it
-/// comes to. Says the exit status.
+/// Reads a log to the end of the input, replays it for the namespace alone, and writes the result.
+/// Returns the exit status.
 ///
-/// Nothing is written before all of the text is there: with a fault of the reader, or where memory
-/// is wanting, nothing at all.
+/// Nothing is written before all of the text is there: after a fault of the reader, or if no memory
+/// is left, nothing is written at all.
 pub fn print_replay<R: Read, W: Write, E: Write>(
     alloc: Global,
     replay: &Replay,

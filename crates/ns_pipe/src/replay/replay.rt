@@ -1,4 +1,4 @@
-//! What is to be replayed alone.
+//! What is to be replayed for a namespace alone.
 
 use ns_types::rows::Rows;
 use ns_types::text::Text;
@@ -9,7 +9,8 @@ pub struct Replay {
     pub namespace: Text,
     /// How many of the first entries make the base: all, if there are fewer.
     pub from: u64,
-    /// With none of either, they are the pools to which the namespace is confined in the base, and its quota there.
+    /// The pools. If no pool and no quota is named, they are the pools to which the namespace is confined in the base, and the
+    /// quota is its quota there.
     pub pools: Rows<Text>,
     pub quotas: Rows<Text>,
 }

@@ -4,7 +4,7 @@ ghost use Rattle.ns_pipe.specs.Laws.{RequestedIsAsRead, SegmentsAreReadBack, Set
 
 use ns_endpoints::Draws;
 
-/// Where a request asks to put a policy, its rules are those that its text says.
+/// If a request puts a policy, the policy's rules are those that its text says.
 pub fn requested_is_as_read<D: Draws>()
     ensures { RequestedIsAsRead D.draws }
 {}
@@ -14,7 +14,7 @@ pub fn worked_is_as_read()
     ensures { WorkedIsAsRead }
 {}
 
-/// In a log with which receipts settle the same holds, if it holds of the receipts.
+/// In a log with which receipts settle, each policy has the rules that its text says, if it has them in the receipts.
 pub fn settled_is_as_read()
     ensures { SettledIsAsRead }
 {}

@@ -9,8 +9,8 @@ use ns_log::{Entry, log_text};
 use ns_types::name::Secret;
 use std::alloc::{AllocError, Global};
 
-/// The text of a log that is one segment. It is read back as the log where each policy that an entry puts has the rules that its
-/// text says, as each has that a request asks for.
+/// The text of a log that is one segment. It is read back as the log if each policy that an entry puts has the rules that its
+/// text says, as each policy of a request has.
 pub fn readable_text(
     alloc: Global,
     bootstrap: &Secret,

@@ -1,4 +1,4 @@
-//! What the types of entries keep: steps are within the limits, and numbers fit 64 bits.
+//! What the types of entries guarantee: steps are within the limits, and numbers fit 64 bits.
 
 ghost use Rattle.std.specs.Prelude.{◌^◌, ◌<◌, IsTrue, length};
 ghost use Rattle.ns_types.specs.State.Lists.{Each};
@@ -96,8 +96,8 @@ fn is_typed(entry: &Entry)
     answer_is_typed(entry.rendered());
 }
 
-/// Each entry has what its type keeps: its step is within the limits, and its numbers fit 64 bits. It reads the entries and does
-/// nothing.
+/// Each entry has what its type guarantees: its step is within the limits, and its numbers fit 64 bits. It reads the entries
+/// and does nothing.
 pub fn each_is_typed(entries: &[Entry])
     ensures typed { Each IsTyped entries.now }
     ensures few { length entries.now < 2 ^ 64 }

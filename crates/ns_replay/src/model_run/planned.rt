@@ -17,14 +17,14 @@ use ns_types::text::Text;
 use ns_types::worker::{Phase, Worker};
 use std::alloc::Global;
 
-/// Another owner of a plan that was handed in.
+/// One more owner of a plan that was handed in. Want of memory is the only error.
 fn shared(planned: &Planned) -> Result<Planned, Refusal>
     ensures { PlansKept (Some planned.now) result }
 {
     Ok(planned.share()?)
 }
 
-/// The plan of a snapshot, which is made.
+/// Makes the plan of a snapshot. Want of memory is the only error.
 fn made(alloc: Global, seen: &Shared<Snapshot>) -> Result<Planned, Refusal>
     requires { IsTrue (fits seen.now) }
     ensures { PlansKept (Some seen.now) result }
@@ -32,7 +32,8 @@ fn made(alloc: Global, seen: &Shared<Snapshot>) -> Result<Planned, Refusal>
     plan(alloc, seen.share()?)
 }
 
-/// The plan of the snapshot that the row keeps: its own, if it was handed in, or else one that is made.
+/// The plan of the snapshot that the row keeps: the plan that was handed in, or else a new one. The errors are `NotEnabled`, if
+/// the row keeps no snapshot, and `Memory`.
 fn plan_of(alloc: Global, row: &Worker) -> Result<Planned, Refusal>
     requires { HasFitting row.now }
     ensures { PlansKept row.now.kept result }
@@ -62,7 +63,7 @@ fn is_ending(row: &Worker) -> bool
     }
 }
 
-/// The plan that the worker hands in, where it is at that.
+/// The plan that the worker hands in, if it is its turn to do so.
 pub(crate) fn to_submit(
     alloc: Global,
     core: &Core,
@@ -82,7 +83,7 @@ pub(crate) fn to_submit(
     plan_of(alloc, row)
 }
 
-/// The plan by which the worker finishes, where it is at its end.
+/// The plan by which the worker finishes, if it is its turn to do so.
 pub(crate) fn to_finish(
     alloc: Global,
     core: &Core,

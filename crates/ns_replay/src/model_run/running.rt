@@ -1,4 +1,4 @@
-//! A list of steps, made one after the other.
+//! Makes a list of steps, one after the other.
 
 ghost use Rattle.std.specs.Prelude.{◌≡◌, IfErr, IfOk, Err, true, false};
 ghost use Rattle.ns_replay.specs.Running.{RunsOver, is_no_step};
@@ -9,23 +9,23 @@ use ns_types::reply::Reply;
 use ns_types::step::Step;
 use std::alloc::Global;
 
-/// What became of a list of steps.
+/// The result of making a list of steps.
 #[derive(Drop)]
 pub struct Ran {
-    /// Of each step that was made, in their order: they are the first of the list.
+    /// The answers of the steps that were made, in their order. These steps are the first of the list.
     pub answers: Vec<Result<Reply, Refusal>>,
     /// Why the step after them was not made: it was out of turn, or memory was wanting. None: all were made.
     pub stop: Option<Refusal>,
 }
 
-/// Whether a call that was refused so made no step.
+/// Whether a call with this refusal made no step.
 fn is_no_step(refusal: Refusal) -> bool
     ensures { result ≡ is_no_step refusal }
 {
     matches!(refusal, Refusal::Memory | Refusal::NotEnabled)
 }
 
-/// The answer of a step, or why the call made none.
+/// The answer, if it is a step's, or else why the call made no step.
 fn of_step(answer: Result<Reply, Refusal>) -> Result<Result<Reply, Refusal>, Refusal>
     ensures step { IfOk result (λ given. given ≡ answer) }
     ensures goes { IfOk result (λ given. IfErr given (λ refusal. is_no_step refusal ≡ false)) }

@@ -1,4 +1,4 @@
-//! Any step of the model, made by a core.
+//! Makes any step of the model on a core.
 
 ghost use Rattle.ns_types.specs.declared.step.Step.TheVariants as Step;
 ghost use Rattle.ns_types.specs.Steps.{Makes};
@@ -12,7 +12,7 @@ use ns_types::step::Step;
 use ns_types::text::Text;
 use std::alloc::Global;
 
-/// The worker takes a snapshot, which its row keeps and nobody else.
+/// The worker takes a snapshot, which only its row keeps.
 fn snap(core: &mut Core, worker: u64, namespace: &Text) -> Result<Reply, Refusal>
     ensures { Makes (Step.Snap worker namespace.now) core.old result core.new }
 {

@@ -1,4 +1,4 @@
-//! What makes steps.
+//! Servers that make any step of the model.
 
 ghost use Rattle.ns_replay.specs.Making.{MakesAny};
 

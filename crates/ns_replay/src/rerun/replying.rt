@@ -1,4 +1,4 @@
-//! What a server answers a step, as bytes.
+//! A server's answers to steps, as bytes.
 
 ghost use Rattle.std.specs.Prelude.{◌≡◌, ◌↔◌, Err, IfOk, IsFalse, IsTrue, Some};
 ghost use Rattle.ns_replay.specs.Running.{is_no_step};
@@ -14,14 +14,14 @@ use ns_types::reply::{Rendered, Reply};
 use ns_types::step::Step;
 use std::alloc::{AllocError, Global};
 
-/// Whether a call that was refused so made no step.
+/// Whether a call with this refusal made no step.
 fn is_no_step(refusal: Refusal) -> bool
     ensures { result ≡ is_no_step refusal }
 {
     matches!(refusal, Refusal::Memory | Refusal::NotEnabled)
 }
 
-/// The bytes of a refusal, if it is a step's answer. None: the call was out of turn.
+/// The bytes of a refusal, if it is a step's answer. None: the call was out of turn. Want of memory is the only error.
 #[tactic(auto, unfolding(ns_json::specs::Replies::rendered))]
 fn shown_refusal(alloc: Global, refusal: Refusal) -> Result<Option<Rendered>, AllocError>
     ensures { IfOk result (Shows (Err refusal)) }
@@ -33,7 +33,7 @@ fn shown_refusal(alloc: Global, refusal: Refusal) -> Result<Option<Rendered>, Al
     }
 }
 
-/// The bytes of a step's answer. None: the call was out of turn.
+/// The bytes of a step's answer. None: the call was out of turn. Want of memory is the only error.
 pub fn shown(alloc: Global, answer: &Result<Reply, Refusal>) -> Result<Option<Rendered>, AllocError>
     ensures { IfOk result (Shows answer.now) }
 {
@@ -43,7 +43,8 @@ pub fn shown(alloc: Global, answer: &Result<Reply, Refusal>) -> Result<Option<Re
     }
 }
 
-/// Makes the step, and says what it is answered. None: it is out of turn, and not made.
+/// Makes the step, and returns its answer as bytes. None: the step is out of turn, and was not made. Want of memory is the only
+/// error.
 pub fn reply_to(
     alloc: Global,
     core: &mut Core,
@@ -57,7 +58,7 @@ pub fn reply_to(
     reply
 }
 
-/// Whether that is what is logged.
+/// Whether the reply is the logged one.
 pub fn is_logged(reply: &Option<Rendered>, logged: &Rendered) -> bool
     ensures { IsTrue result ↔ (reply.now ≡ Some logged.now) }
 {
@@ -67,8 +68,8 @@ pub fn is_logged(reply: &Option<Rendered>, logged: &Rendered) -> bool
     }
 }
 
-/// Makes the step of the entry, and says whether it is answered as is logged. If not, or where it is out of turn, the entry does
-/// not fit.
+/// Makes the step of the entry, and returns whether the entry fits: the step is not out of turn, and its answer is the logged
+/// one. Want of memory is the only error.
 pub(crate) fn fit(alloc: Global, core: &mut Core, entry: &Entry) -> Result<bool, AllocError>
     ensures fits { IfOk result (λ fits. IsTrue fits → Fits entry.now core.old core.new) }
     ensures unfit { IfOk result (λ fits. IsFalse fits → FitsIn entry.now core.old → ⊥) }

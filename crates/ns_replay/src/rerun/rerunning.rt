@@ -1,4 +1,4 @@
-//! A whole log, made once more.
+//! Makes the steps of a whole log once more.
 
 ghost use Rattle.std.specs.Prelude.{IfErr, IfOk, IsOkUnless, OnOk};
 ghost use Rattle.ns_types.specs.State.Rows.{State};
@@ -15,7 +15,7 @@ use thiserror::Error;
 /// Why entries are no run of a server.
 #[derive(Clone, Copy, Debug, PartialEq, Eq, Error)]
 pub enum RerunFault {
-    /// The place of the first entry whose step the server does not make, or answers otherwise than is logged.
+    /// The place of the first entry whose step the server does not make, or whose logged answer is not the server's.
     #[error("the log is no run at place {0}")]
     NotARun(u64),
     #[error("out of memory")]
@@ -33,8 +33,8 @@ impl From<AllocError> for RerunFault {
     }
 }
 
-/// Makes the steps of the entries, in their order. Each must be answered as is logged: the first that is not is the fault, and
-/// no step after it is made.
+/// Makes the steps of the entries, in their order. Each answer must be the logged one: the first that is not is the fault, and
+/// no step after it is made. Want of memory is the only other error.
 pub fn rerun(alloc: Global, core: &mut Core, entries: &[Entry]) -> Result<(), RerunFault>
     ensures made { OnOk result (IsKept core.old entries.now core.new) }
     ensures fault { IfErr result (IsRerunFault core.old entries.now) }
@@ -47,8 +47,8 @@ pub fn rerun(alloc: Global, core: &mut Core, entries: &[Entry]) -> Result<(), Re
     Ok(())
 }
 
-/// Makes the steps of the entries on a copy of the server. Each must be answered as is logged: the first that is not is the
-/// fault.
+/// Makes the steps of the entries on a copy of the server, and returns the copy. Each answer must be the logged one: the first
+/// that is not is the fault. Want of memory is the only other error.
 pub fn rerun_from(alloc: Global, first: &Core, entries: &[Entry]) -> Result<Core, RerunFault>
     ensures run { IfOk result (λ last. IsKept first.now entries.now last) }
     ensures a_run { (last : State) → IsKept first.now entries.now last

@@ -24,7 +24,7 @@ use ns_types::reply::Content;
 use ns_types::text::Text;
 use std::alloc::AllocError;
 
-/// The id of an evaluation, or the empty text where there is none. The buffer has room for it.
+/// The id of the evaluation, written into the buffer, or an empty text if there is none.
 fn id_or_empty(number: Option<u64>, buffer: &mut [u8]) -> &str
     requires { 36 ≤ length buffer.old }
     ensures { result.now ≡ option_map_or (id_text IdKind.Evaluation) number [] }
@@ -232,8 +232,8 @@ fn write_body(out: &mut Writer, content: &Content) -> Result<(), AllocError>
     }
 }
 
-/// The body of a content that shows no rows, in a buffer that holds nothing. It takes memory only where the buffer
-/// is too small.
+/// The body of a content that shows no rows, in an empty buffer. It takes memory only if the buffer is too small; want of
+/// memory is the only error.
 pub(crate) fn body_text(bytes: Vec<u8>, content: &Content) -> Result<String, AllocError>
     requires brief { IsBrief content.now }
     requires empty { bytes.items ≡ [] }

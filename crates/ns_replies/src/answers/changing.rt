@@ -1,11 +1,11 @@
-//! Which steps may change something, so that their answers need room before them.
+//! Which steps may change something. The room for their answers has to be taken before them.
 
 ghost use Rattle.std.specs.Prelude.{◌≡◌};
 ghost use Rattle.ns_replies.specs.Laws.{may_change};
 
 use ns_types::step::{AdminCommand, AskCommand, NodeCommand, Step};
 
-/// Whether the step may change something: one that is asked for and does not only read, or a worker's.
+/// Whether the step may change something: it is a request that does not only read, or a worker's step.
 pub fn may_change(step: &Step) -> bool
     ensures { result ≡ may_change step.now }
 {

@@ -1,4 +1,4 @@
-//! That the room of a step is enough, as the contract of a function that does nothing.
+//! The law that the room of a step is enough, as the contract of a function that does nothing.
 
 ghost use Rattle.ns_replies.specs.Laws.{MadeHasRoom};
 

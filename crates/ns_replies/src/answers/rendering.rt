@@ -11,7 +11,7 @@ use ns_types::reply::{Content, Rendered, Reply, Response};
 use ns_types::text::Text;
 use std::alloc::{AllocError, Global};
 
-/// What a refusal is answered.
+/// The refusal as bytes. Want of memory is the only error.
 pub fn refused(alloc: Global, refusal: Refusal) -> Result<Rendered, AllocError>
     ensures { IfOk result (λ r. r ≡ refused refusal) }
 {
@@ -23,7 +23,7 @@ pub fn refused(alloc: Global, refusal: Refusal) -> Result<Rendered, AllocError>
     })
 }
 
-/// What a step that was made is answered.
+/// The answer of a step that was made, with that body.
 pub(crate) fn done(index: Option<u64>, body: String) -> Rendered
     ensures { result ≡ record { status = 200; index = index; body = string_bytes body } }
 {
@@ -43,7 +43,7 @@ fn of_response(alloc: Global, response: Response) -> Result<Rendered, AllocError
     }
 }
 
-/// What a step that was made is answered, in new memory.
+/// The reply as bytes, in new memory. Want of memory is the only error.
 #[tactic(auto, unfolding(ns_json::specs::Replies::rendered))]
 pub fn render(alloc: Global, reply: &Reply) -> Result<Rendered, AllocError>
     ensures { IfOk result (λ r. r ≡ rendered (Ok reply.now)) }

@@ -17,8 +17,8 @@ use ns_types::worker::Worker;
 use std::alloc::{AllocError, Global};
 use std::marker::Model;
 
-/// Room for the answer of a step, which is taken before the step. Contracts see in how many bytes a body or the text
-/// of a refusal may be written, and the body that is to answer a new token.
+/// Room for the answer of a step, which is taken before the step. Contracts see how many bytes a body or the text of a refusal
+/// may have, and the body of the reply to a new token.
 #[derive(Drop)]
 pub struct AnswerRoom {
     text: String,
@@ -41,7 +41,7 @@ impl Model for AnswerRoom {
         × (Rooms.refusal_bytes ≤ string_capacity room.text) };
 }
 
-/// The body that is to answer the step, if it makes a token.
+/// The body of the reply to the step, if the step makes a token.
 #[tactic(auto, unfolding(ns_json::specs::Replies::body_of))]
 fn token_body(alloc: Global, step: &Step) -> Result<Option<String>, AllocError>
     ensures { IfOk result (λ body. option_map string_bytes body ≡ token_body step.now) }
@@ -60,7 +60,8 @@ fn token_body(alloc: Global, step: &Step) -> Result<Option<String>, AllocError>
 }
 
 impl AnswerRoom {
-    /// Room for the answer of the step. The row is the worker's before the step, if it is a worker's step.
+    /// Room for the answer of the step. For a worker's step, `row` is the worker's row before it. Want of memory is the only
+    /// error.
     pub fn for_step(
         alloc: Global,
         step: &Step,
@@ -76,7 +77,7 @@ impl AnswerRoom {
         Ok(AnswerRoom { text, token })
     }
 
-    /// Room for a copy of an answer that this one has room for.
+    /// Room for a copy of any answer for which this is room. Want of memory is the only error.
     pub fn for_copy(&self, alloc: Global) -> Result<AnswerRoom, AllocError>
         ensures { IfOk result (λ copy. copy ≡ copy_room self.now) }
     {
@@ -89,7 +90,7 @@ impl AnswerRoom {
         Ok(AnswerRoom { text, token: None })
     }
 
-    /// What the step was answered. It takes no memory.
+    /// The step's reply as bytes, in this room. It takes no memory.
     #[tactic(auto, unfolding(ns_json::specs::Replies::rendered))]
     pub fn render(self, reply: &Reply) -> Rendered
         requires { HasRoom self reply.now.content }
@@ -111,7 +112,7 @@ impl AnswerRoom {
         }
     }
 
-    /// What the step was answered where it was refused. It takes no memory.
+    /// The step's refusal as bytes, in this room. It takes no memory.
     pub fn refuse(self, refusal: Refusal) -> Rendered
         ensures shown { result ≡ refused refusal }
         ensures fits { length result.body ≤ answer_bytes self }
@@ -127,7 +128,7 @@ impl AnswerRoom {
         }
     }
 
-    /// A copy of an answer. It takes no memory.
+    /// A copy of the answer, in this room. It takes no memory.
     pub fn repeat(self, shown: &Rendered) -> Rendered
         requires { length shown.now.body ≤ self.bytes }
         ensures { result ≡ shown.now }

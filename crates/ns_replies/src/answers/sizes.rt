@@ -1,4 +1,4 @@
-//! How many bytes the answer of a step takes. None where no number of 64 bits says it.
+//! How many bytes the answer of a step takes. None: the number does not fit 64 bits.
 
 ghost use Rattle.std.specs.Prelude.{◌≡◌, IfSome, length, nat_lt, option_copied, sum_by};
 ghost use Rattle.std.specs.Option.{option_and_then};
@@ -47,7 +47,7 @@ fn escaped_bytes(byte: u8) -> usize
     }
 }
 
-/// Of a text as a JSON string, with the byte to spare.
+/// The bytes of a text as a JSON string, with one byte to spare.
 #[tactic(auto, using(crate::proofs::Writing::escape_more, crate::proofs::Writing::text_bytes_is))]
 fn text_bytes(text: &str) -> Option<usize>
     ensures { IfSome result (λ n. n ≡ text_bytes text.now) }
@@ -59,7 +59,7 @@ fn text_bytes(text: &str) -> Option<usize>
     Some(bytes)
 }
 
-/// The name of the node at the place of the snapshot, or no name.
+/// The name of the node at that place of the snapshot, or an empty text if there is none.
 fn node_name(kept: &Snapshot, place: u64) -> &str
     ensures { result.now ≡ node_name kept.now place }
 {
@@ -87,7 +87,7 @@ fn placed_bytes(kept: &Snapshot, placements: &[Placement]) -> Option<usize>
     Some(bytes)
 }
 
-/// Of the worker's plan, if it has handed one in.
+/// The bytes that the answer to an Apply takes for the worker's plan, if the worker has submitted one.
 fn plan_bytes(row: Option<&Worker>) -> Option<usize>
     ensures { IfSome result
         (λ n. n ≡ plan_bytes (option_and_then planned_of (option_copied row.entry))) }
@@ -114,7 +114,7 @@ fn asked_bytes(command: &AskCommand) -> usize
     }
 }
 
-/// By the row of the worker, if it is a worker's step.
+/// The bytes of the step's answer. For a worker's step, `row` is the worker's row before it.
 pub(crate) fn step_bytes(step: &Step, row: Option<&Worker>) -> Option<usize>
     ensures { IfSome result (λ n. n ≡ step_bytes step.now (option_copied row.entry)) }
 {

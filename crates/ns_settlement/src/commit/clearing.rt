@@ -1,4 +1,4 @@
-//! Vacant slots that are not needed any more.
+//! Takes out vacant slots that are no longer needed.
 
 ghost use Rattle.std.specs.Prelude.{◌≡◌};
 ghost use Rattle.keyed.specs.Table.{rows};

@@ -1,5 +1,5 @@
-//! The index of live allocations and the totals of quotas follow what changes of namespaces, and nodes that change are not
-//! shown any more.
+//! Makes the index of live allocations and the totals of quotas follow the changes of namespaces, and forgets the shown nodes
+//! that change.
 
 ghost use Rattle.std.specs.Prelude.{OnOk};
 ghost use Rattle.ns_change.specs.Settled.{settled_tenant};
@@ -33,8 +33,9 @@ pub(crate) fn reserve_index(
     Ok(())
 }
 
-/// Where the index is right for the namespaces of the table, it is so for them as changed from now on, and so are the totals
-/// of quotas. A node on which a changed row is live, before or after, is not shown any more. It takes no memory.
+/// If the index and the totals of quotas are right for the namespaces of the table, they are right afterwards for the
+/// namespaces as changed. The index forgets each shown node on which a changed allocation is live, before or after. It takes
+/// no memory.
 pub(crate) fn commit_index(
     live: &mut Live,
     table: &OwnerTable<TenantRows>,
@@ -65,7 +66,7 @@ pub(crate) fn commit_index(
     }
 }
 
-/// Nodes that change are not shown any more. It takes no memory.
+/// Forgets the shown nodes that change. It takes no memory.
 pub(crate) fn forget_nodes(live: &mut Live, changes: &NameTable<PoolChange>)
     ensures keys { KeepsKeys live.old live.new }
     ensures shown { ForgetsChanged changes.now live.old live.new }

@@ -1,4 +1,4 @@
-//! What changed of the three lists goes into them.
+//! Puts the changes of the three lists into them.
 
 ghost use Rattle.std.specs.Prelude.{◌≡◌, OnOk};
 ghost use Rattle.keyed.specs.Queue.{CanAdd};
@@ -27,7 +27,7 @@ pub(crate) fn commit_list(list: &mut KeyQueue, change: ListChange)
     list.clear_room(taken.as_slice());
 }
 
-/// Takes the room for the new entries away again.
+/// Gives the room for the new entries back.
 pub(crate) fn clear_list(list: &mut KeyQueue, change: &ListChange)
     ensures { list.new.items ≡ list.old.items }
 {

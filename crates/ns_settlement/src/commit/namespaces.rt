@@ -1,4 +1,4 @@
-//! What changes of a namespace: its rows, and where events are published its index.
+//! Puts the change of a namespace into the tables: its rows, and its index if events are published.
 
 ghost use Rattle.std.proofs.Common.{subst, sym};
 ghost use Rattle.std.specs.Prelude.{◌≡◌, ◌+◌, ◌<◌, ◌^◌, OnOk};
@@ -51,7 +51,7 @@ fn commit_rows(tenant: &mut TenantRows, change: TenantChange)
     tenant.workers.apply(workers);
 }
 
-/// The namespace has one index more, and those events. It takes no memory.
+/// Raises the namespace's index by one, and adds those events. It takes no memory.
 fn publish(tenant: &mut TenantRows, events: Rows<Event>)
     requires index { tenant.old.index + 1 < 2 ^ 64 }
     ensures { tenant_of tenant.new ≡ publish (tenant_of tenant.old) events }

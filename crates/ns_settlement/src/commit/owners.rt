@@ -1,5 +1,4 @@
-//! Owners of rows, namespaces and pools alike: what changes of each goes into its row. Room is made first; then nothing can
-//! fail.
+//! Puts changes into the rows of owners: a namespace or a pool owns rows. Room is made first; then nothing can fail.
 
 ghost use Rattle.std.specs.Prelude.{◌≡◌, IfSome, OnOk};
 ghost use Rattle.keyed.specs.Table.{row_at};
@@ -9,14 +8,14 @@ use keyed::{Bounded, NameTable, OwnerTable};
 use ns_types::text::Text;
 use std::alloc::AllocError;
 
-/// An owner of rows, with what changes of them.
+/// An owner of rows, and how a change of its rows is put into it.
 pub(crate) trait Owner<OwnerChange: Drop>: Drop {
     /// The owner as the model has it, without vacant slots and room.
     ghost Seen: { Type 0 };
 
     ghost seen: { Self → Seen };
 
-    /// As the change leaves it.
+    /// The owner as the change leaves it.
     ghost changed: { Seen → OwnerChange → Seen };
 
     /// Whether the change can be made where there is room.
@@ -28,7 +27,7 @@ pub(crate) trait Owner<OwnerChange: Drop>: Drop {
     /// Whether no changed row has a vacant slot.
     ghost IsCleared: { OwnerChange → Self → Type 0 };
 
-    /// Makes room for each changed row. Where it is refused, the rows are as they were.
+    /// Makes room for each changed row. If that is refused, the rows are as they were.
     fn reserve(&mut self, change: &OwnerChange) -> Result<(), AllocError>
         requires { CanChange change.now self.old }
         ensures rows { seen self.new ≡ seen self.old }
@@ -44,12 +43,12 @@ pub(crate) trait Owner<OwnerChange: Drop>: Drop {
         requires { HasRoom change self.old }
         ensures { seen self.new ≡ changed (seen self.old) change };
 
-    /// Slots and room decide nothing of it.
+    /// `CanChange` does not depend on vacant slots and room.
     ghost carries: { (x : OwnerChange) (a b : Self) → seen b ≡ seen a →
         CanChange x a → CanChange x b };
 }
 
-/// Makes room for what changes of the owner, if it is there.
+/// Makes room for the owner's change, if the owner is there.
 fn reserve_one<OwnerChange: Drop, Row: Owner<OwnerChange> + Bounded>(
     table: &mut OwnerTable<Row>,
     name: &Text,
@@ -67,7 +66,7 @@ fn reserve_one<OwnerChange: Drop, Row: Owner<OwnerChange> + Bounded>(
     reserved
 }
 
-/// Makes room for what changes of all owners. Where it is refused, they are as they were.
+/// Makes room for the changes of all owners. If that is refused, the owners are as they were.
 pub(crate) fn reserve_all<OwnerChange: Drop, Row: Owner<OwnerChange> + Bounded>(
     table: &mut OwnerTable<Row>,
     changes: &NameTable<OwnerChange>,
@@ -114,7 +113,7 @@ pub(crate) fn clear_all<OwnerChange: Drop, Row: Owner<OwnerChange> + Bounded>(
     }
 }
 
-/// Moves what changed of the owner in, if it is there.
+/// Moves the owner's change into it, if the owner is there.
 fn commit_one<OwnerChange: Drop, Row: Owner<OwnerChange> + Bounded>(
     table: &mut OwnerTable<Row>,
     name: &Text,
@@ -133,7 +132,7 @@ fn commit_one<OwnerChange: Drop, Row: Owner<OwnerChange> + Bounded>(
     }
 }
 
-/// Moves what changed of all owners in. It takes no memory.
+/// Moves the changes of all owners into them. It takes no memory.
 pub(crate) fn commit_all<OwnerChange: Drop, Row: Owner<OwnerChange> + Bounded>(
     table: &mut OwnerTable<Row>,
     changes: NameTable<OwnerChange>,

@@ -1,4 +1,4 @@
-//! What changed of pools goes into the tables: their nodes, and the numbers of their releases.
+//! Puts the changes of pools into the tables: their nodes and their release numbers.
 
 ghost use Rattle.std.specs.Prelude.{◌≡◌, ◌+◌, ◌<◌, ◌≤◌, ◌^◌, filter, length, true};
 ghost use Rattle.std.specs.Prelude.{option_map, IfSome, OnOk};
@@ -41,7 +41,7 @@ fn count_classes(rooms: &[ReleasedClass], pool: &Text) -> usize
     rooms.iter().filter(|room| same_text(pool, &room.0)).count()
 }
 
-/// Makes a place for each of the pool's released classes.
+/// Makes room for each of the pool's released classes, if the pool is there.
 fn reserve_classes_in(
     table: &mut OwnerTable<PoolRows>,
     name: &Text,
@@ -59,7 +59,7 @@ fn reserve_classes_in(
     reserved
 }
 
-/// Makes a place for each released class.
+/// Makes room for each released class.
 fn reserve_classes(
     table: &mut OwnerTable<PoolRows>,
     rooms: &[ReleasedClass],
@@ -105,7 +105,7 @@ impl Owner<PoolChange> for PoolRows {
     ghost carries = { λ x a b is can. can };
 }
 
-/// Makes room for what changes of all pools. Where it is refused, the pools are as they were.
+/// Makes room for the changes of all pools. If that is refused, the pools are as they were.
 pub(crate) fn reserve_pools(
     table: &mut OwnerTable<PoolRows>,
     changes: &NameTable<PoolChange>,
@@ -121,7 +121,7 @@ pub(crate) fn reserve_pools(
 
 // ---- release numbers
 
-/// The pool has one more release.
+/// Raises the pool's release number by one, if the pool is there.
 fn raise_pool(table: &mut OwnerTable<PoolRows>, name: &Text)
     requires { IfSome (row_at table.old name.now) (λ pool. pool.release + 1 < 2 ^ 64) }
     ensures { ChangesRow (λ a b. b ≡ raised_pool true a) name.now table.old table.new }
@@ -132,7 +132,7 @@ fn raise_pool(table: &mut OwnerTable<PoolRows>, name: &Text)
     }
 }
 
-/// Each pool of which classes are released has one more release.
+/// Raises the release number of each pool of which classes are released by one.
 fn raise_pools(table: &mut OwnerTable<PoolRows>, rooms: &[ReleasedClass])
     requires { CanRise (λ pool. pool.release) (releases rooms.now) table.old }
     ensures { (name : Name) → row_at table.new name
@@ -145,7 +145,7 @@ fn raise_pools(table: &mut OwnerTable<PoolRows>, rooms: &[ReleasedClass])
     }
 }
 
-/// The class has the number of its pool's last release.
+/// Gives the class the number of its pool's last release.
 fn put_class(pool: &mut PoolRows, class: Class)
     requires { 0 < pool.old.classes.room }
     ensures { ClassPut class pool.old pool.new }
@@ -168,7 +168,7 @@ fn put_class_in(table: &mut OwnerTable<PoolRows>, name: &Text, class: Class)
     }
 }
 
-/// Each released class has the number of its pool's last release.
+/// Gives each released class the number of its pool's last release.
 fn put_classes(table: &mut OwnerTable<PoolRows>, rooms: Rows<ReleasedClass>)
     requires { HaveClassRoom rooms table.old }
     ensures pools { owners pool_of table.new ≡ numbered_pools rooms (owners pool_of table.old) }
@@ -179,7 +179,7 @@ fn put_classes(table: &mut OwnerTable<PoolRows>, rooms: Rows<ReleasedClass>)
     }
 }
 
-/// Moves what changed of all pools in: release numbers, classes with their numbers, nodes. It takes no memory.
+/// Moves the changes of all pools in: release numbers, classes with their numbers, nodes. It takes no memory.
 pub(crate) fn commit_pools(
     table: &mut OwnerTable<PoolRows>,
     changes: NameTable<PoolChange>,

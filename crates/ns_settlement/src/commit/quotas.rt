@@ -1,4 +1,4 @@
-//! What changed of quotas goes into the tables: their records, and the numbers of their releases.
+//! Puts the changes of quotas into the tables: their records and their release numbers.
 
 ghost use Rattle.std.specs.Prelude.{◌≡◌, ◌+◌, ◌<◌, ◌^◌, true, IfSome};
 ghost use Rattle.keyed.specs.Table.{row_at};
@@ -14,7 +14,7 @@ use ns_tables::QuotaRows;
 use ns_types::records::Quota;
 use ns_types::text::Text;
 
-/// The quota has one more release.
+/// Raises the quota's release number by one, if the quota is there.
 fn raise_quota(table: &mut NameTable<QuotaRows>, name: &Text)
     requires { IfSome (row_at table.old name.now) (λ quota. quota.release + 1 < 2 ^ 64) }
     ensures { ChangesRow (λ a b. b ≡ raised_quota true a) name.now table.old table.new }
@@ -25,7 +25,7 @@ fn raise_quota(table: &mut NameTable<QuotaRows>, name: &Text)
     }
 }
 
-/// Each of those quotas has one more release.
+/// Raises the release number of each of those quotas by one.
 fn raise_quotas(table: &mut NameTable<QuotaRows>, released: &[Text])
     requires { CanRise (λ quota. quota.release) (has_name released.now) table.old }
     ensures { owners quota_of table.new
@@ -38,7 +38,7 @@ fn raise_quotas(table: &mut NameTable<QuotaRows>, released: &[Text])
     }
 }
 
-/// The record goes over that of the quota, if it is there.
+/// Replaces the quota's record, if the quota is there.
 fn put_quota(table: &mut NameTable<QuotaRows>, name: &Text, quota: Quota)
     ensures { ChangesRow (λ a b. quota_of b ≡ changed_quota (quota_of a) quota)
         name.now table.old table.new }
@@ -64,7 +64,7 @@ fn put_quotas(table: &mut NameTable<QuotaRows>, changes: NameTable<Quota>)
     }
 }
 
-/// Moves the changed records in, and each released quota has one more release. It takes no memory.
+/// Moves the changed records in, and raises the release number of each released quota by one. It takes no memory.
 pub(crate) fn commit_quotas(
     table: &mut NameTable<QuotaRows>,
     changes: NameTable<Quota>,

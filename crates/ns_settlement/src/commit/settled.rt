@@ -1,5 +1,5 @@
-//! All that a settled step changes goes into the tables, and into the index of live allocations beside them. What was
-//! shown of a node is forgotten where it changes.
+//! Puts all that a settled step changes into the tables, and into the index of live allocations beside them. The index forgets
+//! what it last showed of a node that changes.
 
 ghost use Rattle.std.specs.Prelude.{◌≡◌, OnErr, OnOk};
 ghost use Rattle.ns_change.specs.Settled.{settled_world};
@@ -19,7 +19,7 @@ use ns_live_index::Live;
 use ns_tables::Tables;
 use std::alloc::AllocError;
 
-/// Makes room for all that a settled step changes; where memory is wanting, it stops there.
+/// Makes room for all that a settled step changes. If no memory is left, it stops there.
 fn reserve_parts(tables: &mut Tables, live: &mut Live, settled: &Settled) -> Result<(), AllocError>
     requires { Fits (world_of tables.old) settled.now }
     ensures world { world_of tables.new ≡ world_of tables.old }
@@ -48,8 +48,9 @@ fn clear(tables: &mut Tables, settled: &Settled)
     clear_list(&mut tables.blocked, &settled.blocked);
 }
 
-/// Makes room for all that a settled step changes. Want of memory is the only error: then no changed row of a namespace, nor
-/// node, has a vacant slot; room of lists and of the index may be left. The world, what the index holds and what is shown stay.
+/// Makes room for all that a settled step changes. Want of memory is the only error: then no changed row of a namespace and no
+/// changed node has a vacant slot, but room in lists and in the index may be left. The world, the index's keys and the shown
+/// nodes stay as they are.
 pub fn reserve(tables: &mut Tables, live: &mut Live, settled: &Settled) -> Result<(), AllocError>
     requires { Fits (world_of tables.old) settled.now }
     ensures world { world_of tables.new ≡ world_of tables.old }
@@ -66,7 +67,8 @@ pub fn reserve(tables: &mut Tables, live: &mut Live, settled: &Settled) -> Resul
     Ok(())
 }
 
-/// Moves all that a settled step changes in, and an index that was right for the tables stays so. It takes no memory.
+/// Moves all that a settled step changes into the tables. An index that was right for the tables stays right. It takes no
+/// memory.
 pub fn commit(tables: &mut Tables, live: &mut Live, settled: Settled)
     requires room { HasRoom settled tables.old }
     requires index_room { HasIndexRoom settled.tenants live.old }

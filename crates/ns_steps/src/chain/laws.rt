@@ -14,7 +14,7 @@ pub fn chain_is_run<S: Server>()
         Run (S.state old) steps answers (S.state new) }
 {}
 
-/// One chain after the other is a chain.
+/// A chain, and one that goes on from where it ends, are one chain.
 pub fn chains_join<S: Server>()
     ensures { (old mid new : S) (steps rest : List Step) (answers told : List Answer) →
         Chain S.state S.notes old steps answers mid → Chain S.state S.notes mid rest told new →

@@ -1,6 +1,7 @@
-//! What a server is to those that have it make steps.
+//! A server that makes steps, as its callers see it.
 
-/// A value that stands for a state of the model. A step that it makes may leave more than the next state: a log's entry, say.
+/// A value that stands for a state of the model. A step that it makes may leave more than the next state, such as an entry of a
+/// log.
 pub trait Server {
     ghost use Rattle.ns_types.specs.declared.step.Step.{Step};
     ghost use Rattle.ns_types.specs.State.Rows.{State};
@@ -9,6 +10,6 @@ pub trait Server {
     // The state that the value stands for.
     ghost state: { Self → State };
 
-    // What else there is to a step that was made, with that answer.
+    // What else holds of a step that was made with that answer.
     ghost notes: { Self → Step → Answer → Self → Type 0 };
 }
