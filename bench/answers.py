@@ -1,8 +1,8 @@
 """What the server may answer to the bytes of a connection, by docs/API.md and docs/DECISIONS.md.
 
-`Reading` goes through the bytes as a connection reads them. For each request it says what the reply may be: one text where the request
-is refused without a look at the state, else what the table of refusals allows to this command. This is a second reading of those pages,
-in Python, for the scripts that send hostile input. It shares nothing with the program.
+`Reading` goes through the bytes as a connection reads them. For each request it says what the reply may be: one text if the
+request is refused before the state is read, otherwise what the table of refusals allows for this command. This is a second
+reading of those pages, in Python, for the scripts that send hostile input. It shares nothing with the program.
 """
 
 import json
@@ -43,7 +43,8 @@ NAMES = {"namespace": documents.NAMESPACE, "quota": documents.POOL, "pool": docu
 
 
 class Command:
-    """One row: what it may be refused for by the state, which document it reads, and the parameter whose name the document may give."""
+    """One row: the refusals that the state may give, the document that it reads, and the parameter whose name the document may
+    give."""
 
     def __init__(self, path, methods, refusals=(), kind="ask", reads=None, is_list_for_all=False, members=None):
         self.path, self.methods = path, methods.split()
@@ -100,7 +101,7 @@ COMMANDS = [
 
 
 def given(pattern, path):
-    """What the path gives for the names in the pattern: pairs. None: it is another path."""
+    """The values that the path has for the names in the pattern, as pairs. None: the path does not match."""
     wanted, parts = pattern.split("/"), path.split("/")
     if len(wanted) != len(parts):
         return None
@@ -118,7 +119,7 @@ def is_named(kind, text):
 
 
 def decoded(part):
-    """None: it is no text."""
+    """The decoded part. None: it is no text."""
     try:
         return unquote_to_bytes(part).decode()
     except UnicodeDecodeError:
@@ -126,7 +127,7 @@ def decoded(part):
 
 
 def parameters(query):
-    """The first value of each name."""
+    """The first value of each parameter."""
     found = {}
     for pair in filter(None, query.split("&")):
         name, _, value = pair.replace("+", " ").partition("=")
@@ -154,8 +155,8 @@ def parameter_fault(method, command, asked):
 
 
 class Answer:
-    """What a reply may be: pairs of a status and a text, where no text stands for any. Of 200 also the members of its body and whether
-    it shows an index; or the body."""
+    """What a reply may be: pairs of a status and a text, where None stands for any text. For 200 also the command, by which the
+    members of the body and the index are judged, or the body and the index themselves."""
 
     def __init__(self, pairs, command=None, body=None, index=None):
         self.pairs, self.command, self.body, self.index = pairs, command, body, index
@@ -170,13 +171,13 @@ def by_the_state(command, token):
 
 
 def by_the_path(path):
-    """The rows of the path, and what it gives for their names."""
+    """The rows of the table for the path, each with the values that the path has for their names."""
     rows = [(command, given(command.path, path)) for command in COMMANDS]
     return [(command, pairs) for command, pairs in rows if pairs is not None]
 
 
 def answer_to(method, target, token, body):
-    """The token is None where there is none, and otherwise the bytes of a header."""
+    """What the reply to a request may be. The token is the bytes of its header, or None if there is none."""
     path, _, query = target.partition("?")
     rows = by_the_path(path)
     if not rows:
@@ -227,7 +228,7 @@ TCHAR = rb"[!#$%&'*+.^_`|~0-9A-Za-z-]"
 LINE = re.compile(rb"(" + TCHAR + rb"+) ([^\x00-\x20\x7f]+) HTTP/1\.([01])(?:\r\n|\n)")
 FIELD = re.compile(rb"(" + TCHAR + rb"+):([\t\x20-\x7e\x80-\xff]*)(?:\r\n|\n)")
 EMPTY = re.compile(rb"\r\n|\n")
-# What may still become a first line, a header or the empty line behind the headers, up to the end of the input.
+# What may still become a first line, a header or the empty line after the headers, up to the end of the input.
 VERSION = b"HTTP/1."
 LINE_BEGUN = re.compile(
     rb"(?:\r|" + TCHAR + rb"*|" + TCHAR + rb"+ [^\x00-\x20\x7f]*|"
@@ -257,7 +258,7 @@ def is_text(target):
 
 
 def fields_behind(window, at):
-    """The headers from there on, and the place behind the empty line; or what else is there."""
+    """The headers from `at` on, and the place after the empty line. Instead of the headers: CUT, BAD or LARGE."""
     headers = []
     while not (empty := EMPTY.match(window, at)):
         found = FIELD.match(window, at)
@@ -271,7 +272,7 @@ def fields_behind(window, at):
 
 
 def head_at(data, at):
-    """The head that begins there, or CUT, BAD or LARGE."""
+    """The head that begins at `at`, or CUT, BAD or LARGE."""
     window = data[at : at + HEAD]
     place = 0
     while empty := EMPTY.match(window, place):
@@ -289,7 +290,7 @@ def head_at(data, at):
 
 
 def body_length(head):
-    """How long the body is, or the refusal."""
+    """The length of the body, or the refusal."""
     lengths = head.values(b"content-length")
     is_chunked = bool(head.values(b"transfer-encoding"))
     if len(lengths) > 1 or (lengths and (is_chunked or not re.fullmatch(rb"[0-9]{1,20}", lengths[0]))):
@@ -304,11 +305,11 @@ def body_length(head):
 
 
 class Reading:
-    """What is to be written for these bytes: for each request an answer and whether the connection closes, and then the exit status of
-    `nsd pipe` (3 where the input ends inside a request)."""
+    """The expected output for these bytes: for each request an answer and whether the connection closes, and then the exit
+    status of `nsd pipe` (3 if the input ends inside a request)."""
 
     def __init__(self, data, known=None):
-        """`known` says what a request is answered whose answer is known, with its state; else None."""
+        """`known` returns the answer to a request whose answer is known, state included, and otherwise None."""
         self.answers, self.requests, self.statuses = [], [], [0]
         self.known = known
         at = 0
@@ -325,7 +326,7 @@ class Reading:
         return None
 
     def request(self, data, at):
-        """The place behind the request that begins there, or None where nothing more is read."""
+        """The place after the request that begins at `at`, or None if nothing more is read."""
         head = head_at(data, at)
         if not isinstance(head, Head):
             return self.cut() if head == CUT else self.refused(BAD_HEAD if head == BAD else TOO_LARGE)
@@ -371,7 +372,7 @@ def replies_of(data):
 
 
 def members_of(body):
-    """None: it is no JSON object."""
+    """The members of the body. None: it is no JSON object."""
     try:
         value = json.loads(body)
     except ValueError:

@@ -2,10 +2,10 @@
 
     python3 bench/burst.py                 2,000 and 10,000 jobs of one allocation, with one worker
     python3 bench/burst.py 5000            another number of them: thousands, each in a namespace and a pool of its own
-    python3 bench/burst.py --workers 4     with so many workers
+    python3 bench/burst.py --workers 4     with this many workers
 
-All are registered over one connection, one request after the other without waiting for replies. Then it is asked every tenth of a
-second what the nodes use, until all jobs are placed.
+All are registered over one connection, one request after the other without waiting for replies. Then the use of the nodes is
+read every tenth of a second, until all jobs are placed.
 """
 
 import json
@@ -38,7 +38,7 @@ class Connection:
         return self.replies.read(length)
 
     def ask(self, requests):
-        """Sends the requests at once while it takes the replies, and answers these."""
+        """Sends the requests at once while it takes the replies, and returns the replies."""
         writer = threading.Thread(target=self.socket.sendall, args=(b"".join(requests),))
         writer.start()
         replies = [self.reply() for _ in requests]

@@ -3,9 +3,9 @@
     python3 bench/closing.py [CLIENTS]   1,000 clients without a number
 
 Each client sends a head that is refused with 413, since it announces 2 MiB, and sends the 2 MiB before it reads. A server that
-closes its socket with those bytes unread resets the connection, and the reply is lost. Then four clients open connections and send
-nothing: with `--idle 1` the next request is answered, and without it is not within four seconds. The exit status is 1 where a reply
-is lost, a request is not answered with `--idle 1`, or one is answered without.
+closes its socket with those bytes unread resets the connection, and the reply is lost. Then four clients open connections and
+send nothing: with `--idle 1` the next request is answered, and without it is not within four seconds. The exit status is 1 if a
+reply is lost, if the request is not answered with `--idle 1`, or if it is answered without.
 """
 
 import socket
@@ -45,7 +45,7 @@ def is_refused(server):
 
 
 def is_answered(server):
-    """Whether a request is answered beside clients that are silent."""
+    """Whether a request is answered while other clients are connected and send nothing."""
     silent = [connected(server) for _ in range(SILENT)]
     try:
         with connected(server) as client:

@@ -1,18 +1,18 @@
 """Writes the conversations in the stored input and output of `crates/plays` from the exchanges in `bench/conversations/*.txt`.
 
-A conversation begins by `=== SECRET STEP NAME`: the bootstrap secret, by how much each draw is greater than the one
+A conversation begins with `=== SECRET STEP NAME`: the bootstrap secret, by how much each draw is greater than the one
 before, and what the conversation shows. Then come its exchanges:
 
     > METHOD TARGET [TOKEN] [HTTP/1.0]  a request, with its body, if it has one, on the next line
     + HEADER: VALUE                     headers of its own, which it then has in place of `Content-Length: 0`; `+` alone: none. One
                                         that is a `Content-Length` stands in place of the one that is counted, too
     < STATUS [@INDEX] [close]           the reply, with its body on the next line
-    < STATUS @INDEX lines               the same with a line feed behind each line of its body
+    < STATUS @INDEX lines               the same with a line feed after each line of its body
     & read fault                        at the end: a line feed follows the last request, and no other one
 
 Where `spaces N` stands before NAME, N spaces follow the last request and belong to its body. They are not stored.
-`((TEXT N times))` in a header or a body, of a reply too, stands for the text so often, one behind the other; where it is all of a header, for so many
-headers.
+`((TEXT N times))` in a header or a body, also of a reply, stands for the text N times, one after another. If it is the
+whole header, it stands for N headers.
 
 Replies are written down by hand, from docs/API.md, and never taken from the program. Lengths are counted here.
 """
@@ -75,7 +75,7 @@ def reply(words, body):
 
 
 def blocks(text, mark):
-    """The blocks that begin by a line with this mark: the rest of that line, and the lines behind it."""
+    """The blocks that begin with a line with this mark: the rest of that line, and the lines after it."""
     for block in ("\n" + text).split("\n" + mark + " ")[1:]:
         head, *lines = block.split("\n")
         yield head, lines
@@ -94,7 +94,7 @@ def exchange(head, lines):
 
 
 def conversations(paths):
-    """Of each conversation its first line, what is sent, what is answered, and whether it ends inside a request."""
+    """For each conversation: its first line, its exchanges, and whether it ends inside a request."""
     for path in paths:
         with open(path, encoding="utf-8") as file:
             text = file.read()
@@ -104,7 +104,7 @@ def conversations(paths):
 
 
 def spaces_of(name):
-    """How many spaces follow the last request."""
+    """How many spaces follow the last request, from the name."""
     words = name.split(" ")
     return int(words[3]) if words[2] == "spaces" else 0
 

@@ -2,7 +2,7 @@
 
     python3 bench/day.py [PROGRAM]   crates/nsd/out/nsd if none is given
 
-What differs is printed, and the exit status is then 1.
+Differences are printed, and the exit status is then 1.
 """
 
 import difflib
@@ -18,7 +18,7 @@ from conversations import TOP
 
 
 def printed(program, folder):
-    """What the day prints, and its exit status."""
+    """What the script of the day prints, and its exit status."""
     path = os.path.join(folder, "day.log")
     with open(path, "wb") as log:
         words = [program, "serve", "--listen", "127.0.0.1:0", "--bootstrap", "root", "--rotate", "1"]

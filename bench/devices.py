@@ -6,13 +6,14 @@
 - Every prefix of the stored run's input (`crates/nsd/stdin`) is served by `pipe`, with the replies and with the log, and by `serve` over a
   socket; every prefix of a log is replayed by `alone`.
 - Readers: a directory, a connection that is reset inside a request, an input that ends inside a request.
-- Writers: a pipe whose reader is gone, `/dev/full`, and a file that takes only so many bytes, for each number of bytes that are to be
-  written; of `pipe` with the replies and with the log, of `alone`, of `serve`'s log and of the help. Standard error that is full.
+- Writers: a pipe whose reader is gone, `/dev/full`, and a file that takes only N bytes, for each N up to the bytes to be
+  written. They are given to `pipe` for the replies and the log, to `alone`, to `serve` for its log, and for the help. Standard
+  error that is full.
 - `serve` at a port that is taken, and without a file descriptor for one more connection.
 
-What has to come is said by docs/API.md: status 3 with `read fault`, status 4 with `write fault`, and up to there exactly the bytes that
-come without a fault. The stored output and `bench/logs.py` have these; none are taken from the program. The last line has the number of
-runs and `ok`, or what was wrong; the exit status is 1 there.
+docs/API.md says what has to come: status 3 with `read fault`, status 4 with `write fault`, and before that exactly the bytes
+that come without a fault. The stored output and `bench/logs.py` have these; none are taken from the program. The last line has
+the number of runs and `ok`, or what was wrong; then the exit status is 1.
 """
 
 import argparse
@@ -70,7 +71,7 @@ class Program:
         self.path, self.runs = path, 0
 
     def run(self, words, data=b"", **more):
-        """Status, standard output where it is taken, and standard error."""
+        """Runs the program. Returns the status, standard output unless it goes elsewhere, and standard error."""
         self.runs += 1
         given = {"stdin": more.pop("stdin")} if "stdin" in more else {"input": data}
         more.setdefault("stdout", subprocess.PIPE)
@@ -86,7 +87,8 @@ class Program:
 
 
 def of_prefix(length):
-    """Status, how many requests are whole, and what stands on standard error."""
+    """What a run over the first `length` bytes of the input has to give: the status, the number of whole requests, and standard
+    error."""
     whole = (length >= FIRST) + (length >= len(INPUT))
     is_between = length in (0, FIRST, len(INPUT))
     return (0, whole, b"") if is_between else (3, whole, READ_FAULT)
@@ -102,7 +104,7 @@ def prefixes_of_pipe(program):
 
 
 def of_log_prefix(length):
-    """What is printed of so many bytes of the log, and the status."""
+    """What a replay of the first `length` bytes of the log has to give: the status, and what is printed."""
     given = REPLAYED[:length]
     lines = given.count(b"\n")
     if lines == 0 or not given.endswith(b"\n"):
@@ -134,7 +136,7 @@ def failing_readers(program):
 
 
 def reset_behind(data):
-    """A socket that gives these bytes, or some of them, and then fails."""
+    """A socket that gives these bytes, or a first part of them, and then fails."""
     with socket.create_server(("127.0.0.1", 0)) as listener:
         client = socket.create_connection(listener.getsockname())
         server, _ = listener.accept()
@@ -184,7 +186,8 @@ def narrow(room):
 
 
 def written_to_a_file(program, words, data, room):
-    """Status, what stands in a file with room for so many bytes, and standard error."""
+    """Runs the program with a file for standard output that takes `room` bytes. Returns the status, the content of the file,
+    and standard error."""
     with tempfile.TemporaryFile() as file:
         status, _, errors = program.run(words, data, stdout=file, preexec_fn=narrow(room))
         file.seek(0)
@@ -219,7 +222,7 @@ class Server:
         return socket.create_connection(("127.0.0.1", self.port), timeout=60)
 
     def ask(self, data):
-        """What comes back until the server closes. The client says that it sends no more."""
+        """Sends the data, says that no more comes, and returns all that the server sends until it closes."""
         with self.opened() as connection:
             connection.sendall(data)
             connection.shutdown(socket.SHUT_WR)
@@ -235,7 +238,8 @@ class Server:
 
 
 def prefixes_of_serve(program):
-    """Each is a connection; a registration is the same each time but for its numbers, and so is the reading."""
+    """Sends each prefix of the input over a connection of its own. All registrations are alike except for their numbers, and so
+    are the reads."""
     server = Server(program, ["--accept", str(len(INPUT) + 1)], subprocess.PIPE)
     statuses = []
     for length in range(len(INPUT) + 1):
@@ -281,7 +285,8 @@ def taken_ports(program):
 
 
 def no_descriptor(program):
-    """The server may open no more files. Where it waits for a connection already, the system has set a descriptor aside for that one."""
+    """Runs the server with no file descriptor left. If it waits for a connection already, the system has reserved a descriptor
+    for that one."""
     server = Server(program, ["--connections", "1"], subprocess.PIPE)
     number = server.process.pid
     most = len(os.listdir(f"/proc/{number}/fd"))

@@ -1,4 +1,4 @@
-"""What the server says of a document and of a text of rules before it looks at its state, by docs/API.md and docs/DECISIONS.md.
+"""What the server says of a document and of a text of rules before it reads its state, by docs/API.md and docs/DECISIONS.md.
 
 This is a second reading of those pages, in Python, for the scripts that send hostile input. It shares nothing with the program.
 """
@@ -20,14 +20,14 @@ class BadJson(Exception):
 
 
 class BadField(Exception):
-    """Its text is the member's name."""
+    """A member with a bad value. The text is the name of the member."""
 
 
 # ---- JSON
 
 
 def depth_of(text):
-    """How deep arrays and objects nest. In a text that is no JSON the number means nothing."""
+    """How deep arrays and objects nest. If the text is no JSON, the number means nothing."""
     depth = most = 0
     bare = re.sub(r'"(?:[^"\\]|\\.)*"', "", text, flags=re.DOTALL)
     for mark in re.findall(r"[\[\]{}]", bare):
@@ -37,7 +37,7 @@ def depth_of(text):
 
 
 def whole_number(text):
-    """A float stands for what is a number but not a whole one within 64 bits."""
+    """The number. A number that is not a whole one within 64 bits is a float."""
     number = int(text) if len(text) < 400 else float("inf")
     if text == "-0" or not -(2**63) <= number < 2**64:
         return real_number(text)
@@ -56,7 +56,7 @@ def no_constant(_):
 
 
 def members_of(pairs):
-    """Of a member that is given twice the last one counts, but the first one too has to be text."""
+    """The members as a dict. The last value of a member that is given twice counts, but the earlier one has to be text, too."""
     json.dumps(pairs, ensure_ascii=False).encode()
     return dict(pairs)
 
@@ -96,7 +96,7 @@ REQUIRED = object()
 
 
 def member(document, name, kind, default=REQUIRED, accepts=lambda value: True):
-    """The member, of that kind and accepted, or the default where it is absent."""
+    """The member, which has to be of this kind and accepted, or the default if it is absent."""
     value = document.get(name)
     if value is None:
         if default is REQUIRED:
@@ -132,7 +132,8 @@ def name_or_empty(document, name, is_name):
 
 
 def each_object(document, name, least, most, read):
-    """Reads a list of so many objects, one after the other. What is no object is a mistake in its turn."""
+    """Reads the objects of a list in turn, of which there have to be `least` to `most`. An entry that is no object is a mistake
+    when its turn comes."""
     for entry in member(document, name, list, [], lambda value: least <= len(value) <= most) or missing(name, least):
         if not isinstance(entry, dict):
             raise BadField(name)
@@ -140,14 +141,14 @@ def each_object(document, name, least, most, read):
 
 
 def missing(name, least):
-    """An empty list, where it may be empty."""
+    """The list of a member that is absent: empty, if it may be empty."""
     if least > 0:
         raise BadField(name)
     return []
 
 
 def names(document, name, most, is_name):
-    """A list of names, none twice, or none where it is absent."""
+    """The list of names, none of them twice. None: the member is absent."""
     entries = member(document, name, list, None, lambda value: len(value) <= most)
     if entries is None:
         return None
@@ -157,7 +158,7 @@ def names(document, name, most, is_name):
 
 
 def distinct(seen):
-    """Accepts each name once."""
+    """Returns a function that accepts each name once."""
 
     def accepts(name):
         is_new = IDENT.fullmatch(name) is not None and name not in seen
@@ -228,7 +229,7 @@ def registration(document, _):
 
 
 def own_name(document, path_name, is_name):
-    """With a name in the path it is absent or the same."""
+    """Reads the member `Name`. If the path has a name, it has to be absent or the same."""
     if path_name is None:
         member(document, "Name", str, accepts=is_name)
     else:
@@ -285,7 +286,7 @@ def eligibility(document, _):
 
 
 def uuid_number(value):
-    """None: it is no UUID."""
+    """The number of the UUID. None: it is no UUID."""
     if UUID.fullmatch(value) is None:
         return None
     return int(re.sub(r"urn:uuid:|[{}-]", "", value), 16)
@@ -335,7 +336,8 @@ class NoRules(Exception):
 
 
 class Unsure(Exception):
-    """The page leaves it open: a word that begins with `true` or `false` where a value is expected may be two parts."""
+    """The page leaves it open whether the text is valid: a word that begins with `true` or `false`, in place of a value, may be
+    two parts."""
 
 
 def are_capabilities(kind, entries):
@@ -345,7 +347,7 @@ def are_capabilities(kind, entries):
 
 
 def is_rule(kind, pattern, given_policy, capabilities):
-    """Each of the last two is None where it is absent."""
+    """Whether the rule is valid. The policy and the capabilities are None if they are absent."""
     is_policy = given_policy is None or (isinstance(given_policy, str) and given_policy in POLICIES[kind])
     has_capabilities = capabilities is None or are_capabilities(kind, capabilities)
     return PATTERNS[kind].fullmatch(pattern) is not None and is_policy and has_capabilities
@@ -381,7 +383,7 @@ def parts_of(text_of_rules):
 
 
 def value_behind(parts, at):
-    """A value, and the place behind it. Lists are read without recursion; in a list of lists the inner ones are lists of any."""
+    """A value, and the place after it. Lists are read without recursion, and the values in an inner list may be of any kind."""
     kind, part = parts[at]
     if kind in ("string", "digits"):
         return (part if kind == "string" else 0), at + 1
@@ -395,7 +397,7 @@ def value_behind(parts, at):
 
 
 def list_behind(parts, at):
-    """The list whose bracket was read."""
+    """The list whose opening bracket was read, and the place after it."""
     open_lists = [[]]
     is_due = True
     while open_lists:
@@ -430,7 +432,7 @@ class Block:
             self.found[word] = value
 
     def is_right(self):
-        """Judged as a block at the top."""
+        """Whether the block is valid as a block at the top."""
         if self.word not in PATTERNS:
             return True
         if self.is_broken or len(self.labels) != 1:
@@ -441,7 +443,7 @@ class Block:
 
 
 def block_behind(parts, at, word):
-    """The block whose word was read, up to its brace."""
+    """The block whose word was read, up to its opening brace, and the place after that."""
     labels = []
     while parts[at][0] == "string":
         labels.append(parts[at][1])
@@ -487,7 +489,8 @@ def are_rules(text_of_rules):
 
 
 def faults_of(read, body, path_name):
-    """The texts of which one is the refusal of a document. None among them: it need not be refused."""
+    """The texts that may refuse a document: the refusal has to be one of them. None among them: the document may be
+    accepted."""
     try:
         read(parsed_object(body), path_name)
     except BadJson:

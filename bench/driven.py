@@ -1,4 +1,4 @@
-"""Times what a driven worker places, over one connection of `./nsd pipe --drive`.
+"""Times how a driven worker places jobs, over one connection of `./nsd pipe --drive`.
 
     python3 bench/driven.py place              100 jobs of 1,000 allocations over 1,000 nodes
     python3 bench/driven.py preempt            8 jobs that fill 1,000 nodes, and 2 that take half of that
@@ -8,9 +8,9 @@
     python3 bench/driven.py place 10           another number of jobs
     python3 bench/driven.py place 10 --show    prints the requests, and runs nothing
 
-The nodes are registered first, which is not timed. Then the jobs are sent, and one request behind them, whose reply comes once
-the last job was driven. What was placed is counted from what the nodes use and from the allocations that were evicted, and has
-to be what the input asks for; else the exit status is 1.
+The nodes are registered first, which is not timed. Then the jobs are sent, and one request after them, whose reply comes once
+the last job was driven. The placed allocations are counted from what the nodes use and from the allocations that were evicted.
+If they are not what the input asks for, the exit status is 1.
 """
 
 import json
@@ -34,18 +34,18 @@ def request(method, path, document=None):
 
 
 def room(places):
-    """What a node offers that has room for so many allocations of one size, whose groups say nothing of their disk."""
+    """What a node offers that has room for this many allocations of one size, whose groups give no disk."""
     return {"CPU": places * MHZ, "MemoryMB": places * MHZ, "DiskMB": places * DISK}
 
 
 def nodes(places, pool="default"):
-    """Each has room for so many allocations of one size, and for one at least."""
+    """The requests that register the nodes. Each has room for this many allocations of one size, and for at least one."""
     offer = room(max(places, 1))
     return [request("PUT", f"/v1/node/pool/{pool}/node/n{node}", offer) for node in range(NODES)]
 
 
 def jobs(name, number, priority, sizes, namespace="default", count=COUNT):
-    """Each has so many allocations, which take as much as so many of one size."""
+    """The requests that register the jobs. Each has `count` allocations, which each take as much as `sizes` of one size."""
     task = {"Name": "t", "Resources": {"CPU": sizes * MHZ, "MemoryMB": sizes * MHZ}}
     group = {"Name": "g", "Count": count, "Tasks": [task]}
     ids = (f"{name}-{job}" for job in range(number))
@@ -72,7 +72,7 @@ class Server:
         self.program.stdin.flush()
 
     def ask(self, requests):
-        """Sends the requests at once while it takes the replies, and answers the last reply."""
+        """Sends the requests at once while it takes the replies, and returns the last reply."""
         writer = threading.Thread(target=self.write, args=(requests,))
         writer.start()
         replies = [self.reply() for _ in requests]
@@ -84,13 +84,13 @@ class Server:
         return sum(node["Used"]["CPU"] for node in listed)
 
     def timed(self, requests):
-        """The seconds until all of it was driven, and a list that is short, of quotas, was read behind it."""
+        """The seconds until all requests were driven and the list of quotas, a short one, was read after them."""
         start = time.perf_counter()
         self.ask(requests + [request("GET", "/v1/quotas")])
         return time.perf_counter() - start
 
     def count(self, name, number, desired):
-        """How many allocations of these jobs have that desired status."""
+        """How many allocations of these jobs have this desired status."""
         paths = (f"/v1/job/{name}-{job}/allocations" for job in range(number))
         rows = (row for path in paths for row in self.ask([request("GET", path)]))
         return sum(row["DesiredStatus"] == desired for row in rows)
@@ -105,7 +105,7 @@ def told(what, number, seconds):
 
 
 def places_in(number):
-    """As many on each node as fill them all."""
+    """How many allocations each node has room for, so that the jobs fill all nodes."""
     return -(-number * COUNT // NODES)
 
 
@@ -140,7 +140,8 @@ def tenants():
 
 
 def beside(server, number):
-    """Jobs of one namespace, on one node, beside so many allocations of the other. It answers whether all were placed."""
+    """Times jobs of one namespace, on one node, beside `number` thousand allocations of the other. Returns whether all were
+    placed."""
     few = 500
     server.ask(tenants())
     server.ask(nodes(places_in(number), "other"))
@@ -154,7 +155,7 @@ def beside(server, number):
 
 
 def block_others(server, number):
-    """So many thousand evaluations of other namespaces are blocked, in another pool than `own`."""
+    """Blocks `number` thousand evaluations of other namespaces, in another pool than `own`."""
     for other in range(number):
         configuration = {"Default": "other", "Allowed": ["other"]}
         namespace = {"Name": f"wait-{other}", "NodePoolConfiguration": configuration}
@@ -172,8 +173,9 @@ def stop(job):
 
 
 def blocked(server, number):
-    """Jobs of one namespace, on one node, beside so many thousand blocked ones of others, which wait in another pool. Each stop
-    gives room in the pool of the first. It answers whether all were placed, and stopped, and the others were blocked all along."""
+    """Times jobs of one namespace, on one node, beside `number` thousand blocked evaluations of others, which wait in another
+    pool. Each stop makes room in the pool of the first. Returns whether all were placed and stopped, and the others stayed
+    blocked."""
     few = 500
     server.ask(tenants())
     server.ask([request("PUT", "/v1/node/pool/own/node/n", room(few))])
@@ -187,8 +189,9 @@ def blocked(server, number):
 
 
 def waking(server, number):
-    """Jobs of one namespace, on a node that has room for one. Each but the first is blocked until the one before is stopped, which
-    wakes it, beside so many thousand blocked ones of others. It answers whether the last is placed, and the others are blocked."""
+    """Times jobs of one namespace, on a node with room for one. Each but the first is blocked until the one before is stopped,
+    which wakes it, beside `number` thousand blocked evaluations of others. Returns whether the last is placed and the others
+    are blocked."""
     few = 500
     server.ask(tenants())
     server.ask([request("PUT", "/v1/node/pool/own/node/n", room(1))])

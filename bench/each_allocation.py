@@ -5,9 +5,8 @@
 
 The program is the one that `rt run` built (crates/plays/out/plays). Each script is run alone: first with ample memory, then with the
 first allocation refused, the second, and so on. A run has to write what it writes with ample memory, or end for want of memory
-itself, with a status that is not 0 and the beginning of what it writes with ample memory. Whatever else it does is printed, and the
-exit status is 1. The other parts are left out, since they show what the server says where memory is wanting. It needs a C compiler,
-`cc`.
+itself, with a status that is not 0 and a beginning of what it writes with ample memory. Any other run is printed, and the exit
+status is 1. The other parts are left out, since they show what the server says for want of memory. It needs a C compiler, `cc`.
 """
 
 import sys
@@ -25,7 +24,7 @@ class Program:
         self.refusing = Refusing(folder)
 
     def run(self, text, refused=0):
-        """The status and the output with that allocation refused, none where it is 0."""
+        """The status and the output with this allocation refused. 0: none is refused."""
         status, output, _ = self.refusing.run([self.path], text, refused)
         return status, output
 
@@ -34,7 +33,8 @@ class Program:
 
 
 def try_part(program, part, most):
-    """How many runs answered as with ample memory, gave up for memory, and did neither."""
+    """Refuses each allocation of the part in turn, and prints how many runs answered as with ample memory, gave up for memory,
+    and did neither. Returns the last of these numbers."""
     name, text = part.split("\n", 1)[0], (MARK + part).removeprefix("\n").encode()
     status, ample = program.run(text)
     assert status == 0, f"{name} ends with status {status} with ample memory"

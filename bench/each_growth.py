@@ -1,28 +1,31 @@
-"""Refuses each growth in turn to the worked rows, to connections, logs, replays, and to a server with its threads.
+"""Refuses each allocation in turn to the scripts of the worked rows, to connections, logs, replays, and to a server with its
+threads.
 
     python3 bench/each_growth.py                    all five parts
-    python3 bench/each_growth.py states server      these parts alone
+    python3 bench/each_growth.py states server      only these parts
 
-N is counted upwards from 1 until a run meets no refusal, and in each run the Nth allocation is refused. The programs are those that
-`rt run` built (crates/plays/out/plays, crates/nsd/out/nsd). What a run may answer is computed from runs with ample memory. Whatever
-else it answers is printed, and the exit status is 1. It needs a C compiler, `cc`.
+N is counted upwards from 1 until a run meets no refusal, and in each run the Nth allocation is refused. The programs are those
+that `rt run` built (crates/plays/out/plays, crates/nsd/out/nsd). What a run may print is computed from runs with ample memory.
+Any other run is reported, and the exit status is 1. It needs a C compiler, `cc`.
 
-- states: the scripts of the worked rows. Before each call the core is copied, and where the call is refused the copy and the core
-  have to show the same (allocations of copying and comparing are not refused): by reads of every list, job, node pool and quota, by
-  what is served next, by how far each worker is, and by the snapshots that they keep. The same call is then made again, a plan too.
-  The run has to write what it writes with ample memory, or to end since the script's own program found no memory. Beside it, the
-  calls of a core that take no memory are made once and 500 times, which has to take equally many allocations.
-- connections: the requests of those rows over one connection of `nsd pipe`. At most one of them is answered the fixed 503, and the
-  replies to all others are those to the same requests without that one. Or the program ends with status 5 before the first reply.
+- states: the scripts of the worked rows. Before each call the core is copied. If the call is refused, the copy and the core
+  have to show the same (allocations of copying and comparing are not refused): in reads of every list, job, node pool and
+  quota, in the next evaluation, in the phase of each worker, and in the snapshots that the workers keep. Then the same call is
+  made again, a plan too. The run has to write what it writes with ample memory, or to end since the script's own program found
+  no memory. Besides, the calls of a core that take no memory are made once and 500 times, which has to take equally many
+  allocations.
+- connections: the requests of those rows over one connection of `nsd pipe`. At most one of them gets the fixed 503, and the
+  replies to all others are those to the same requests without that one. Or the program ends with status 5 before the first
+  reply.
 - logs: the same with `--print log`. The log is that of all requests, or of all but one, or the status is 5 and nothing is written.
 - replays: a log, replayed by `nsd alone`. It prints what it prints with ample memory, or the status is 5 and what is printed is the
   beginning of that.
-- server: `nsd serve` with one connection, one worker and the applier, each a thread, of which each has its own Nth allocation
-  refused. A client registers a node and two jobs, and waits until each job runs. A request that is answered 503 is sent again, and
-  has to be answered then. Both jobs have to run in time, so the worker and the applier have gone on; the allocations are shown as
-  with ample memory; the last line of standard error is `settled K`, of as many entries as the log has that is printed, of which each
-  registration is one; and `nsd alone` says `same` of it. Or the server ends with status 5, at its beginning or where it settles and
-  prints.
+- server: `nsd serve` with one connection, one worker and the applier, each a thread. In turn each thread has its own Nth
+  allocation refused. A client registers a node and two jobs, and waits until each job runs. A request that gets 503 is sent
+  again, and has to be served then. Both jobs have to run in time, so the worker and the applier have gone on. The allocations
+  are shown as with ample memory. The last line of standard error is `settled K`, where K is the number of entries of the
+  printed log; each registration is one of them. `nsd alone` reads the log. Or the server ends with status 5, at its
+  start or when it settles and prints.
 """
 
 import json
@@ -75,7 +78,7 @@ def lines_of(text, words):
 
 
 def watched(text):
-    """The targets that show what the script has to do with."""
+    """The targets of reads that show all that the script deals with."""
     names = sorted({"default", *re.findall(r"/v1/namespace/([\w-]+)", text), *re.findall(r"namespace=([\w-]+)", text)})
     pools = sorted({"default", *re.findall(r"/v1/node/pool/([\w-]+)", text)})
     quotas = sorted(set(re.findall(r"/v1/quota/([\w-]+) ", text)))
@@ -112,7 +115,7 @@ class Tally:
 
 
 def until_ample(refusing, words, text):
-    """Each run with its number, up to the first one that meets no refusal, which is left out."""
+    """Each run with its number, up to the first run without a refusal, which is left out."""
     number = 1
     while True:
         run = refusing.run(words, text, number)
@@ -142,7 +145,7 @@ def states(refusing):
 
 
 def looks(refusing):
-    """Whether the calls that take no memory take equally many allocations once and 500 times."""
+    """Whether the calls that take no memory fail to take equally many allocations once and 500 times."""
     text = rows()["two_workers_one_node"]
     counts = []
     for times in (1, 500):
@@ -172,7 +175,7 @@ def requests_of(text):
 
 
 def replies_in(output):
-    """The replies, cut apart by their lengths."""
+    """The replies, split by their lengths."""
     replies = []
     while output:
         head, found, rest = output.partition(b"\r\n\r\n")
@@ -183,7 +186,7 @@ def replies_in(output):
 
 
 def without_each(refusing, words, asked):
-    """What is written of all requests but the one at each place, and the status."""
+    """For each request: the output and the status of a run of all requests but that one."""
     return [refusing.run(words, b"".join(asked[:at] + asked[at + 1 :]))[:2] for at in range(len(asked))]
 
 
@@ -296,7 +299,7 @@ class Client:
         return self.reply()
 
     def ask(self, method, target, body=""):
-        """The body of the reply; where the server had no memory, of the reply to the request that is made once more."""
+        """The body of the reply. If the server has no memory, the request is sent once more."""
         status, got = self.once(method, target, body)
         if status == 503:
             assert got == b"out of memory", got
@@ -318,15 +321,15 @@ def place(client, job):
 
 
 def placed(body):
-    """Each allocation without its indexes and its evaluation: they tell whether the second job came before the first one's evaluation had
-    ended, which is nobody's fault."""
+    """Each allocation without its indexes and its evaluation. Those depend on whether the second job came before the end of the
+    first one's evaluation, which is no fault."""
     members = "JobID", "NodeName", "NodePool", "DesiredStatus", "ClientStatus", "Resources", "TaskGroup"
     return [[row[member] for member in members] for row in json.loads(body)]
 
 
 def visit(port):
-    """What the allocations are in the end, and how many requests were refused for memory. Where the server closes a connection before
-    anything was answered, the next one is taken."""
+    """The allocations in the end, and how many requests were refused for memory. If the server closes a connection before any
+    reply, a second connection is opened."""
     client = Client(port)
     try:
         client.ask(*NODE)
@@ -373,7 +376,7 @@ class Served:
         close_rest(port)
 
     def fault(self, ample):
-        """What is wrong with it, or nothing."""
+        """What is wrong with the run, or None."""
         if self.errors[-1] == b"out of memory\n":
             return None if self.status == OUT_OF_MEMORY and self.shown in (None, ample) else f"status {self.status}, {self.errors}"
         if self.status != 0 or self.shown != ample:
@@ -400,7 +403,7 @@ class Served:
         return f"settled, {self.refused} requests refused, {given_back} evaluations given back"
 
 
-# By the order in which they are made. The first one also opens the server, and settles and prints at the end.
+# The threads in the order in which they are made. The first one also opens the server, and settles and prints at the end.
 THREADS = ("the applier", "the connection", "the worker")
 MISSES = 3
 
@@ -414,7 +417,8 @@ def server(refusing):
 
 
 def thread_of(refusing, thread, shown):
-    """Threads don't allocate equally often in each run, so the last one is followed by more that meet no refusal."""
+    """Refuses each allocation of the thread in turn. Threads do not allocate equally often in each run, so it ends after
+    several runs in a row without a refusal."""
     tally, number, misses = Tally(), 1, 0
     while misses < MISSES:
         served = Served(refusing, number, thread)

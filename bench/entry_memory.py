@@ -2,10 +2,10 @@
 
     python3 bench/entry_memory.py [PROGRAM [READS]]
 
-PROGRAM is the built program, crates/nsd/out/nsd if none is given. The server is sent so many reads (260,000 if no number is given), 200
-at a time, and each is answered whole before more are sent. What is printed is by how much its resident memory grew, for each read. The
-lists of entries and receipts grow by doubling, so a number just below a power of two shows the least. The exit status is 0 where each
-reply is the first one again.
+PROGRAM is the built program, crates/nsd/out/nsd if none is given. The server is sent READS reads (260,000 if no number is
+given), 200 at a time, and all of them are answered before more are sent. The growth of its resident memory for each read is
+printed. The lists of entries and receipts grow by doubling, so a number just below a power of two shows the least. The exit
+status is 0 if all replies are equal.
 """
 
 import pathlib
@@ -25,7 +25,7 @@ AT_ONCE = 200
 
 
 def resident(number):
-    """The bytes that the process with that number has resident."""
+    """The resident memory, in bytes, of the process with this number."""
     status = pathlib.Path(f"/proc/{number}/status").read_text(encoding="ascii")
     return int(re.search(r"^VmRSS:\s+(\d+) kB", status, re.M)[1]) * 1024
 

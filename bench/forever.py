@@ -1,12 +1,12 @@
-"""Prints what `./nsd serve --rotate 10000` keeps resident while it goes on and on.
+"""Prints how much memory `./nsd serve --rotate 10000` keeps resident while it runs on.
 
     python3 bench/forever.py           10 million reads of one job, and then 1 million registrations of one job
     python3 bench/forever.py 2 0.5     other numbers, in millions
 
-One line after each million reads, and after each tenth of a million registrations. The requests go over one connection, 1,000 at a
-time, and are held back where the log that was read is 20,000 entries behind. A registration keeps an evaluation, so those make the
-server grow, by bytes that are printed. Where the reads after the first million do, by more than the allocator's noise of 16 MB, the
-exit status is 1.
+One line after each million reads, and after each tenth of a million registrations. The requests go over one connection, 1,000
+at a time, and wait while the log that was read is 20,000 entries behind. A registration keeps an evaluation, so registrations
+make the server grow, by the bytes that are printed. If the reads after the first million make it grow, by more than the
+allocator's noise of 16 MB, the exit status is 1.
 """
 
 import subprocess
@@ -35,7 +35,7 @@ class Log:
             self.lines += taken.count(b"\n")
 
     def hold(self, entries):
-        """Waits until the log is not far behind so many entries."""
+        """Waits until the log is at most `BEHIND` entries behind this number of entries."""
         while self.lines < entries - BEHIND:
             time.sleep(0.001)
 

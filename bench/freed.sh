@@ -1,6 +1,6 @@
 #!/usr/bin/env bash
 # Runs the stored lines of `plays`, as `rt ci` built that program, under valgrind, and prints how often it allocated and freed. Ends
-# with status 1 where it kept a block to its end, did what valgrind counts as an error, or wrote another output than the stored one.
+# with status 1 if it did not free a block, did what valgrind counts as an error, or wrote another output than the stored one.
 set -euo pipefail
 script=${BASH_SOURCE[0]}
 [[ $script == */* ]] || script=./$script

@@ -12,8 +12,8 @@
     python3 bench/growth.py memory          what an allocation keeps resident, between 100,000 and 1,000,000 of them
     python3 bench/growth.py reads           300,000 pipelined reads of one job
 
-The others share no pool and no quota with it. Of three rounds of 300 jobs each the least time counts. What was placed is counted
-from what the nodes use, and has to be what the input asks for; else the exit status is 1.
+The others share no pool and no quota with it. Of three rounds of 300 jobs each the least time counts. The placed allocations
+are counted from what the nodes use. If they are not what the input asks for, the exit status is 1.
 """
 
 import os
@@ -34,7 +34,7 @@ LATE = 10_000
 
 
 def tenant(name, pool=None):
-    """A namespace, and the one pool that it may use: a pool of its own, or that one, which is there."""
+    """The requests that put a namespace and the one pool that it may use: a new pool of its own, or `pool`, which exists."""
     configuration = {"Default": pool or name, "Allowed": [pool or name]}
     namespace = request("PUT", "/v1/namespace", {"Name": name, "NodePoolConfiguration": configuration})
     return [namespace] if pool else [request("PUT", "/v1/node/pools", {"Name": name}), namespace]
@@ -45,7 +45,7 @@ def one_node(pool, places):
 
 
 def least(server, what, namespace, requests_of):
-    """The least time of a round, by its requests, in seconds."""
+    """The least time of a round, divided by its requests, in seconds."""
     times = []
     for turn in range(ROUNDS):
         requests = requests_of(turn, namespace)
@@ -92,7 +92,8 @@ def nodes_of_others():
 
 
 def namespaces():
-    """As many as there may be. All but two use the pool `default`, as the namespace `default` does."""
+    """Times as many namespaces as there may be. All but the first and the last use the pool `default`, as the namespace
+    `default` does."""
     is_right = True
     server = Server()
     names = [f"n{number:04}" for number in range(NAMESPACES - 1)]
@@ -110,7 +111,7 @@ def namespaces():
 
 
 def limited(name):
-    """A namespace with a pool of its own, and a quota of its own that it never reaches."""
+    """The requests that put a namespace with its own pool, and its own quota, which it never reaches."""
     limits = [{"Region": "global", "RegionLimit": {"CPU": 2**40, "MemoryMB": 2**40, "DiskMB": 2**40}}]
     configuration = {"Default": name, "Allowed": [name]}
     namespace = {"Name": name, "Quota": name, "NodePoolConfiguration": configuration}
@@ -123,7 +124,7 @@ def stops(turn, namespace):
 
 
 def crowd():
-    """Each other namespace has a blocked evaluation in the pool `default`."""
+    """Times jobs beside other namespaces, each with a blocked evaluation in the pool `default`."""
     is_right = True
     for others in (0, CROWD):
         server = Server()
@@ -140,7 +141,8 @@ def crowd():
 
 
 def history():
-    """The same document again and again: each registration makes an evaluation. Early and late, the least of rounds of 30 counts."""
+    """Times registrations of the same document, each of which makes an evaluation. Early and late, the least time of rounds of
+    30 counts."""
     is_right, some = True, 30
     registration = jobs("one", 1, 20, 1, "default", 1)
     for what, command in (("with --drive", COMMAND), ("without --drive", COMMAND[:-1])):
@@ -163,14 +165,15 @@ def history():
 
 
 def sharing(name, quota):
-    """A namespace under that quota, with a job in the pool `default`."""
+    """The requests that put a namespace under this quota, and a job of it in the pool `default`."""
     configuration = {"Default": "default", "Allowed": ["default"]}
     namespace = {"Name": name, "Quota": quota, "NodePoolConfiguration": configuration}
     return [request("PUT", "/v1/namespace", namespace)] + jobs("one", 1, 20, 1, name, 1)
 
 
 def totals():
-    """Each namespace under the quota has one allocation, and all of them are on one node."""
+    """Times reads of a quota and of a node. Each namespace under the quota has one allocation, and all of them are on one
+    node."""
     is_right = True
     for others in (0, CROWD):
         server = Server()
@@ -189,7 +192,7 @@ def totals():
 
 
 def names():
-    """Rows are sorted by name: each new one comes last in the first case, and first in the second."""
+    """Times puts of namespaces. Rows are sorted by name: each new one comes last in the first case, and first in the second."""
     for order, step in (("in the order of their names", 1), ("against it", -1)):
         server = Server()
         puts = [tenant(f"n{number:04}", "default")[0] for number in range(NAMESPACES - 1)][::step]
@@ -211,7 +214,7 @@ def small():
 
 
 def resident(server):
-    """In bytes."""
+    """The resident memory of the server, in bytes."""
     with open(f"/proc/{server.program.pid}/status", encoding="ascii") as status:
         line = next(it for it in status if it.startswith("VmRSS:"))
     return int(line.split()[1]) * 1024

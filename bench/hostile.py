@@ -1,20 +1,20 @@
-"""Sends mutated heads, documents, rules, targets and logs to `nsd pipe` and `nsd alone`, and judges what comes back.
+"""Sends mutated heads, documents, rules, targets and logs to `nsd pipe` and `nsd alone`, and checks the replies.
 
     python3 bench/hostile.py                        100,000 inputs, seed 1
-    python3 bench/hostile.py --seed 7 --count 5000  another seed, and so many
-    python3 bench/hostile.py --only head            one kind alone, as many as that run has of it
+    python3 bench/hostile.py --seed 7 --count 5000  another seed, and this many inputs
+    python3 bench/hostile.py --only head            only one kind, as many as that run has of it
     python3 bench/hostile.py --limit 600            seconds for a run of the program, in place of 60
     python3 bench/hostile.py --program PATH         another program than crates/nsd/out/nsd
 
 The same seed and count make the same inputs. Of each hundred 45 are documents, 25 rules, 20 targets, 6 heads and 4 logs. No run of the
 program may crash or take longer than the limit.
 
-Each request has to be answered once, by docs/API.md: `bench/answers.py` and `bench/documents.py` read its tables and rules a second time,
-and say which refusal comes before the state is looked at, and which ones the state may give. Before anything is sent, they are tried on
-the stored conversations, whose replies were written by hand. Behind each input stand two requests whose answers are known: a policy is
-read, and a job is registered once more in a namespace of its own, which counts up whatever was refused before. A policy's text that was
-put is read too. Of each fourth connection the log is printed as well, and `nsd alone` has to find it a run. A mutated log has to be
-refused at the first line that was changed, or replayed up to it as before.
+Each request has to be answered once, by docs/API.md: `bench/answers.py` and `bench/documents.py` read its tables and rules a
+second time, and say which refusal comes before the state is read, and which ones the state may give. Before anything is sent,
+they are tried on the stored conversations, whose replies were written by hand. Two requests whose answers are known follow each
+input: a policy is read, and a job is registered once more in its own namespace, where the numbers count up whatever was refused
+before. The text of a policy that was put is read, too. For each fourth connection the log is printed as well, and `nsd alone`
+has to find it a run. A mutated log has to be refused at the first changed line, or replayed up to it as before.
 
 The last line has the counts and `ok`, or the first input that failed, which is then stored under /tmp. The exit status is 1 there.
 """
@@ -70,13 +70,13 @@ SETUP = b"".join(sent(*one) for one in LAID_OUT)
 
 
 class Known:
-    """The answers that are known. With a driven worker each registration has its evaluation followed by one that is blocked, since the
-    pool has no node, so that indexes and numbers go up by two."""
+    """The answers that are known. With a driven worker a blocked evaluation follows the evaluation of each registration, since
+    the pool has no node, so indexes and numbers go up by two."""
 
     def __init__(self, is_driven):
         self.step = 2 if is_driven else 1
         self.registered = self.laid_out = 0
-        # By name: the document as it is shown, None where there is none, UNSURE where that is not known.
+        # By name: the document as it is shown, None if there is no policy, UNSURE if that is not known.
         self.policies = {}
 
     def __call__(self, request):
@@ -94,7 +94,8 @@ class Known:
 
 
     def of_a_policy(self, request):
-        """A policy is read as it was put last. Without a policy of that name it is not found."""
+        """The answer to a request about a policy: a read shows what was put last, and a policy that does not exist is not
+        found."""
         method, target, _, body = request
         pairs, answer = given("/v1/acl/policy/<policy>", target.partition("?")[0]), answer_to(*request)
         if not pairs or DONE not in answer.pairs:
@@ -118,7 +119,7 @@ UNSURE = "unsure"
 
 
 def shown(name, document):
-    """A policy as it is read."""
+    """The body of a read of the policy."""
     return mutations.compact({"Description": document.get("Description") or "", "Name": name, "Rules": document["Rules"]}).encode()
 
 
@@ -171,7 +172,7 @@ def judged(program, data, is_driven, counts):
 
 
 def logged(program, data, is_driven):
-    """The log of the same connection is a run."""
+    """Checks that the log of the same connection is a run."""
     words = ["pipe", "--bootstrap", "root", "--print", "log", *(["--drive"] if is_driven else [])]
     log = program.run(words, data).stdout
     said = program.run(["alone", "zz-follow", "--from", str(len(LAID_OUT))], log)
@@ -194,8 +195,8 @@ def ends(data):
 
 
 def connection(seed, kind, first, number):
-    """A connection with inputs of this kind, each with the known requests behind it, and the place of the next input. Behind a head that
-    ends it there is none."""
+    """A connection with inputs of this kind, each followed by the known requests, and the place of the next input. A head that
+    ends the connection is its last input."""
     data, place = SETUP, first
     while place < min(first + IN_A_RUN, number):
         data += MAKERS[kind](chance(seed, kind, place)) + FOLLOWING
@@ -226,7 +227,7 @@ def kept(data):
 
 
 class Log:
-    """A stored log that `nsd alone` finds the same, with what it prints of each entry."""
+    """A stored log for which `nsd alone` says `same`, with what it prints for each entry."""
 
     def __init__(self, head, text, printed):
         _, self.namespace, self.first, *rest = head.split(" ")
@@ -239,7 +240,7 @@ class Log:
         return ["alone", self.namespace, "--from", self.first, *self.lists]
 
     def chunks(self):
-        """What is printed of each own entry, by its place."""
+        """What is printed for each own entry, by its place."""
         found, rest, place = {}, self.printed, 0
         for line in filter(lambda line: line.startswith("{"), self.lines):
             told = json.loads(line)
@@ -250,7 +251,7 @@ class Log:
         return found
 
     def printed_before(self, entries):
-        """What is printed of the own entries among the first ones."""
+        """What is printed for the own entries among the first `entries`."""
         return "".join(chunk for place, chunk in self.chunks().items() if place < entries)
 
 
@@ -268,7 +269,7 @@ HEADER = re.compile(r"nsd-log 3 (?:0|[1-9][0-9]*) [!-~]{1,64}")
 
 
 def is_surely_bad(line, is_first):
-    """Whether no server writes that line, whatever stood before it."""
+    """Whether no server writes this line, whatever came before it."""
     try:
         text = line.decode()
     except UnicodeDecodeError:
@@ -290,10 +291,10 @@ def step_of(line):
 
 
 def judged_log(program, log, data):
-    """What `nsd alone` says of a log that was changed. Raises Wrong where it may not say so."""
+    """What `nsd alone` says of a changed log. Raises Wrong if it may not say so."""
     done = program.run(log.words(), data)
     printed = done.stdout.decode(errors="replace")
-    # Behind the last line feed stands a line that was cut, or nothing.
+    # After the last line feed comes a line that was cut, or nothing.
     given, was = data.split(b"\n"), log.text.encode().split(b"\n")[:-1]
     pairs = enumerate(zip(given[:-1], was))
     same = next((place for place, (line, before) in pairs if line != before), min(len(given) - 1, len(was)))
@@ -321,7 +322,8 @@ def bad_line(done, line, same, given):
 
 
 def replayed(done, printed, before, entries, sure):
-    """A log without a bad line. Where the answer to a step was changed, and not the step, it is sure what has to be said."""
+    """What is said of a log without a bad line. If the reply of a step was changed, and not the step, the last line has to be
+    `sure`."""
     last = last_line(printed)
     found = re.fullmatch(r"(same|differs at|premise fails at|not a run at)(?: ([0-9]+))?", last)
     if not found or done.returncode != (0 if last == "same" else 1):
@@ -348,7 +350,8 @@ def logs(program, seed, number, counts):
 
 
 def second_reading():
-    """The second reading of docs/API.md says of each stored reply, written by hand, that it may be."""
+    """Checks that the second reading of docs/API.md allows each stored reply. Those were written by hand. Returns how many
+    there are."""
     replies = {part.split("\n", 1)[0]: part.split("\n", 1)[1] for part in stored("stdout", ("serve",))}
     tried = 0
     for part in stored("stdin", ("serve",)):
@@ -360,7 +363,7 @@ def second_reading():
         if len(found) != len(expected.answers) or int(status) not in expected.statuses:
             raise Wrong(f"the second reading of {head}: {len(expected.answers)} requests, status {expected.statuses}")
         for reply, (answer, closes), asked in zip(found, expected.answers, expected.requests):
-            # What a token of a conversation may do is not read here.
+            # The rights of tokens that a conversation makes are not read here.
             if asked and asked[2] != b"root":
                 continue
             if wrong := mistake(reply, answer, closes):

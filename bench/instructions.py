@@ -2,7 +2,7 @@
 
     python3 bench/instructions.py                  of crates/nsd/out/nsd
     python3 bench/instructions.py PROGRAM          of another program
-    python3 bench/instructions.py PROGRAM --most N ends with status 1 where a read takes more than N
+    python3 bench/instructions.py PROGRAM --most N ends with status 1 if a read takes more than N
     python3 bench/instructions.py PROGRAM --placed for a job of one allocation, registered and placed, on a node that has no other
                                                    allocation, 100 others, or 900; and the last beside the second
     python3 bench/instructions.py PROGRAM --pool   for the same beside no allocation and 5,000 on other nodes of its pool; and what
@@ -10,11 +10,11 @@
     python3 bench/instructions.py PROGRAM --placed --nodes N    the same where the pool has N nodes, and not 10
     python3 bench/instructions.py PROGRAM --placed --no-rep     the same where the C library does not use `rep movsb` and `rep stosb`
 
-Two runs are counted, of FEW reads and of twice as many, and their difference is divided by FEW: so what the program does at its
-start and its end, and the registration of the job, do not count. For jobs it is the same with JOBS of them, of which each goes to
-the node that the others are on. Callgrind counts each byte that `rep movsb` or `rep stosb` moves as an instruction, unless the C
-library is kept from using them. The functions that take most are listed with it, where the program has their names. Ends with
-status 1 where a reply is not 200, or where the two runs do not answer each request.
+Two runs are counted, of FEW reads and of twice as many, and their difference is divided by FEW. So what the program does at its
+start and its end, and the registration of the job, do not count. Jobs are counted in the same way, JOBS of them, and each goes
+to the node that the others are on. Callgrind counts each byte that `rep movsb` or `rep stosb` moves as an instruction, unless
+the C library is kept from using them. The functions that take most are listed with it, if the program has their names. Ends
+with status 1 if a reply is not 200, or if the two runs do not answer each request.
 """
 
 import argparse
@@ -38,17 +38,18 @@ LISTED = 20
 ASKED = 6_000
 AIM = 4_000
 OK = b"HTTP/1.1 200 OK\r\n"
-# So many bytes are never moved at once.
+# More bytes than are ever moved at once.
 NO_REP = "glibc.cpu.x86_rep_movsb_threshold=1000000000:glibc.cpu.x86_rep_stosb_threshold=1000000000"
 
 
 def reads(number):
-    """The registration of a job, and so many reads of it."""
+    """The registration of a job, and this many reads of it."""
     return jobs("web", 1, 50, 1, count=1) + [request("GET", "/v1/job/web-0")] * number
 
 
 def placed(beside, count):
-    """So many nodes with room for many, a job of so many allocations, and so many jobs of one, which go where those are."""
+    """`count` nodes with room for many, a job of `beside` allocations, and then jobs of one allocation, which go to the same
+    node."""
 
     def requests(number):
         filled = jobs("other", 1, 50, 1, count=beside) if beside else []
@@ -58,7 +59,7 @@ def placed(beside, count):
 
 
 def beside_full_nodes(others):
-    """Ten nodes, of which those allocations fill some, and so many jobs of one allocation, which go to the next node."""
+    """Ten nodes, of which `others` allocations fill some, and then jobs of one allocation, which go to the next node."""
 
     def requests(number):
         return nodes(ROOM)[:10] + jobs("other", others // ROOM, 50, 1, count=ROOM) + jobs("web", number, 50, 1, count=1)
@@ -67,7 +68,7 @@ def beside_full_nodes(others):
 
 
 def counted(program, requests, folder, words):
-    """The instructions by function of a run of these requests, or none where a reply is not 200."""
+    """The instructions of a run of these requests, by function. None: a reply is not 200."""
     source, profile = os.path.join(folder, "requests"), os.path.join(folder, "profile")
     with open(source, "wb") as file:
         file.writelines(requests)
@@ -88,7 +89,7 @@ def counted(program, requests, folder, words):
 
 
 def each_of(program, requests, few, words=()):
-    """What one more request takes, in all and by function, or none where a reply is not 200."""
+    """The instructions that one more request takes, in all and by function. None: a reply is not 200."""
     with tempfile.TemporaryDirectory() as folder:
         once = counted(program, requests(few), folder, words)
         twice = once and counted(program, requests(2 * few), folder, words)

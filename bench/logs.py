@@ -1,17 +1,17 @@
 """Writes the logs in the stored input and output of `crates/plays`, and `examples/two-lists.log`.
 
-A part begins by one of these lines:
+A part begins with one of these lines:
 
-    === log NAME                 requests over one connection, and the log that is printed of them; no worker is driven
-    === log driven NAME          the same where a worker is driven after each request
-    === alone NS FROM NAME       a log, and what `nsd alone NS --from FROM` prints of it; in front of NAME may stand `--pool POOL` and
-                                 `--quota QUOTA`, each any number of times, as `nsd alone` takes them
-    === rounds NS FROM TIMES NAME    requests, then `--- again` and requests that are made TIMES times, a worker driven;
-                                 of their log, what `nsd alone` prints last and how many lines there are
+    === log NAME                 requests over one connection, and the log of them; no worker is driven
+    === log driven NAME          the same, and a worker is driven after each request
+    === alone NS FROM NAME       a log, and what `nsd alone NS --from FROM` prints of it; `--pool POOL` and `--quota QUOTA` may
+                                 come before NAME, each any number of times, as `nsd alone` takes them
+    === rounds NS FROM TIMES NAME    requests, then `--- again` and requests that are made TIMES times, with a driven worker;
+                                 how many lines `nsd alone` prints of their log, and the last of them
 
-Logs and what is printed are written here by the rules of docs/ISOLATION.md and docs/MODEL.md, and never taken from the program.
-Replies to the requests of `examples/neighbours.http` are those of `bench/conversations/isolation.txt`, and those to the requests of
-docs/TUTORIAL.md are those of `bench/conversations/tutorial.txt`, which are written by hand.
+Logs and what is printed for them are written here by the rules of docs/ISOLATION.md and docs/MODEL.md, and never taken from the
+program. Replies to the requests of `examples/neighbours.http` are those of `bench/conversations/isolation.txt`, and those to
+the requests of docs/TUTORIAL.md are those of `bench/conversations/tutorial.txt`, which are written by hand.
 """
 
 import json
@@ -39,7 +39,7 @@ def log_of(lines):
 
 
 def with_heads(lines, place, *heads):
-    """The log with these lines in front of the entry at the place."""
+    """The log with these lines before the entry at the place."""
     return log_of([*lines[:place], *heads, *lines[place:]])
 
 
@@ -147,18 +147,18 @@ def finished(ns, worker, follower=""):
 
 
 def driven(ns, number, allocations, follower=""):
-    """What the driven worker does for an evaluation: with no allocations it hands nothing in."""
+    """The steps of the driven worker for an evaluation. Without allocations it submits no plan."""
     plan = [handed_in(ns, 0, number), applied(ns, 0, allocations)] if allocations else []
     return [took(ns, 0, number), looked(ns, 0, number), *plan, finished(ns, 0, follower)]
 
 
 def changed(log, place, **members):
-    """The log with other members of the answer at that place."""
+    """The log, with other members in the entry at this place."""
     return [*log[:place], compact({**json.loads(log[place]), **members}), *log[place + 1 :]]
 
 
 def step_changed(log, place, **members):
-    """The log with other members of the step at that place."""
+    """The log, with other members in the step at this place."""
     return changed(log, place, Step={**json.loads(log[place])["Step"], **members})
 
 
@@ -167,13 +167,13 @@ def step_changed(log, place, **members):
 
 class Logs(Parts):
     def alone(self, name, log, printed, status, ns="ta", first=8, lists=""):
-        """The lists are words: `--pool` or `--quota`, and a name."""
+        """Adds a replay. `lists` are words: `--pool` or `--quota`, each followed by a name."""
         text = log if isinstance(log, str) else log_of(log)
         head = " ".join(["alone", ns, str(first), *lists.split(), name])
         self.add(head, text, printed, status)
 
     def fault(self, name, log, own, fault, ns="ta", first=8, lists=""):
-        """The lines of the own entries at these places, and then the fault."""
+        """Adds a replay that prints the lines of the own entries at these places, and then the fault."""
         self.alone(name, log, lines_of(log, own) + fault + "\n", 1, ns, first, lists)
 
     def same(self, name, log, own, ns="ta", first=8, lists=""):
@@ -244,7 +244,7 @@ def lists(parts):
 
 
 def answers(parts):
-    """A round of each of two tenants, and each member of each answer altered."""
+    """A round of each of two tenants, with each member of each reply altered."""
     parts.same("a_round_of_each", ROUNDS, OWN)
     parts.same("the_same_for_the_other", ROUNDS, [8, 10, 13, 14, 16, 19], ns="tb")
     for place in range(8, 21):
@@ -320,7 +320,7 @@ def bad_lines(parts):
 
 
 def no_disk(parts, bad, told):
-    """Lines in which the disk of a group, a node or a limit is left out, or has no size, or is a task's."""
+    """Lines in which the disk of a group, a node or a limit is missing or has no size, and lines in which a task has a disk."""
     step = told["Step"]
     document = step["Args"]["Doc"]
     [group] = document["TaskGroups"]
@@ -345,7 +345,8 @@ def no_disk(parts, bad, told):
 
 
 def segments(parts):
-    """Logs in segments: each begins with the number of entries so far and the same secret. Places run through."""
+    """Logs in segments: each segment begins with the number of entries so far and the same secret. Places count on through all
+    segments."""
     own = lines_of(LISTS, [8, 10]) + "same\n"
     parts.alone("in_segments_of_6_and_5", with_heads(LISTS, 6, head(6)), own, 0)
     parts.alone("a_segment_of_no_entries", with_heads(LISTS, 6, head(6), head(6)), own, 0)
@@ -376,10 +377,11 @@ def segments(parts):
 
 
 def administrators(parts):
-    """What administrators ask beside a tenant and of it, and what fails a premise."""
+    """Requests of administrators about others and about a tenant, and those that break a premise."""
 
     def after(name, between, own, fault=None):
-        """The steps between at the places that are own are so, and so is the list behind them, which comes if there is no fault."""
+        """Adds a replay of the set-up, these steps and a list. The steps at the places `own` and the list are own steps with
+        the same replies. With a fault the list is not reached."""
         log = [*SETUP, *between, LISTED]
         if fault is None:
             parts.same(name, log, [*own, 8 + len(between)])
@@ -419,7 +421,7 @@ WEB = compact([{"ID": "web", "JobModifyIndex": 1, "Namespace": "ta", "Priority":
 
 
 def records(parts):
-    """What administrators ask of a tenant's record, its pool and its quota."""
+    """Requests of administrators about a tenant's record, its pool and its quota."""
     again = entry(put_namespace("ta", "east", ["east"], "qa"))
     foreign = put_namespace("ta", "east", ["east", "west"], "qa")
     unknown = put_namespace("ta", "east", ["east", "north"], "qa")
@@ -446,7 +448,7 @@ def records(parts):
 
 
 def owned(parts):
-    """What administrators ask of quotas and pools, and for lists."""
+    """Requests of administrators about quotas and pools, and for lists."""
     limit = {"Region": "global", "RegionLimit": {"CPU": 1000, "DiskMB": 0, "MemoryMB": 1024}}
     quota = {"Description": "", "Limits": [limit], "Name": "qa"}
     pools = [{"Description": "", "Name": name} for name in ("default", "east", "west")]
@@ -472,7 +474,7 @@ def owned(parts):
 
 
 def access(parts):
-    """What administrators ask of policies and tokens, which are own steps of each namespace."""
+    """Requests of administrators about policies and tokens, which are own steps of each namespace."""
     rules = 'namespace "tb" { policy = "read" }'
     policy = {"Description": "", "Name": "p", "Rules": rules}
     asked = [
@@ -494,7 +496,7 @@ def access(parts):
 
 
 def given_lists(parts):
-    """Pools and quotas that are named, in place of those that the namespace has in the base."""
+    """Pools and quotas that are named, in place of those that the namespace has after the base."""
     parts.same("with_its_pool_and_its_quota", LISTS, [8, 10], lists="--pool east --quota qa")
     parts.same("with_names_twice_and_of_nothing", LISTS, [8, 10], lists="--quota qz --pool east --pool north --quota qa --pool east")
     parts.fault("with_its_pool_alone", LISTS, [], "premise fails at 8", lists="--pool east")
@@ -516,7 +518,7 @@ def given_lists(parts):
 
 
 def reports(parts):
-    """A neighbour's allocation in a pool that is the tenant's since, which was told to stop and is reported ended."""
+    """A neighbour's allocation in a pool that now belongs to the tenant. It was told to stop, and is reported as ended."""
     moved = [
         entry(put_pool("east")),
         entry(put_pool("west")),
@@ -545,7 +547,7 @@ def reports(parts):
 
 
 def tenants_administration(parts):
-    """A tenant is laid out, and its quota changed, beside another."""
+    """A tenant is set up, and its quota changed, beside another tenant."""
     log = [
         entry(put_namespace("default", "default", ["default"])),
         entry(put_pool("east")),
@@ -567,7 +569,7 @@ def tenants_administration(parts):
 
 
 def quota_change_wakes(parts):
-    """An evaluation waits for its quota, and is woken by other limits."""
+    """An evaluation waits for its quota, and new limits wake it."""
     evaluation = {
         **{"BlockedEval": "", "CreateIndex": 2, "EscapedComputedClass": False, "ID": ident(1, 2), "JobID": "web", "ModifyIndex": 3},
         **{"Namespace": "ta", "NodePool": "east", "PreviousEval": ident(1, 1), "Priority": 50, "QuotaLimitReached": "qa"},
@@ -673,7 +675,7 @@ def connections(parts):
 
 
 def tutorial_laid_out(told):
-    """The steps by which docs/TUTORIAL.md lays out its tenants, by what is told of them."""
+    """The steps by which docs/TUTORIAL.md sets up its tenants. `told` are the bodies of its replies."""
     rules = 'namespace "%s" { policy = "write" } node_pool "%s" { policy = "write" }'
     return [
         put_pool("east", "machines of ta"),
@@ -695,7 +697,7 @@ def tutorial_laid_out(told):
 
 
 def tutorial_worked():
-    """The steps that it then makes, those of workers left out."""
+    """The steps that docs/TUTORIAL.md makes after that, without those of workers."""
     return [
         register("ta", "web", 2, 200, 128, TEAM_A),
         register("tb", "api", 1, 100, 300, TEAM_B),
@@ -726,7 +728,7 @@ def tutorial_worked():
 
 
 def tutorial(parts):
-    """The log of docs/TUTORIAL.md, of somebody who asks each thing once."""
+    """The log of docs/TUTORIAL.md, for a reader who makes each request once."""
     [pairs] = [
         pairs
         for name, pairs, _ in conversations([os.path.join(TOP, "bench", "conversations", "tutorial.txt")])
@@ -771,8 +773,8 @@ def rounds(parts):
     eligibility = "/v1/node/pool/west/node/n1/eligibility"
     again += [put(eligibility, {"Eligibility": "ineligible"}), put(eligibility, {"Eligibility": "eligible"})]
     times = 250
-    # Of a round, steps of each tenant: a registration and five of the worker, a read, a deregistration and five of the worker. The
-    # two of the node are own steps of tb.
+    # In a round each tenant has these steps: a registration and five of the worker, a read, a deregistration and five of the
+    # worker. The two of the node are own steps of tb.
     for ns, own in [("ta", 13), ("tb", 15), ("tc", 13)]:
         given = "".join(once) + "\n--- again\n" + "".join(again)
         printed = f"{own * times + 1} lines, the last: same"

@@ -1,4 +1,5 @@
-"""Hostile input, made by chance from what is right: documents, rules, targets, heads and logs. Each call takes a `random.Random`."""
+"""Hostile input, made at random from valid input: documents, rules, targets, heads and logs. Each call takes a
+`random.Random`."""
 
 import json
 
@@ -39,14 +40,14 @@ DOCUMENTS = [
 
 
 class Raw:
-    """A text that stands in a document as it is."""
+    """A text that is written into a document as it is."""
 
     def __init__(self, text):
         self.text = text
 
 
 class Members(list):
-    """An object as pairs, so that a member may stand twice."""
+    """An object as pairs, so that it may have a member twice."""
 
 
 RAW = [Raw(text) for text in (
@@ -91,7 +92,7 @@ def any_value(rng):
 
 
 def places_in(value):
-    """Each list and object in it, with a place."""
+    """Each list and object in the value, with each place in it."""
     if isinstance(value, list):
         for place, inner in enumerate(value):
             yield value, place
@@ -142,7 +143,7 @@ def quoted(rng, text):
 
 
 def written(rng, value):
-    """As JSON, now and then with spaces between and with escapes."""
+    """The value as JSON, sometimes with spaces and escapes."""
     if isinstance(value, Raw):
         return value.text
     if isinstance(value, Members):
@@ -184,7 +185,7 @@ def document_body(rng, value):
 
 
 def long_body(rng):
-    """One of those that are about as long as a body may be, and deep or wide."""
+    """A body that is about as long as one may be, and is deep or wide."""
     size = 1_048_576
     shapes = [b'{"x":' + b"[" * (size - 6), b'{"x":[' + b"1," * (size // 2 - 4) + b"1]}",
         b'{"x":"' + b"\\u0041" * ((size - 8) // 6) + b'"}',
@@ -288,7 +289,7 @@ def document_request(rng):
 
 
 def rules_request(rng):
-    """A policy is put, and then read."""
+    """A request that puts a policy, and one that reads it."""
     document, target = {"Rules": rules_text(rng)}, "/v1/acl/policy/" + rng.choice("pqr")
     put = request("PUT", target, secret(rng), json.dumps(document, ensure_ascii=False).encode())
     return put + request("GET", target, b"X-Nomad-Token: root\r\n", b"")
@@ -345,7 +346,7 @@ def compact(value):
 
 
 def changed_entry(rng, line):
-    """Another entry, written as the program would. The answer alone is another one in half of them."""
+    """A changed entry, written as the program would write it. In half of the cases only the reply is changed."""
     try:
         told = json.loads(line)
     except ValueError:

@@ -2,17 +2,17 @@
 
     python3 bench/pasted.py
 
-- Each block of a page that runs `./nsd` is run by a shell, with a program in its place that keeps what it is given. That has to
-  be the input of a stored conversation, with the same secret, and driven where the block says so; or a stored log, or the requests
-  of one that is shown.
+- Each block of a page that runs `./nsd` is run by a shell, with a program in its place that keeps its input. That input has to
+  be the one of a stored conversation, with the same secret, and driven if the block says so; or a stored log, or the requests
+  of a log that is shown.
 - Each other block, and each short text, that is JSON or rules has to be a body, a line of one, or the rules of a policy, in a
-  stored conversation; of a line that begins with a quote, the parts between ` .. `. Texts of tokens are drawn, so any will do.
-- Each response that is shown has to be one of theirs.
-- The lines of `README.md` and `docs/TUTORIAL.md` that call curl are run by a shell, with a curl in its place that keeps what it is
-  given and answers what a stored conversation says. They have to be the requests of that conversation, in order, and what they
-  answer has to be what the page shows.
-- Each method of the table of paths has to be answered 200 there or in a script, and 403.
-- Each refusal of the table has to be one of theirs, but for those that nobody reaches by hand.
+  stored conversation; in a line that begins with a quote, the parts between ` .. `. Texts of tokens are drawn, so any will do.
+- Each response that is shown has to be one of a stored conversation.
+- The lines of `README.md` and `docs/TUTORIAL.md` that call curl are run by a shell, with a curl in its place that keeps its
+  arguments and answers what a stored conversation says. They have to be the requests of that conversation, in order, and the
+  answers have to be those that the page shows.
+- Each method of the table of paths has to get 200 there or in a script, and 403.
+- Each refusal of the table has to be one of a stored conversation, except those that no request by hand reaches.
 
 What fails is printed, and the exit status is then 1.
 """
@@ -55,7 +55,7 @@ def read(path):
 
 
 def indented(text):
-    """The blocks of lines that four spaces begin."""
+    """The blocks of lines that are indented by four spaces."""
     for block in re.findall(r"(?:^(?: {4}.*)?\n)+", text, re.M):
         lines = [line[4:] for line in block.strip("\n").split("\n")]
         if any(lines):
@@ -67,14 +67,14 @@ def cell(row, place):
 
 
 def rows(text, columns):
-    """The rows of the table that these columns head."""
+    """The rows of the table with these column heads."""
     at = text.index(f"| {columns} |\n")
     table = text[at:].split("\n\n")[0].split("\n")
     return [line.strip("| ") for line in table[2:]]
 
 
 class Stored:
-    """What the stored conversations say."""
+    """The requests and replies of the stored conversations."""
 
     def __init__(self):
         self.inputs, self.texts, self.outputs, self.answers = set(), set(), "", set()
@@ -104,7 +104,7 @@ class Stored:
 
 
 def words_of(head):
-    """The words with which the program would do what a stored log is for."""
+    """The arguments for the program that a stored log with this head is for."""
     if head[0] == "alone":
         return " ".join(["alone", head[1], "--from", *head[2:-1]])
     return "pipe --bootstrap root" + (" --drive" if head[1] == "driven" else "") + " --print log"
@@ -120,7 +120,7 @@ def rules_in(body):
 
 
 def pasted(block, before):
-    """What each call of the program in that block is given: its words, and its input."""
+    """The arguments and the input of each call of the program in this block."""
     with tempfile.TemporaryDirectory() as folder:
         os.symlink(os.path.join(TOP, "examples"), os.path.join(folder, "examples"))
         with open(os.path.join(folder, "nsd"), "w", encoding="utf-8") as file:
@@ -137,7 +137,7 @@ def pasted(block, before):
 
 def shell_faults(page, blocks, functions, known):
     for block in blocks:
-        # What runs the tests, what waits for a reply, and a server with a port are left out.
+        # Left out are lines that run the tests, that wait for a reply, or that start a server on a port.
         left_out = ("coproc", "./nsd serve")
         if "./nsd " not in block or any(word in block for word in left_out) or re.search(r"^rt ", block, re.M):
             continue
@@ -149,7 +149,8 @@ def shell_faults(page, blocks, functions, known):
 
 
 def shown_texts(text, blocks):
-    """What stands in a block by itself or in a line of the text, if it is JSON, and the blocks of rules."""
+    """The texts that are shown: the JSON lines of blocks and the short texts in a line that are JSON, and the blocks of
+    rules."""
     for block in blocks:
         if "./nsd" in block or block.startswith("HTTP/"):
             continue
@@ -181,7 +182,7 @@ def response_faults(page, blocks, known):
 
 
 def curled(words):
-    """The request that curl makes where it is given these words: what precedes its headers, and its body."""
+    """The request that curl makes with these arguments: its method, target and tokens, and its body."""
     method, tokens, body, target = "GET", [], "", ""
     words = iter(words)
     for word in words:

@@ -1,6 +1,6 @@
-"""Compares the table of paths in docs/API.md with the definition that the program's own table is proved to be.
+"""Compares the table of paths in docs/API.md with the definition that the program's own table is proved to follow.
 
-    python3 bench/paths.py   each path and method that only one of them has; the exit status is 0 where there is none
+    python3 bench/paths.py   prints each path and method that only one of them has; the exit status is 0 if there is none
 
 The definition is `pattern_of` and `methods_of` in `crates/ns_request/specs/Endpoints.antt`. The rows of the page are those that begin
 with a path in code quotes and go on with its methods. `POST` and `PUT` are one method there: a write.

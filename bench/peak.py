@@ -1,16 +1,17 @@
-"""Prints what memory one client can make `nsd` take, and what of it stays.
+"""Prints how much memory one client can make `nsd` take, and how much of it stays.
 
     python3 bench/peak.py                      all three
     python3 bench/peak.py request              the peak of one request, for each shape of its document
     python3 bench/peak.py kept                 what a refused request leaves in the log of `nsd serve`
     python3 bench/peak.py log                  what printing the log takes at the end of `nsd pipe --print log`
-    python3 bench/peak.py request --most 8     ends with status 1 where a request takes more than 8 times its bytes
+    python3 bench/peak.py request --most 8     ends with status 1 if a request takes more than 8 times its bytes
     python3 bench/peak.py --program PATH       another program than crates/nsd/out/nsd
 
-A request of 1 MiB, in a member that is ignored, goes to a new `nsd pipe` that has answered a small one before. Its peak is the most that
-was resident (VmHWM) less what was resident before it. For what is kept, requests without a token go over one connection to `nsd serve`
-without `--rotate`; after as many to warm up, the resident size is read before and behind them. All requests are answered as docs/API.md
-says, or the exit status is 1. Figures are bytes resident and hang on the allocator. It needs 2 GB at most.
+A request of 1 MiB, in a member that is ignored, goes to a new `nsd pipe` that has answered a small one before. Its peak is the
+greatest resident size (VmHWM) less the resident size before it. For what is kept, requests without a token go over one
+connection to `nsd serve` without `--rotate`; after as many to warm up, the resident size is read before and after them. If a
+request is not answered as docs/API.md says, the exit status is 1. Figures are resident bytes and depend on the allocator. It
+needs 2 GB at most.
 """
 
 import argparse
@@ -38,7 +39,7 @@ class Wrong(Exception):
 
 
 def filled(piece):
-    """A document of 1 MiB with a list of such pieces in a member that is ignored."""
+    """A document of 1 MiB with a list of such pieces in an ignored member."""
     front, end = b'{"x":[', b'1],' + JOB + b"}"
     return front + piece * ((SIZE - len(front) - len(end)) // len(piece)) + end
 
@@ -78,7 +79,7 @@ def request(method, target, token, body=b""):
 
 
 def memory(number, name):
-    """In bytes."""
+    """This figure of the memory of the process, in bytes."""
     with open(f"/proc/{number}/status", encoding="ascii") as file:
         return int(re.search(name + r":\s+(\d+) kB", file.read())[1]) * 1024
 
@@ -89,7 +90,7 @@ class Pipe:
         self.process = subprocess.Popen(command, stdin=subprocess.PIPE, stdout=subprocess.PIPE)
 
     def ask(self, data):
-        """The status of the reply."""
+        """Sends the data, and returns the status of the reply."""
         writer = threading.Thread(target=self.write, args=(data,))
         writer.start()
         taken = b""
@@ -178,7 +179,7 @@ class Server:
 
 
 def taken_replies(connection, number, status):
-    """Takes so many replies, which all have that status."""
+    """Takes this many replies, all of which have to have this status."""
     data, at = b"", 0
     while number > 0:
         try:
@@ -204,7 +205,7 @@ def all_sent(connection, one, number, status, at_once):
 
 
 def eight_at_once(program):
-    """Eight connections have sent all but one byte, and then send it."""
+    """Prints what eight connections take that have sent all but one byte and then send it."""
     body = dict(SHAPES)["objects 120 deep"]()
     whole = request(b"POST", b"/v1/jobs", b"", body)
     with Server(program, "--connections", "8") as server:
@@ -246,7 +247,7 @@ REFUSED = [
 
 
 def left(program, one, number, at_once, words):
-    """Bytes for each request. As many are sent before to warm up."""
+    """The bytes that each request leaves resident. As many requests are sent before to warm up."""
     with Server(program, "--connections", "1", *words) as server, server.opened() as connection:
         all_sent(connection, one, number, 403, at_once)
         before = server.memory("VmRSS")
@@ -267,7 +268,8 @@ def kept(program):
 
 
 def log(program):
-    """Requests without a token, and the log at the end. What is resident is read before the input ends, and the peak when it has ended."""
+    """Prints what the log takes after requests without a token. The resident size is read before the input ends, and the peak
+    after the program has ended."""
     one = request(b"GET", b"/v1/jobs", b"")
     for number in (50_000, 100_000, 200_000):
         command = [program, "pipe", "--bootstrap", "root", "--print", "log"]
@@ -286,7 +288,7 @@ def log(program):
 
 
 def settled_size(number):
-    """What is resident once the program waits for input."""
+    """The resident size once the program waits for input."""
     last = -1
     while (size := memory(number, "VmRSS")) != last or not is_waiting(number):
         last = size

@@ -1,4 +1,4 @@
-"""Writes pipelined requests to a file, runs `./nsd pipe` on it and prints requests a second.
+"""Writes pipelined requests to a file, runs `./nsd pipe` on it and prints the requests per second.
 
 First each of 500 jobs is registered. Then reads and registrations of these jobs follow, about as many of each, in an
 order that is always the same. About every second registration changes its job.
@@ -46,7 +46,8 @@ def requests(number):
 
 
 def replies_of_success(path):
-    """Bodies are JSON without line ends, so this text stands only where a reply begins."""
+    """The number of replies with status 200. Bodies are JSON without line ends, so this text occurs only where a reply
+    begins."""
     with open(path, "rb") as output:
         return output.read().count(b"HTTP/1.1 200 OK\r\n")
 

@@ -1,8 +1,8 @@
 """The stored input and output of `crates/plays`.
 
-Both are parts, in the same order. A part begins by a line `=== KIND ..`, and ends before the line feed in front of the next one. Those
-of kind `serve` come first, which `bench/conversations.py` writes, then those of `bench/logs.py`, and last the scripts, which are
-written by hand.
+Both consist of parts, in the same order. A part begins with a line `=== KIND ..`, and ends before the line feed before the next
+one. Parts of the kind `serve` come first, which `bench/conversations.py` writes, then those of `bench/logs.py`, and last the
+scripts, which are written by hand.
 """
 
 import os
@@ -21,14 +21,14 @@ def is_of(part, kinds):
 
 
 def stored(name, kinds):
-    """The parts of these kinds in that file, without the mark."""
+    """The parts of these kinds in this file, without the mark."""
     with open(path_of(name), encoding="utf-8", newline="") as file:
         _, *parts = ("\n" + file.read()).split(MARK)
     return [part for part in parts if is_of(part, kinds)]
 
 
 def put(name, kinds, parts):
-    """Puts these parts in the place of those of these kinds in that file."""
+    """Replaces the parts of these kinds in this file with these parts."""
     together = [parts if group == kinds else stored(name, group) for group in WRITTEN_TOGETHER]
     text = "".join(MARK + part for group in together for part in group)
     with open(path_of(name), "w", encoding="utf-8", newline="") as file:
@@ -36,7 +36,7 @@ def put(name, kinds, parts):
 
 
 class Parts:
-    """What is given in parts, and what is printed of it."""
+    """The input of parts, and what is printed for it."""
 
     def __init__(self):
         self.given, self.printed = [], []

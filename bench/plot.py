@@ -1,7 +1,7 @@
 """Draws the figures of bench/figures.txt as bars, each picture an SVG under docs/pictures.
 
     python3 bench/plot.py           draws them
-    python3 bench/plot.py --check   compares with what is there, and ends with status 1 where it differs
+    python3 bench/plot.py --check   compares with the stored pictures, and ends with status 1 if they differ
 """
 
 import os
@@ -18,7 +18,7 @@ INK, BAR, PAPER = "#1b1f24", "#2f6f9f", "#ffffff"
 
 
 def pictures(text):
-    """Each picture: its file, its title, the unit of its values, and its bars."""
+    """For each picture: its file, its title, the unit of its values, and its bars."""
     found = []
     for line in text.splitlines():
         parts = [part.strip() for part in line.lstrip("= ").split("|")]
@@ -30,7 +30,7 @@ def pictures(text):
 
 
 def bar(place, label, value, most):
-    """One bar with its label before it and its value behind it."""
+    """One bar, with its label before it and its value after it."""
     y = HEAD + ROW * place
     width = BARS * value / most
     return [

@@ -3,9 +3,9 @@
 #
 #     bench/proxy.sh [PROGRAM]
 #
-# PROGRAM is the built program: crates/nsd/out/nsd if none is given. 160 requests go over 40 connections at a time, beside 4 clients
-# that connect to the proxy and send nothing. Each is to be answered 200; else the exit status is 1. Packages of Debian: nginx-light,
-# curl, openssl.
+# PROGRAM is the built program: crates/nsd/out/nsd if none is given. 160 requests go over 40 connections at a time, beside 4
+# clients that connect to the proxy and send nothing. If a request does not get 200, the exit status is 1. Packages of Debian:
+# nginx-light, curl, openssl.
 set -eu
 root=$(CDPATH='' cd -- "$(dirname -- "$0")/.." && pwd)
 program=${1:-$root/crates/nsd/out/nsd}

@@ -3,8 +3,8 @@
     python3 bench/ready.py                10, 10,000 and 100,000 ready evaluations
     python3 bench/ready.py 10 1000000     other numbers
 
-Each number is a run of `./nsd pipe` of its own: namespaces `t0`, `t1`, .. with up to 1,000 jobs each are filled first, so
-that as many evaluations are ready. Then, over the same connection, 1,000 jobs are registered twice in the namespace `mine`,
+Each number gets its own run of `./nsd pipe`: first namespaces `t0`, `t1`, .. are filled with up to 1,000 jobs each, so
+that this many evaluations are ready. Then, over the same connection, 1,000 jobs are registered twice in the namespace `mine`,
 and the time of both rounds is divided by their registrations. The first makes evaluations that are ready, the second ones
 that wait. Of five runs the least time counts.
 """
@@ -37,7 +37,7 @@ class Server:
         self.program = subprocess.Popen(words, stdin=subprocess.PIPE, stdout=subprocess.PIPE)
 
     def serve(self, requests):
-        """Sends the requests a few at a time, and takes a reply to each. Bodies have no line ends."""
+        """Sends the requests a few at a time, and takes a reply to each. The bodies of the replies have no line ends."""
         for place in range(0, len(requests), 50):
             some = requests[place : place + 50]
             self.program.stdin.write(b"".join(some))

@@ -5,10 +5,11 @@ import os
 import pathlib
 import subprocess
 
-# Stands between the program and the allocator. Threads are numbered in the order in which they are made, the first one by 0. It refuses
-# the allocation of that number, counted over all threads or over that one alone. What it counts stands in a file that it shares: whether
-# it refused one, how many allocations there were, how many threads, and how many allocations of each. Allocations between one of BEGINS
-# bytes and one of ENDS bytes are neither counted nor refused: with them `plays` (src/watch.rt) says that it compares.
+# A library between the program and the allocator. Threads are numbered from 0 in the order in which they are made. The library
+# refuses the allocation with the given number, counted over all threads or over one thread. It writes its counts to a shared
+# file: whether it refused one, how many allocations there were, how many threads, and how many allocations of each. Allocations
+# between one of BEGINS bytes and one of ENDS bytes are neither counted nor refused: with these `plays` (src/watch.rt) says that
+# it compares.
 SOURCE = """
 #define _GNU_SOURCE
 #include <dlfcn.h>
@@ -86,7 +87,7 @@ void *aligned_alloc(size_t align, size_t size) { return is_refused(size) ? 0 : r
 
 
 class Refusing:
-    """What refuses an allocation, in a folder of its own."""
+    """The library that refuses an allocation, in a folder of its own."""
 
     def __init__(self, folder):
         self.folder = pathlib.Path(folder)
@@ -96,14 +97,14 @@ class Refusing:
         subprocess.run(["cc", "-shared", "-fPIC", "-O1", "-o", self.library, source, "-ldl", "-lpthread"], check=True)
 
     def environment(self, refused, thread=None):
-        """With that allocation refused, none where it is 0; counted over the thread alone, where one is given."""
+        """The environment that refuses this allocation (0: none), counted over this thread alone if one is given."""
         words = {"LD_PRELOAD": str(self.library), "REFUSED": str(refused), "CALLS": str(self.folder / "calls")}
         if thread is not None:
             words["THREAD"] = str(thread)
         return {**os.environ, **words}
 
     def run(self, words, text, refused=0):
-        """The status, the output and the errors of the program over that input."""
+        """Runs the program over this input. Returns the status, the output and the errors."""
         environment = self.environment(refused)
         done = subprocess.run(words, input=text, capture_output=True, env=environment, timeout=120)
         return done.returncode, done.stdout, done.stderr

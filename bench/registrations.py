@@ -1,10 +1,10 @@
 """Registers one job over and over on one connection of `./nsd pipe`, and prints how much memory a registration keeps.
 
     python3 bench/registrations.py            20,000 and then 200,000 registrations
-    python3 bench/registrations.py 1000000    another number in place of 200,000
+    python3 bench/registrations.py 1000000    another number instead of 200,000
 
-What is printed is the difference of the two runs' greatest resident memory, by registration. Nothing is collected while
-the program runs, so it is what each registration leaves, and the room that tables hold for more.
+It prints the difference of the two runs' greatest resident memory, divided by the registrations. Nothing is collected
+while the program runs, so this is what each registration leaves, and the room that tables hold for more.
 """
 
 import os

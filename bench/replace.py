@@ -1,17 +1,19 @@
-"""Times how a job is replaced by its next version on 1,000 nodes, by `./nsd`.
+"""Times how `./nsd` replaces a job by its next version on 1,000 nodes.
 
     python3 bench/replace.py                   jobs of 1,000, 4,000 and 16,000 allocations, which is the most that a job can have
-    python3 bench/replace.py 16                of so many thousand, 16 at most
+    python3 bench/replace.py 16                of this many thousand, 16 at most
     python3 bench/replace.py 16 quota          the same under a quota that the job fills
     python3 bench/replace.py 16 --show         prints the requests of `nsd pipe --drive`, and runs nothing
 
-The nodes have room for the job once, so each allocation of the next version goes where one of the version before stops. The job is
-registered, placed and then registered again: over one connection of `nsd pipe --drive`, which does all steps one after the other, and
-then with `nsd serve --workers 1`, where another connection reads the quotas all the while. The longest of these reads waits for the
-longest step under the server's lock. Of five rounds of each the median counts, and the least and the most are printed beside it.
+The nodes have room for the job once, so each allocation of the next version takes the room of one of the version before, which
+stops. The job is registered, placed and then registered again: over one connection of `nsd pipe --drive`, which does all steps
+one after the other, and then with `nsd serve --workers 1`, while another connection keeps reading the quotas. The longest of
+these reads waits for the longest step under the server's lock. Of five rounds of each the median counts, and the least and the
+most are printed beside it.
 
-At 16,000 allocations 40 ms are asked for of Snap and Apply, which the whole has beside the registration, the plan and the other steps,
-and 50 ms of any step. If one of the versions was not placed whole, or the one before did not stop whole, the exit status is 1.
+At 16,000 allocations Snap and Apply are asked to take 40 ms, and any step 50 ms. The 40 ms are printed beside the whole, which
+also has the registration, the plan and the other steps. If a version was not placed whole, or the one before did not stop
+whole, the exit status is 1.
 """
 
 import json
@@ -30,14 +32,14 @@ ASKED = {"the whole": 40.0, "the longest read": 50.0}
 
 
 def job(thousands, version):
-    """Groups of 1,000, whose task is named after the version."""
+    """The request that registers the job: groups of 1,000 allocations, whose task is named after the version."""
     task = {"Name": f"t{version}", "Resources": {"CPU": MHZ, "MemoryMB": MHZ}}
     groups = [{"Name": f"g{group}", "Count": GROUP, "Tasks": [task]} for group in range(thousands)]
     return request("POST", "/v1/jobs?namespace=own", {"Job": {"ID": "big", "TaskGroups": groups}})
 
 
 def tenant(thousands, limited):
-    """The namespace, and its quota, which the job fills where it is limited."""
+    """The requests that put the namespace and its quota, which the job fills if it is limited."""
     most = thousands * GROUP
     sizes = {"CPU": most * MHZ, "MemoryMB": most * MHZ, "DiskMB": most * DISK} if limited else {}
     limits = [{"Region": "global", "RegionLimit": sizes}]
@@ -47,7 +49,7 @@ def tenant(thousands, limited):
 
 
 def is_replaced(rows, replies, thousands):
-    """As many run as the job asks for, on each node as many, and as many stopped."""
+    """Whether as many allocations run as the job asks for, equally many on each node, and as many have stopped."""
     most = thousands * GROUP
     run = sum(row["DesiredStatus"] == "run" for row in rows)
     stopped = sum(row["DesiredStatus"] == "stop" for row in rows)
@@ -78,7 +80,7 @@ def used(connection):
 
 
 def await_run(connection, number):
-    """Waits until the newest version of the job has so many allocations."""
+    """Waits until the newest version of the job has this many allocations."""
     ended = request("GET", "/v1/job/big/evaluations?namespace=own")
     for _ in range(600):
         rows = body(connection.ask(ended))
@@ -89,7 +91,7 @@ def await_run(connection, number):
 
 
 class Reader(threading.Thread):
-    """Reads the quotas again and again, and keeps how many reads there were and the longest time that one took."""
+    """Reads the quotas again and again, and keeps the number of reads and the longest time of one."""
 
     def __init__(self, port):
         super().__init__()
@@ -124,7 +126,7 @@ def served(thousands, limited):
 
 
 def told(what, thousands, measure, limited):
-    """Prints the median of the rounds beside what is asked for, and answers whether each did its work."""
+    """Prints the median of the rounds beside the time that is asked for. Returns whether each round did its work."""
     rounds = [measure(thousands, limited) for _ in range(ROUNDS)]
     taken = statistics.median(seconds for seconds, _ in rounds) * 1e3
     asked = ASKED[what]

@@ -1,12 +1,12 @@
-"""Prints what a rotation costs a server that is read from.
+"""Prints what rotation of the log costs a server under reads.
 
-    python3 bench/rotation.py reads      reads a second with `--rotate 100000` and with a log that is never given out, 10 rounds of each
-    python3 bench/rotation.py stops 100  how long a rotation stops reads, beside so many thousand live allocations
+    python3 bench/rotation.py reads      reads per second with `--rotate 100000` and without rotation, 10 rounds of each
+    python3 bench/rotation.py stops 100  how long a rotation stops reads, beside 100 thousand live allocations
 
-For the first, rounds of 500,000 reads of one job follow each other in turn, 1,000 over one connection at a time; the medians are
-compared, and where that with rotation is below 0.95 of the other the exit status is 1. For the second, reads are made by the hundred,
-so that a rotation falls into one of a thousand such hundreds. Of each thousand the longest counts, with rotation and without; where
-the medians of these differ by more than a hundred reads take, the exit status is 1.
+For `reads`, rounds of 500,000 reads of one job alternate, 1,000 over one connection at a time. The medians are compared. If the
+one with rotation is below 0.95 of the other, the exit status is 1. For `stops`, reads are made in hundreds, so that a rotation
+falls into one of a thousand hundreds. The longest of each thousand counts, with rotation and without. If the medians of these
+differ by more than a hundred reads take, the exit status is 1.
 """
 
 import json
@@ -47,17 +47,17 @@ def compared():
 
 
 def used(connection):
-    """Of all nodes, in MHz."""
+    """The CPU that is in use on all nodes, in MHz."""
     body = connection.ask(request("GET", "/v1/node/pool/default/nodes")).split(b"\r\n\r\n", 1)[1]
     return sum(node["Used"]["CPU"] for node in json.loads(body))
 
 
 def filled(arguments, thousands):
-    """A server with so many thousand live allocations, of as many jobs, over 1,000 nodes, and how many they are. One worker places
-    them, since two would find nodes full that they both saw with room."""
+    """A server with `thousands` thousand live allocations, each of a job of its own, over 1,000 nodes; a connection to it; and
+    how many allocations there are. One worker places them, since two would find nodes full that they both saw with room."""
     server = Served([*LIMIT, "--workers", "1", *arguments])
     connection = server.opened()
-    # one node is there, and a pool has 1,000 at most
+    # one node exists already, and a pool has at most 1,000
     connection.all(nodes(places_in(thousands) + 2)[1:])
     connection.ask(request("PUT", "/v1/namespace", {"Name": "big"}))
     for job in jobs("big", thousands, 20, 1, "big"):
@@ -68,7 +68,7 @@ def filled(arguments, thousands):
 
 
 def longest(connection, thousands):
-    """The longest of each thousand of hundreds of reads, and the median of all."""
+    """The median of the longest time of each thousand, and the median of all times, each of a hundred reads."""
     read = request("GET", "/v1/job/web")
     reply = connection.ask(read)
     times, ends = [], []

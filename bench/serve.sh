@@ -4,13 +4,12 @@
 #
 #     bench/serve.sh [PROGRAM [SECONDS]]
 #
-# PROGRAM is the built program: crates/nsd/out/nsd if none is given. Both are asked by wrk over 4 connections that stay open, on this
-# machine, in turn, three times for so many seconds each (5 if none are given). Both have 4 threads for connections: nginx 4 processes
-# of one thread. What is printed last is the median of each, the quotient of the two, and by how much each read let the memory of
-# `nsd serve` grow.
-# Each read is an entry of the log, of some 1.5 KB: 15 seconds at 100,000 a second take 2 to 3 GB. So the log's limit has to be more
-# than the requests of all three turns, or reads are answered 503 and nothing is measured. 10,000,000 entries would take 15 GB.
-# Packages of Debian: wrk, nginx-light, curl.
+# PROGRAM is the built program: crates/nsd/out/nsd if none is given. wrk sends requests to both over 4 connections that stay
+# open, on this machine, in turn, three times for SECONDS each (5 if none are given). Both have 4 threads for connections: nginx
+# 4 processes of one thread. It prints last the median of each, the quotient of the two, and by how much each read made the
+# memory of `nsd serve` grow. Each read is an entry of the log, of some 1.5 KB: 15 seconds at 100,000 a second take 2 to 3 GB.
+# So the log's limit has to be more than the requests of all three turns, or reads are answered 503 and nothing is measured.
+# 10,000,000 entries would take 15 GB. Packages of Debian: wrk, nginx-light, curl.
 set -eu
 root=$(CDPATH='' cd -- "$(dirname -- "$0")/.." && pwd)
 program=${1:-$root/crates/nsd/out/nsd}
@@ -27,7 +26,7 @@ for tool in wrk curl; do
     command -v $tool > "$folder/which" || { echo "$tool is not installed" >&2; exit 1; }
 done
 
-# Waits a tenth of a second for what the process with that number is to do, a hundred times at most. Its errors are in that file.
+# Waits a tenth of a second for a process to get ready, a hundred times at most. Its errors are in the file.
 pause() {
     tries=$((tries + 1))
     if [ $tries -gt 100 ] || ! kill -0 "$1" 2>/dev/null; then
@@ -38,7 +37,7 @@ pause() {
     sleep 0.1
 }
 
-# The address that a server says it listens at.
+# Starts `nsd serve` at the address that it then says, registers the job and reads it.
 start_server() {
     : > "$folder/errors"
     "$program" serve --listen 127.0.0.1:0 --bootstrap root --connections 4 --log-limit $limit 2>> "$folder/errors" > "$folder/log" &
@@ -53,7 +52,7 @@ start_server() {
     [ "$read" = "$body" ] || { echo "the job is read as $read" >&2; exit 1; }
 }
 
-# At a port that nobody has: nginx can't say which one it was given.
+# On a port that no program uses: nginx can't say which port it was given.
 start_nginx() {
     beside=$((${address##*:} - 1))
     cat > "$folder/nginx.conf" <<CONF
@@ -82,7 +81,7 @@ CONF
     [ "$read" = "$body" ] || { echo "nginx answers $read" >&2; exit 1; }
 }
 
-# Requests in a second at that address, and how many there were; none may be refused.
+# The requests per second at this address, and how many there were. None may be refused.
 ask() {
     wrk -t 2 -c 4 -d "$seconds" -H 'X-Nomad-Token: root' "http://$1/v1/job/web" > "$folder/said"
     if grep -E 'Non-2xx|Socket errors' "$folder/said" >&2; then

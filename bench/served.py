@@ -1,4 +1,4 @@
-"""A server at a port of its own, and connections to it, for the scripts that measure `./nsd serve`."""
+"""A server on a port of its own, and connections to it, for the scripts that measure `./nsd serve`."""
 
 import re
 import socket
@@ -25,7 +25,7 @@ class Served:
         self.port = int(found[1])
 
     def opened(self):
-        """A connection, over which a node and the job were registered, and the job was placed."""
+        """Opens a connection, and registers a node and a job over it, which is placed when this returns."""
         connection = Connection(self.port)
         connection.ask(request("PUT", "/v1/node/pool/default/node/web", NODE))
         connection.ask(request("POST", "/v1/jobs", JOB))
@@ -34,7 +34,7 @@ class Served:
         return connection
 
     def resident(self):
-        """In KB."""
+        """The resident memory of the server, in KB."""
         with open(f"/proc/{self.program.pid}/status", encoding="ascii") as file:
             return int(re.search(r"VmRSS:\s+(\d+) kB", file.read())[1])
 
@@ -50,7 +50,7 @@ class Connection:
         self.rest = b""
 
     def reply(self):
-        """The next reply, which has to be of success."""
+        """The next reply, which has to have status 200."""
         while (end := self.rest.find(b"\r\n\r\n")) < 0:
             self.rest += self.received()
         length = int(re.search(rb"Content-Length: (\d+)", self.rest[:end])[1])
@@ -72,13 +72,13 @@ class Connection:
         return self.reply()
 
     def all(self, requests):
-        """Sends them at once, and takes a reply to each."""
+        """Sends the requests at once, and takes a reply to each."""
         self.socket.sendall(b"".join(requests))
         for _ in requests:
             self.reply()
 
     def repeat(self, one, reply, number):
-        """Asks so often for what is answered so each time: a request that changes nothing."""
+        """Sends a request that changes nothing this often, which has to get the same reply each time."""
         self.socket.sendall(one * number)
         left = len(reply) * number
         while left > 0:

@@ -1,12 +1,13 @@
-"""Prints what took a check longest: each crate's time, and of each the modules of a second and more.
+"""Prints what took longest in a check: the time of each crate, and its modules that took a second or more.
 
     python3 bench/slow.py                 all crates that were checked in this repository
-    python3 bench/slow.py ns_work_log keyed   these crates, every module of half a second and more
+    python3 bench/slow.py ns_work_log keyed   these crates, every module that took half a second or more
 
-A check keeps a file for each module that it has finished, one after the other, in `crates/NAME/out/incremental`: so the time between
-two files is what the later one took, where the crate was checked in one run with one job, as `rt all check` does. A module that ends
-in `.Lts` or `.Kinds` goes through a function's moves and drops. Where it takes ten seconds and more, a large value most likely falls
-out of scope there; `drop(value)` takes seconds. The module that has only the crate's name stands for reading the crates below it.
+A check keeps a file for each module that it has finished, one after the other, in `crates/NAME/out/incremental`. So the time
+between two files is what the later one took, if the crate was checked in one run with one job, as `rt all check` does. A module
+that ends in `.Lts` or `.Kinds` goes through a function's moves and drops. Where it takes ten seconds and more, a large value
+most likely falls out of scope there; `drop(value)` takes seconds. The module that has only the crate's name stands for reading
+the crates below it.
 """
 
 import os
@@ -16,7 +17,8 @@ CRATES = "crates"
 
 
 def finished(crate):
-    """The modules that are kept of the crate with the times at which they were finished, first the time at which it began."""
+    """The finished modules of the crate, each with the time at which it was finished. The first row has the time of the
+    start."""
     kept = os.path.join(CRATES, crate, "out", "incremental")
     times = []
     for folder, _, files in os.walk(kept):

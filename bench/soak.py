@@ -1,15 +1,16 @@
 """Runs `nsd serve` with 64 connection threads and 63 workers under clients that break off, and checks its log at the end.
 
     python3 bench/soak.py                            60 seconds, seed 1
-    python3 bench/soak.py --seed 7 --seconds 600     another seed, and so many seconds
+    python3 bench/soak.py --seed 7 --seconds 600     another seed, and this many seconds
     python3 bench/soak.py --program PATH             another program than crates/nsd/out/nsd
 
-48 clients open one connection after the other, over 127.0.0.1. They register jobs of three tenants, stop and purge them, let nodes come,
-go down and go, mark them, report, raise quotas, and make policies and tokens. Some reset the connection inside a request or a reply,
-some send half a request and wait, some say nothing, and some never read. What comes back has to be replies of docs/API.md's form, one to
-each request, with a status and a text of its table. When the time is over, connections that say nothing are opened until the server has
-accepted as many as `--accept` says. Then it has to end with status 0 and `settled K`, its log has to have K entries, and `nsd alone` has to
-say `same` of each tenant. The last line has the counts and `ok`; else the exit status is 1.
+48 clients open one connection after the other, over 127.0.0.1. They register jobs of three tenants, stop and purge them,
+register nodes, mark them down or ineligible, remove them, report, raise quotas, and make policies and tokens. Some reset the
+connection inside a request or a reply, some send half a request and wait, some send nothing, and some never read. Each request
+has to get one reply of the form that docs/API.md gives, with a status and a text of its table. When the time is over,
+connections that send nothing are opened until the server has accepted as many as `--accept` says. Then it has to end with
+status 0 and `settled K`, its log has to have K entries, and `nsd alone` has to say `same` of each tenant. The last line has the
+counts and `ok`; else the exit status is 1.
 """
 
 import argparse
@@ -62,7 +63,7 @@ SETUP = [
 ]
 
 
-# ---- what is asked
+# ---- requests
 
 
 def ident(kind, number):
@@ -152,7 +153,7 @@ class Client:
         connection.close()
 
     def read(self, connection, number):
-        """So many replies, and nothing behind them."""
+        """Reads this many replies, with nothing after them."""
         data, at = b"", 0
         while number > 0:
             try:
@@ -230,7 +231,7 @@ class Soak:
         self.lock, self.kinds, self.statuses, self.wrong = threading.Lock(), Counter(), Counter(), []
 
     def taken(self, rng):
-        """What the next connection is, or None where it is over."""
+        """The kind of the next connection. None: the run is over."""
         kind = rng.choices(*zip(*KINDS))[0]
         with self.lock:
             if time.monotonic() > self.end or self.wrong or sum(self.kinds.values()) >= self.most:
@@ -269,7 +270,7 @@ def set_up(port):
 
 
 def used_up(program, port, most):
-    """Opens connections that say nothing until the server accepts no more."""
+    """Opens connections that send nothing until the server accepts no more."""
     for _ in range(2 * most):
         if program.poll() is not None:
             return
@@ -280,7 +281,7 @@ def used_up(program, port, most):
 
 
 def served(words, folder, most):
-    """Starts the server, and answers it with its port and its log's path."""
+    """Starts the server, and returns it with its port and the path of its log."""
     path = os.path.join(folder, "log")
     limits = ["--workers", "63", "--connections", "64", "--accept", str(most)]
     with open(path, "wb") as log:
@@ -293,7 +294,7 @@ def served(words, folder, most):
 
 
 def settled(program, path):
-    """How many entries the server says, which are as many as its log has."""
+    """The number of entries that the server says have settled, which has to be the number that its log has."""
     try:
         _, errors = program.communicate(timeout=600)
     except subprocess.TimeoutExpired:

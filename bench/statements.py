@@ -1,12 +1,12 @@
 """Compares what two commits state: contracts, definitions, laws and stored lines.
 
-    python3 bench/statements.py REV [REV]            what the second commit, or the work tree, says otherwise than the first
-    python3 bench/statements.py --moved REV [REV]    the same where crates were merged: a statement is named by its name alone, and
-                                                     a path in it counts by its last name
+    python3 bench/statements.py REV [REV]            what the second commit, or the work tree, states differently from the first
+    python3 bench/statements.py --moved REV [REV]    the same if crates were merged: a statement is named without its crate, and
+                                                     of a path only the last name counts
 
 A statement is a function's signature with its clauses, a type's declaration, a definition of `specs`, or a section of a stored input
-or output. Each is named by its crate and its name, not by its file, so that what only moves is no change. It prints a line for each one that is
-gone, new or changed, and last the counts. Proofs, bodies and comments are no statements.
+or output. Each is named by its crate and its name, not by its file, so that a mere move is no change. It prints a line for each
+statement that is gone, new or changed, and last the counts. Proofs, bodies and comments are no statements.
 """
 
 import collections
@@ -46,7 +46,7 @@ def is_read(path):
 
 
 def bare(text):
-    """The text without comments, layout and the attributes that state nothing."""
+    """The text without comments, layout and the attributes that are no statements."""
     lines = [re.sub(r"^\s*(//|--|#\[|ghost use |use ).*", "", line) for line in text.split("\n")]
     return [line for line in lines if line.strip()]
 
@@ -80,8 +80,8 @@ def rust_statements(crate, text):
 
 
 def is_whole(kind, taken):
-    """Whether the last of these lines ends the statement, or opens what it has. A clause may take several lines, and a body opens on a
-    line of its own behind the clauses."""
+    """Whether the last of these lines ends the statement, or opens its body. A clause may take several lines, and a body opens
+    on its own line after the clauses."""
     line, text = taken[-1].rstrip(), " ".join(taken)
     if kind == "ghost" or kind == "fn" and any(CLAUSE.match(it) for it in taken):
         return line.endswith(";") and text.count("{") == text.count("}")
@@ -119,7 +119,7 @@ def statements(rev):
 
 
 def moved(found):
-    """The statements without their crates, and without what stands before the last name of a path."""
+    """The statements without their crates. Of a path only the last name is left."""
     told = collections.Counter()
     for it, count in found.items():
         told[re.sub(r"\b(?:\w+::)+(?=\w)", "", it.split(": ", 1)[1])] += count

@@ -34,7 +34,7 @@ COUNTED = re.compile(r"^(settled |premise fails at |)\d+$")
 
 
 class Command:
-    """A line of a shell, what it answers, and whether that may take a while."""
+    """A line for the shell, the lines that it has to answer, and whether that may take a while."""
 
     def __init__(self, line):
         self.line, self.told, self.is_again = line, [], False
@@ -53,7 +53,7 @@ def read(page):
 
 
 def indented(text):
-    """The blocks of lines that four spaces begin."""
+    """The blocks of lines that are indented by four spaces."""
     for block in re.findall(r"(?:^(?: {4}.*)?\n)+", text, re.M):
         lines = [line[4:] for line in block.strip("\n").split("\n")]
         if any(lines):
@@ -61,7 +61,7 @@ def indented(text):
 
 
 def commands(lines):
-    """The commands of a block, or none where it is something else."""
+    """The commands of a block. Empty: the block has no commands."""
     found = []
     for line in lines if COMMAND.match(lines[0]) else []:
         if line == AGAIN:
@@ -74,7 +74,7 @@ def commands(lines):
 
 
 def blocks(text):
-    """The blocks of commands of a page that has curl lines."""
+    """The blocks of commands of a page."""
     return [found for lines in indented(text) if (found := commands(lines))]
 
 
@@ -84,7 +84,7 @@ def needs_program(block):
 
 
 class Shell:
-    """A shell that is given one line after the other."""
+    """A shell that runs one line after the other."""
 
     def __init__(self, folder, **more):
         self.bash = subprocess.Popen(
@@ -102,7 +102,7 @@ class Shell:
         self.bash.stdin.flush()
 
     def line(self, until):
-        """The next line, or none where none comes until then."""
+        """The next line. None: no line comes in time."""
         while b"\n" not in self.rest:
             left = max(0, until - time.monotonic())
             if not select.select([self.bash.stdout], [], [], left)[0]:
@@ -115,14 +115,14 @@ class Shell:
         return line.decode()
 
     def run(self, command):
-        """What the line answers, and whether it came to its end."""
+        """The lines that the command prints until it ends, or until its time is over."""
         self.write(f"{command.line}\nprintf '\\n%s\\n' '{DONE}'\n")
         until, lines = time.monotonic() + 10 * SECONDS, []
         while (line := self.line(until)) != DONE:
             if line is None:
                 return lines
             lines.append(line)
-        # A program in the background tells later.
+        # A program in the background prints later.
         while command.line.endswith("&") and len([*filter(None, lines)]) < len(command.told):
             if (line := self.line(until)) is None:
                 break
@@ -135,7 +135,7 @@ class Shell:
 
 
 def answer(shell, command):
-    """What the command answers in the end."""
+    """The lines that the command prints, run again for a while if it may take a while."""
     until = time.monotonic() + SECONDS
     lines = shell.run(command)
     while command.is_again and not command.is_told(lines) and time.monotonic() < until:
@@ -145,11 +145,11 @@ def answer(shell, command):
 
 
 def compare(shell, page, block):
-    """How many of these commands answer something else."""
+    """How many commands of the block print something else than the page shows."""
     faults, early = 0, []
     for command in block:
         lines = early + answer(shell, command)
-        # The loop ends with a complaint of curl, and not always the same; the server may already have told how it ended.
+        # The loop ends with an error of curl, which is not always the same. The server may already have printed how it ended.
         if command.line.startswith("while curl "):
             early = [line for line in lines if not line.startswith("curl: ")]
             continue

@@ -1,18 +1,19 @@
 """Tries the wrong bodies `wrong-bodies/CRATE/*.edit`, as the gate tries its own: the prover has to refuse each.
 
-    python3 bench/wrong_bodies.py                those that changed since they were last tried, or whose crate did, or one below it
+    python3 bench/wrong_bodies.py                those that changed since they were last tried, or whose crate or one below did
     python3 bench/wrong_bodies.py ns_work_log keyed  every one of these crates
-    python3 bench/wrong_bodies.py --anew         every one, also where rt itself keeps what an earlier run on this machine found
-    python3 bench/wrong_bodies.py --standing     proves nothing, and takes a second: whether each one can be read and applied,
-                                                 those of the gate in `crates/CRATE/must-fail` too
+    python3 bench/wrong_bodies.py --anew         every one, even if rt keeps the result of an earlier run on this machine
+    python3 bench/wrong_bodies.py --standing     proves nothing, and takes a second: checks that each can be read and applied,
+                                                 also those of the gate in `crates/CRATE/must-fail`
 
 It copies the crates to be tried and those below them, as the files that git tracks stand in the work tree, into a folder of its own.
 There `rt ci` tries them as if they were the gate's. It takes what a run of the gate proved on this machine, so after `rt ci` here each
 crate is proved once more, for its edits, and no crate for those above it. RT_JOBS says how many run side by side.
 
-`wrong-bodies/TRIED` has a line for each edit that was refused, with a sum of the edit, of its crate and of all crates below it. It is
-written after each round of some crates. A refusal that says little of a contract, by rt's own word, gives no line: such an edit has to be
-mended. What was not refused is printed with the reason, then `N refused, M not` over all edits; the exit status is 0 where M is 0.
+`wrong-bodies/TRIED` has a line for each edit that was refused, with a sum of the edit, of its crate and of all crates below it.
+It is written after each round of some crates. A refusal that, as rt says, shows little of a contract gives no line: such an
+edit has to be mended. The edits that were not refused are printed with the reason, then `N refused, M not` over all edits; the
+exit status is 0 if M is 0.
 """
 
 import functools
@@ -51,7 +52,7 @@ def listed():
 
 @functools.cache
 def with_below(crate):
-    """The crate and all that it stands on, without the toolchain's libraries."""
+    """The crate and all crates that it stands on, without the libraries of the toolchain."""
     found = {crate}
     for word in listed()[crate].partition(":")[2].split():
         if word in listed():
@@ -61,7 +62,7 @@ def with_below(crate):
 
 @functools.cache
 def tracked():
-    """The files that git tracks of each crate, as far as they are there, without its wrong bodies."""
+    """For each crate the files that git tracks and that exist, without its wrong bodies."""
     found = {crate: [] for crate in listed()}
     ran = subprocess.run(["git", "ls-files", "-z", "crates"], check=True, capture_output=True, text=True)
     for path in sorted({*ran.stdout.split("\0")} - {""}):
@@ -116,7 +117,7 @@ def write_tried(tried):
 
 
 def copy(crates, chosen, to):
-    """Copies these crates alone, the chosen edits in place of their own."""
+    """Copies only these crates, with the chosen edits in place of their own."""
     for crate in crates:
         for path in tracked()[crate]:
             os.makedirs(os.path.dirname(f"{to}/{path}"), exist_ok=True)
@@ -132,7 +133,8 @@ def copy(crates, chosen, to):
 
 
 def rt(words, room):
-    """Runs rt on the copy, and returns its status and the lines that it prints. Nothing of it is left, nor runs on, if this is cut off."""
+    """Runs rt on the copy, and returns its status and the lines that it prints. If this is cut off, rt is ended and nothing of
+    it is left."""
     how = {"stdin": subprocess.DEVNULL, "stdout": subprocess.PIPE, "stderr": subprocess.STDOUT, "text": True, "errors": "replace"}
     where = {"cwd": f"{room}/tree", "env": {**os.environ, "TMPDIR": f"{room}/tmp"}, "start_new_session": True}
     with subprocess.Popen(["rt", *words], **how, **where) as ran:
@@ -157,7 +159,7 @@ def rounds(chosen):
 
 
 def told(lines):
-    """What rt says of each edit, with the lines that it shows of the compiler's below."""
+    """What rt says of each edit, with the lines of the compiler that it shows below."""
     found, last = {}, None
     for line in lines:
         it = SAID.match(line)
@@ -172,7 +174,7 @@ def told(lines):
 
 
 def note(chosen, said, sums, tried):
-    """Takes down which of these edits were refused, and returns why the others were not."""
+    """Records which of these edits were refused, and returns why the others were not."""
     why = {}
     for edit in chosen:
         word = said.get(edit, "NOT TRIED: its crate, or one below it, is not proved as it stands")
@@ -204,7 +206,7 @@ def try_in(room, chosen, more, sums, tried):
 
 
 def try_all(names, more):
-    """Tries what is to be tried, and returns the exit status."""
+    """Tries the edits that are to be tried, and returns the exit status."""
     every = edits()
     sums = {edit: sum_of(edit) for edit in every if crate_of(edit) in listed()}
     tried = {edit: made for edit, made in read_tried().items() if sums.get(edit) == made}
