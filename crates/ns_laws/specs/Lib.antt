@@ -10,3 +10,8 @@ pub mod Nodes
 pub mod Kinds
 pub mod Staying
 pub mod Parted
+pub mod Reach
+pub mod Waking
+pub mod Turns
+pub mod Secrets
+pub mod Effects

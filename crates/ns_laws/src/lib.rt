@@ -2,12 +2,17 @@
 //! nothing. `isolation` says what holds of a namespace that has its pools and its quotas to itself.
 #![tactic(auto)]
 
+pub mod effects;
 pub mod isolation;
 pub mod nodes;
 pub mod placement;
 pub mod queue;
+pub mod reach;
 pub mod refusals;
 pub mod rights;
+pub mod secrets;
 pub mod sharing;
 pub mod steps;
 pub mod sums;
+pub mod turns;
+pub mod waking;

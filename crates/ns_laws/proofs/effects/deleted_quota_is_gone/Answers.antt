@@ -1,0 +1,5 @@
+use Rattle.ns_laws.proofs.AdminEffectsLemmas.{deleted_quota_is_gone}
+use Rattle.ns_laws.proofs.effects.deleted_quota_is_gone.Goals as goal
+
+pub returns : goal.returns
+returns c = deleted_quota_is_gone

@@ -1,0 +1,5 @@
+use Rattle.ns_laws.proofs.EffectsLemmas.{deregistered_is_stopped}
+use Rattle.ns_laws.proofs.effects.deregistered_is_stopped.Goals as goal
+
+pub returns : goal.returns
+returns c = deregistered_is_stopped

@@ -1,0 +1,5 @@
+use Rattle.ns_laws.proofs.NodeEffectsLemmas.{down_is_lost}
+use Rattle.ns_laws.proofs.effects.down_is_lost.Goals as goal
+
+pub returns : goal.returns
+returns c = down_is_lost

@@ -1,0 +1,5 @@
+use Rattle.ns_laws.proofs.AdminEffectsLemmas.{put_namespace_is_there}
+use Rattle.ns_laws.proofs.effects.put_namespace_is_there.Goals as goal
+
+pub returns : goal.returns
+returns c = put_namespace_is_there

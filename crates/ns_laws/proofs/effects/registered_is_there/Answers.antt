@@ -1,0 +1,5 @@
+use Rattle.ns_laws.proofs.EffectsLemmas.{registered_is_there}
+use Rattle.ns_laws.proofs.effects.registered_is_there.Goals as goal
+
+pub returns : goal.returns
+returns c = registered_is_there

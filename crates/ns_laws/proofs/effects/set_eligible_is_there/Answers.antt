@@ -1,0 +1,5 @@
+use Rattle.ns_laws.proofs.NodeEffectsLemmas.{set_eligible_is_there}
+use Rattle.ns_laws.proofs.effects.set_eligible_is_there.Goals as goal
+
+pub returns : goal.returns
+returns c = set_eligible_is_there

@@ -1,0 +1,5 @@
+use Rattle.ns_laws.proofs.EffectsLemmas.{stopped_allocation}
+use Rattle.ns_laws.proofs.effects.stopped_allocation.Goals as goal
+
+pub returns : goal.returns
+returns c = stopped_allocation

@@ -1,0 +1,5 @@
+use Rattle.ns_laws.proofs.ReachLemmas.{apart_so}
+use Rattle.ns_laws.proofs.reach.apart_so.Goals as goal
+
+pub returns : goal.returns
+returns c = apart_so

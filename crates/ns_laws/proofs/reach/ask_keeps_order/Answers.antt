@@ -1,0 +1,5 @@
+use Rattle.ns_laws.proofs.Inside.{ask_keeps_order}
+use Rattle.ns_laws.proofs.reach.ask_keeps_order.Goals as goal
+
+pub returns : goal.returns
+returns c = ask_keeps_order

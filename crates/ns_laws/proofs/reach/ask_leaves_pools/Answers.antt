@@ -1,0 +1,5 @@
+use Rattle.ns_laws.proofs.Inside.{ask_leaves_pools}
+use Rattle.ns_laws.proofs.reach.ask_leaves_pools.Goals as goal
+
+pub returns : goal.returns
+returns c = ask_leaves_pools

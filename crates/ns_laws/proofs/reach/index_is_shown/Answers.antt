@@ -1,0 +1,5 @@
+use Rattle.ns_laws.proofs.Inside.{index_is_shown}
+use Rattle.ns_laws.proofs.reach.index_is_shown.Goals as goal
+
+pub returns : goal.returns
+returns c = index_is_shown

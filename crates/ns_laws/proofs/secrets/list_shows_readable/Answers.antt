@@ -1,0 +1,5 @@
+use Rattle.ns_laws.proofs.AccessLemmas.{list_shows_readable}
+use Rattle.ns_laws.proofs.secrets.list_shows_readable.Goals as goal
+
+pub returns : goal.returns
+returns c = list_shows_readable

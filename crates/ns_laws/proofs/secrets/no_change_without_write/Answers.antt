@@ -1,0 +1,5 @@
+use Rattle.ns_laws.proofs.TokenLemmas.{no_change_without_write}
+use Rattle.ns_laws.proofs.secrets.no_change_without_write.Goals as goal
+
+pub returns : goal.returns
+returns c = no_change_without_write

@@ -1,0 +1,5 @@
+use Rattle.ns_laws.proofs.AccessLemmas.{only_managers_change_access}
+use Rattle.ns_laws.proofs.secrets.only_managers_change_access.Goals as goal
+
+pub returns : goal.returns
+returns c = only_managers_change_access

@@ -1,0 +1,5 @@
+use Rattle.ns_laws.proofs.TokenLemmas.{policy_is_as_put}
+use Rattle.ns_laws.proofs.secrets.policy_is_as_put.Goals as goal
+
+pub returns : goal.returns
+returns c = policy_is_as_put

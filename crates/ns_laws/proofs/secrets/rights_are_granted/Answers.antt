@@ -1,0 +1,5 @@
+use Rattle.ns_laws.proofs.SecretsLemmas.{rights_are_granted}
+use Rattle.ns_laws.proofs.secrets.rights_are_granted.Goals as goal
+
+pub returns : goal.returns
+returns c = rights_are_granted

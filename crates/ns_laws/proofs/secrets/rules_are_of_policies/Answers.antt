@@ -1,0 +1,5 @@
+use Rattle.ns_laws.proofs.SecretsLemmas.{rules_are_of_policies}
+use Rattle.ns_laws.proofs.secrets.rules_are_of_policies.Goals as goal
+
+pub returns : goal.returns
+returns c = rules_are_of_policies

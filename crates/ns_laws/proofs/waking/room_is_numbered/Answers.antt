@@ -1,0 +1,5 @@
+use Rattle.ns_laws.proofs.NumberingLemmas.{room_is_numbered}
+use Rattle.ns_laws.proofs.waking.room_is_numbered.Goals as goal
+
+pub returns : goal.returns
+returns c = room_is_numbered
