@@ -18,6 +18,10 @@ abbrev pub IsEnd : ℕ → Type 0
 IsEnd status = (status ≡ SERVED) ⊎ (status ≡ MISMATCH) ⊎ (status ≡ READ_FAULT) ⊎ (status ≡ WRITE_FAULT) ⊎
     (status ≡ OUT_OF_MEMORY)
 
+-- the exit status of a server whose log settled and whose segments were all written
+abbrev pub IsGoodEnd : ℕ → Type 0
+IsGoodEnd status = (status ≡ SERVED) ⊎ (status ≡ WRITE_FAULT) ⊎ (status ≡ OUT_OF_MEMORY)
+
 -- the line that is printed where the log did not settle
 abbrev pub fault_line : ServeFault → List ℕ
 fault_line (ServeFault.Conn fault) = line_of fault

@@ -1,4 +1,4 @@
--- What is printed by a server whose log settled.
+-- When the log of a server settles, and what is printed then.
 use Rattle.std.specs.Prelude.{◌≡◌, ℕ, List, ◌++◌, codes, decimal}
 use Rattle.ns_types.specs.State.Names.{Name}
 use Rattle.ns_types.specs.Steps.{opening}

@@ -3,11 +3,15 @@
 ghost use Rattle.std.specs.Prelude.{◌≡◌, ◌≢◌, ◌⊎◌, Err, IfOk, IsErrOf, IsOkAnd, IsTrue, None, OnOk, Some, length, string_bytes};
 ghost use Rattle.std.specs.Result.{result_err};
 ghost use Rattle.ns_json.specs.Logs.{segment_text};
+ghost use Rattle.ns_log.specs.Segments.{joined};
+ghost use Rattle.ns_log.specs.Settling.{Settles};
+ghost use Rattle.ns_work_lock.specs.Ending.{held_of};
 ghost use Rattle.ns_work_lock.specs.Settling.{present};
 ghost use Rattle.ns_http.specs.declared.engine.ConnFault.TheVariants as ConnFault;
 ghost use Rattle.ns_http.specs.Output.{WritesAll};
 ghost use Rattle.ns_faults.specs.Lines.{FailsToWrite, TriesToWrite, line_of, mismatch_line, status_of};
-ghost use Rattle.ns_listener.specs.Ending.{EndsBy, IsEnd, fault_line, fault_status};
+ghost use Rattle.ns_listener.specs.Ending.{EndsBy, IsEnd, IsGoodEnd, fault_line};
+ghost use Rattle.ns_listener.specs.Ending.{fault_status};
 ghost use Rattle.ns_listener.specs.Keeping.{WritesText};
 ghost use Rattle.ns_listener.specs.Printing.{IsRunOf, settled_line};
 ghost use Rattle.ns_listener.specs.declared.fault.ServeFault.TheVariants as ServeFault;
@@ -47,8 +51,13 @@ pub(crate) fn settle<L: Ledger>(
 ) -> Result<SettledLog, ServeFault>
     requires { L.parts ≡ 18446744073709551615 }
     ensures run { IfOk result (IsRunOf secret.now segments.items) }
+    ensures log { IfOk result
+        (λ settled. settled.log ≡ joined segments.items (held_of ended).log) }
+    ensures receipts { OnOk result
+        (Settles (joined segments.items (held_of ended).log) seats.items) }
     ensures whole { OnOk result (IsTrue is_whole) }
     ensures no_write { result ≢ Err (ServeFault.Conn ConnFault.Write) }
+    ensures no_read { result ≢ Err (ServeFault.Conn ConnFault.Read) }
 {
     if !is_whole {
         return Err(ServeFault::Conn(ConnFault::Memory));
@@ -107,6 +116,9 @@ fn conclude_whole<W: Write, E: Write>(
 ) -> u8
     requires no_write { settled.now ≢ Err (ServeFault.Conn ConnFault.Write) }
     ensures status { IsEnd result }
+    ensures good { OnOk settled.now (IsGoodEnd result) }
+    ensures faulty { (fault : ServeFault) → IsErrOf settled.now fault
+        → result ≡ fault_status fault }
     ensures printed { result ≡ SERVED → IsOkAnd settled.now (λ s.
         WritesAll W.contents writer.old writer.new (segment_text secret.now s.given (present s))) }
     ensures settled { result ≡ SERVED → IsOkAnd settled.now (λ s.
@@ -167,6 +179,10 @@ pub(crate) fn conclude<W: Write, E: Write>(
     requires no_write { closing.settled ≢ Err (ServeFault.Conn ConnFault.Write) }
     requires no_read { closing.fault ≢ Some ConnFault.Read }
     ensures status { IsEnd result.0 }
+    ensures good { closing.fault ≡ None → OnOk closing.settled (IsGoodEnd result.0) }
+    ensures faulty { closing.fault ≡ None → (fault : ServeFault) → IsErrOf closing.settled fault
+        → result.0 ≡ fault_status fault }
+    ensures cut { (fault : ConnFault) → closing.fault ≡ Some fault → result.0 ≡ status_of fault }
     ensures printed { result.0 ≡ SERVED → (closing.fault ≡ None) × IsOkAnd closing.settled
         (λ s. WritesAll W.contents closing.writer result.1
         (segment_text closing.secret s.given (present s))) }

@@ -1,5 +1,6 @@
 //! Connections, one after another.
 
+ghost use Rattle.std.specs.Prelude.{IsErr, IsNone};
 ghost use Rattle.ns_workers.specs.Growing.{Grows};
 ghost use Rattle.ns_listener.specs.Duties.{IsRequested};
 
@@ -57,14 +58,16 @@ fn converse<L: Ledger, R: Wait + Clock, D: Draws, M: Retention>(
     }
 }
 
-/// Serves one connection after another, as long as the limit allows. It fails where no more connections can be accepted.
+/// Serves one connection after another, as long as the limit allows: without a limit until no more connections can be accepted,
+/// which is the only error.
 pub fn serve_connections<L: Ledger, R: Wait + Clock, D: Draws, M: Retention>(
     rt: &R,
     alloc: Global,
     context: &Context<L>,
     client: &mut Client<'_, L, R, D, M>,
 ) -> io::Result<()>
-    ensures { Grows (IsRequested D.draws) client.old.taker.seat client.new.taker.seat }
+    ensures grows { Grows (IsRequested D.draws) client.old.taker.seat client.new.taker.seat }
+    ensures endless { IsNone context.now.accept_limit.left → IsErr result }
 {
     for _ in rt.forever() {
         if !context.accept_limit.take() {

@@ -1,6 +1,6 @@
 //! What each thread does.
 
-ghost use Rattle.std.specs.Prelude.{IfOk};
+ghost use Rattle.std.specs.Prelude.{IfOk, IsErr, IsNone};
 ghost use Rattle.ns_workers.specs.Growing.{Grows};
 ghost use Rattle.ns_listener.specs.Duties.{IsDue, IsRequested};
 
@@ -26,7 +26,7 @@ pub enum Duty<D> {
     Worker(u64),
 }
 
-/// Serves connections, and returns the seat.
+/// Serves connections, and returns the seat. Without a limit of connections it never does: it fails where none can be accepted.
 fn attend<L: Ledger, R: Wait + Clock, D: Draws + Drop, M: Retention>(
     rt: &R,
     alloc: Global,
@@ -34,7 +34,8 @@ fn attend<L: Ledger, R: Wait + Clock, D: Draws + Drop, M: Retention>(
     drawer: D,
     seat: Seat<L, M>,
 ) -> Result<Seat<L, M>, HostFault>
-    ensures { IfOk result (Grows (IsRequested D.draws) seat) }
+    ensures grows { IfOk result (Grows (IsRequested D.draws) seat) }
+    ensures endless { IsNone context.now.accept_limit.left → IsErr result }
 {
     let shared = context.shared;
     let mut client = Api::new(alloc, SharedSeat { rt, shared, seat }, drawer, NoFollower)?;

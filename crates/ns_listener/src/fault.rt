@@ -16,6 +16,10 @@ pub enum HostFault {
 }
 
 impl From<AllocError> for HostFault {
+    ghost use Rattle.ns_listener.specs.declared.fault.HostFault.TheVariants as HostFault;
+
+    ghost from_gives = { λ _ fault. fault ≡ HostFault.Memory };
+
     fn from(_: AllocError) -> HostFault {
         HostFault::Memory
     }

@@ -1,6 +1,7 @@
 //! A server on a TCP port.
 
-ghost use Rattle.std.specs.Prelude.{◌≡◌, ◌≢◌, ◌+◌, ◌&&◌, Err, IfOk, IsErr, IsNone, IsTrue, None, OnOk, Some};
+ghost use Rattle.std.specs.Prelude.{◌≡◌, ◌≢◌, ◌+◌, ◌&&◌, Err, IfOk, IsErr, IsErrOf, IsNone, IsOkAnd, IsTrue};
+ghost use Rattle.std.specs.Prelude.{None, OnOk, Some};
 ghost use Rattle.std.specs.Prelude.{is_none, is_some, not, vec_len};
 ghost use Rattle.ns_http.specs.declared.engine.ConnFault.{ConnFault};
 ghost use Rattle.ns_http.specs.declared.engine.ConnFault.TheVariants as ConnFaults;
@@ -8,7 +9,12 @@ ghost use Rattle.ns_faults.specs.Lines.{line_of, mismatch_line, status_of};
 ghost use Rattle.ns_listener.specs.Closing.{HasWritten, IsClosing, IsLeftBy};
 ghost use Rattle.ns_listener.specs.Opening.{begun_by};
 ghost use Rattle.ns_listener.specs.Ending.{EndsInPart, EndsSettled, EndsUnsettled, IsEnd, IsLastLine};
+ghost use Rattle.ns_log.specs.Segments.{joined};
+ghost use Rattle.ns_log.specs.Settling.{Settles};
+ghost use Rattle.ns_work_lock.specs.Ending.{held_of};
+ghost use Rattle.ns_listener.specs.Faults.{host_fault};
 ghost use Rattle.ns_listener.specs.Printing.{IsRunOf};
+ghost use Rattle.ns_listener.specs.declared.fault.HostFault.{HostFault};
 ghost use Rattle.ns_listener.specs.declared.fault.ServeFault.TheVariants as ServeFault;
 
 use crate::closing::{Closing, conclude, settle};
@@ -92,7 +98,13 @@ fn settled<L: Ledger, W: Drop>(alloc: Global, left: Left<L, W, Retains>) -> Clos
     ensures kept { IsLeftBy left.keeper result }
     ensures run { IfOk result.settled
         (IsRunOf left.keeper.secret left.keeper.segments.items) }
+    ensures log { IfOk result.settled (λ settled. settled.log
+        ≡ joined left.keeper.segments.items (held_of left.ended).log) }
+    ensures receipts { OnOk result.settled (IsOkAnd left.seats (λ seats. Settles
+        (joined left.keeper.segments.items (held_of left.ended).log) seats.items)) }
     ensures whole { OnOk result.settled (IsTrue left.keeper.is_whole) }
+    ensures fault { (fault : HostFault) → IsErrOf left.seats fault
+        → result.settled ≡ Err (host_fault fault) }
     ensures no_write { result.settled ≢ Err (ServeFault.Conn ConnFaults.Write) }
 {
     let Left {
@@ -124,6 +136,9 @@ fn settled<L: Ledger, W: Drop>(alloc: Global, left: Left<L, W, Retains>) -> Clos
 fn unsettled<L: Ledger, W: Drop>(left: Left<L, W, Forgets>) -> Closing<W>
     ensures kept { IsLeftBy left.keeper result }
     ensures none { IsErr result.settled }
+    ensures fault { (fault : HostFault) → IsErrOf left.seats fault
+        → result.settled ≡ Err (host_fault fault) }
+    ensures no_mismatch { result.settled ≢ Err ServeFault.Mismatch }
     ensures no_write { result.settled ≢ Err (ServeFault.Conn ConnFaults.Write) }
 {
     let Left {
