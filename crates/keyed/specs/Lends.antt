@@ -1,5 +1,5 @@
--- What a table ends as, where a `&mut` to a row is returned: the row at the key is the last one that was written
--- through it. Where there was no row, all stays.
+-- What becomes of a table that returns a `&mut` to a row: the row at the key is the last one that was written through it. If
+-- there was no row, the table stays as it is.
 use Rattle.std.specs.Prelude.{ℕ, Bool, List, Option, Some}
 use Rattle.std.specs.declared.cmp.Ordering.{Ordering}
 use Rattle.std.specs.Borrow.{LendsIf, Fml, RattleType, MutBor}

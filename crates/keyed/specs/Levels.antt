@@ -12,7 +12,7 @@ use Rattle.keyed.specs.declared.number_places.NumberPlaces.{NumberPlaces}
 use Rattle.keyed.specs.declared.place_set.PlaceSet.{PlaceSet}
 
 module _ {K I A : Type 0} {R : K → K → Ordering} where
-  -- what the set at the first part of the key says of the rest
+  -- what the set at the first part of the key says of the rest; false if there is no such set
   abbrev pub at_key : (I → A → Bool) → FinMap R (Option I) → K × A → Bool
   at_key says sets key = option_map_or (λ set. says set key.1) (row_at sets key.0) false
 
@@ -21,7 +21,7 @@ module _ {K A : Type 0} (R : K → K → Ordering) where
   same_by same a b = eq_by_cmp R a.0 b.0 && same a.1 b.1
 
 module _ {I A : Type 0} where
-  -- what the set at the key's name says of the rest of the key
+  -- what the set at the key's name says of the rest of the key; false if there is no such set
   abbrev pub at_name : (I → A → Bool) → ByName (Option I) → Name × A → Bool
   at_name says sets key = option_map_or (λ set. says set key.1) (row_at sets key.0) false
 
@@ -29,7 +29,7 @@ module _ {A : Type 0} where
   abbrev pub same_at : (A → A → Bool) → Name × A → Name × A → Bool
   same_at same a b = same_name a.0 b.0 && same a.1 b.1
 
--- ---- what a change of a set leaves, by what it holds and for what it has room
+-- ---- what a change of a set leaves: the keys that it holds, and its room
 
 module _ {I A : Type 0} (holds has_room : I → A → Bool) where
   -- the same keys, and no less room

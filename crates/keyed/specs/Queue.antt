@@ -1,4 +1,4 @@
--- Keys in their order, each at a place, and which can be added without memory.
+-- Queues of keys, each at a place, and which keys can be added without memory.
 use Rattle.std.specs.Prelude.{◌≡◌, ℕ, ◌+◌, ◌<◌, ◌≤◌, ◌^◌, Bool, false, IsTrue, List, [], ◌∷◌}
 use Rattle.std.specs.Prelude.{cond, filter, is_some, map, Option, Some, None}
 use Rattle.std.specs.FinMap.{entries}
@@ -17,7 +17,7 @@ use Rattle.ns_types.specs.State.Names.{Key, Name, has_key, same_key, same_number
 abbrev pub keys_in : List (ℕ × Option Key) → List Key
 keys_in slots = map (λ e. e.1) (row_list slots)
 
--- the key of a slot, where it passes the test
+-- the key of a slot, if it has one that passes the test
 abbrev pub passing_at : (Key → Bool) → ℕ × Option Key → List Key
 passing_at passes (place, None) = []
 passing_at passes (place, Some key) = filter passes (key ∷ [])
@@ -54,28 +54,28 @@ CanAdd keys q = HasRoomFrom q.next keys q.placed
 
 -- ---- what holds of every queue
 
--- the key stands there
+-- the key is at that place
 abbrev pub is_at : Key → Option Key → Bool
 is_at key stands = option_map_or (same_key key) stands false
 
 pub record IsPlaced (first next : ℕ) (placed : KeyPlaces) : Type 0 where
-  -- the set holds a key with a place exactly where the key stands there
+  -- the set holds a key with a place if and only if the key is at that place
   pub held : (key : Key) (n : ℕ) →
       holds_place placed.places (at key n) ≡ is_at key (row_at placed.keys n)
-  -- the places to come are behind
+  -- no key is at the next place or a later one
   pub behind : (n : ℕ) → next ≤ n → row_at placed.keys n ≡ None
-  -- the first is before the others, and where there is none, it is the next
+  -- no key is before the first place, and if no key is at it, it is the next place
   pub before : (n : ℕ) → n < first → row_at placed.keys n ≡ None
   pub at_first : row_at placed.keys first ≡ None → first ≡ next
 
--- ---- what a look-up answers
+-- ---- what a look-up returns
 
--- a place at which the set holds the key
+-- a place at which the set holds the key; none if there is no such place
 abbrev pub IsHeldAt : PlaceSet → Key → Option ℕ → Type 0
 IsHeldAt places key None = (n : ℕ) → holds_place places (at key n) ≡ false
 IsHeldAt places key (Some n) = IsTrue (holds_place places (at key n))
 
--- a place of the key, where it is in the queue
+-- a place of the key; none if the key is not in the queue
 abbrev pub IsPlaceOf : Key → KeyQueue → Option ℕ → Type 0
 IsPlaceOf key q None = has_key q.items key ≡ false
 IsPlaceOf key q (Some n) = IsTrue (has_key q.items key) × (row_at q.placed.keys n ≡ Some key)
@@ -102,18 +102,18 @@ pub record PutsKey (place : ℕ) (key : Key) (old new : KeyPlaces) : Type 0 wher
   pub slots : KeepsSlots old.keys new.keys
   pub places : Adds holds_place has_place_room same_place (at key place) old.places new.places
 
--- none is at this place afterwards
+-- no key is at this place afterwards
 pub record TakesKey (place : ℕ) (key : Key) (old new : KeyPlaces) : Type 0 where
   pub keys : (n : ℕ) → row_at new.keys n ≡ cond (same_number n place) None (row_at old.keys n)
   pub slots : KeepsSlots old.keys new.keys
   pub places : Drops holds_place has_place_room same_place (at key place) old.places new.places
 
--- there is no room for it at this place afterwards
+-- there is no room for the key at this place afterwards
 pub record ClearsRoom (place : ℕ) (key : Key) (old new : KeyPlaces) : Type 0 where
   pub keys : (n : ℕ) → row_at new.keys n ≡ row_at old.keys n
   pub places : Drops holds_place has_place_room same_place (at key place) old.places new.places
 
--- the others stay, in their order
+-- the other keys stay, in their order
 abbrev pub LeavesOthers : Key → List Key → List Key → Type 0
 LeavesOthers key old new =
     (passes : Key → Bool) → passes key ≡ false → filter passes new ≡ filter passes old

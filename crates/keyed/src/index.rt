@@ -1,4 +1,4 @@
-//! Where the keys of many slots stand.
+//! An index of many keys: the place of each.
 ghost use Rattle.std.specs.Prelude.{◌≡◌, None, IfSome, is_some};
 ghost use Rattle.std.specs.Bool.{OnTrue};
 ghost use Rattle.std.specs.List.{insert, position, remove};
@@ -11,17 +11,17 @@ use std::alloc::Global;
 use std::hash::Hash;
 use std::marker::Model;
 
-/// A key that can stand in an index.
+/// A key that can be in an index.
 pub(crate) trait IndexKey {
-    /// A copy for an index. There is none where no index is kept of such keys, or no memory is left.
+    /// A copy for an index. None if no index is kept of such keys, or no memory is left.
     fn index_copy(&self) -> Option<Self>
     where
         Self: Sized,
         ensures { IfSome result (λ key. key ≡ self.now) };
 }
 
-/// The keys of slots in their order, hashed, so that each is found at once. Or nothing is known: an index is kept as far as
-/// there is memory for it.
+/// The keys of slots in their order, hashed, so that each is found without a search. Or nothing is known: an index is kept as
+/// far as there is memory for it.
 #[derive(Drop)]
 pub(crate) struct KeyIndex<K: Eq + Hash> {
     keys: Option<Box<IndexSet<K>>>,
@@ -36,7 +36,7 @@ impl<K: Eq + Hash> Model for KeyIndex<K> {
     ghost view = { λ index. option_map (λ keys. keys.value.keys) index.keys };
 }
 
-/// The keys of the slots, or nothing where they can't be copied.
+/// The keys of the slots. None if they can't be copied.
 fn copied_keys<K: Eq + Hash + IndexKey + Drop, X>(
     alloc: Global,
     slots: &[(K, X)],
@@ -53,7 +53,7 @@ fn copied_keys<K: Eq + Hash + IndexKey + Drop, X>(
     Some(keys)
 }
 
-/// Puts a copy of the key at a place. Whether that was done.
+/// Puts a copy of the key at a place, and returns whether it did.
 fn put_key<K: Eq + Hash + IndexKey + Drop>(keys: &mut IndexSet<K>, place: usize, key: &K) -> bool
     ensures { OnTrue result (keys.new.keys ≡ insert keys.old.keys place key.now) }
 {
@@ -71,7 +71,7 @@ fn put_key<K: Eq + Hash + IndexKey + Drop>(keys: &mut IndexSet<K>, place: usize,
     true
 }
 
-/// Where the key stands among these. It is no part of a look-up where nothing is known, so that such a one is short.
+/// The place of the key among these. It is a function of its own, so that a look-up without an index stays short.
 #[inline(never)]
 fn place_of<K: Eq + Hash>(keys: &IndexSet<K>, key: &K) -> Option<usize>
     ensures { result ≡ position (K.eq key.now) keys.now.keys }
@@ -87,7 +87,7 @@ impl<K: Eq + Hash + IndexKey + Drop> KeyIndex<K> {
         KeyIndex { keys: None }
     }
 
-    /// The keys of the slots, as far as there is memory for them.
+    /// An index of the keys of the slots, if there is memory for it.
     pub(crate) fn of<X>(alloc: Global, slots: &[(K, X)]) -> KeyIndex<K>
         ensures { Knows result slots.now }
     {
@@ -105,7 +105,7 @@ impl<K: Eq + Hash + IndexKey + Drop> KeyIndex<K> {
         self.keys.is_some()
     }
 
-    /// Where the key stands, if anywhere, as far as that is known.
+    /// The place of the key, if it has one. None if nothing is known.
     pub(crate) fn find(&self, key: &K) -> Option<Option<usize>>
         ensures { result ≡ option_map (position (K.eq key.now)) self.now }
     {
@@ -115,7 +115,7 @@ impl<K: Eq + Hash + IndexKey + Drop> KeyIndex<K> {
         }
     }
 
-    /// Takes note of a key that was put at a place.
+    /// Adds a key that was put at a place. If it can't be added, nothing is known any more.
     pub(crate) fn insert(&mut self, place: usize, key: &K)
         ensures { Inserts place key.now self.old self.new }
     {
@@ -128,7 +128,7 @@ impl<K: Eq + Hash + IndexKey + Drop> KeyIndex<K> {
         }
     }
 
-    /// Takes note that the key at a place is gone.
+    /// Removes the key at a place.
     pub(crate) fn remove(&mut self, place: usize)
         ensures { self.new ≡ option_map (λ keys. remove keys place) self.old }
     {

@@ -69,7 +69,7 @@ impl KeyPlaces {
         self.keys.clear_slot(place);
     }
 
-    /// Takes the vacant slots away, where they are more than the keys.
+    /// Takes the vacant slots away, if they are more than the keys.
     pub(crate) fn compact(&mut self)
         ensures keys { (n : ℕ) → row_at self.new.keys n ≡ row_at self.old.keys n }
         ensures places { self.new.places ≡ self.old.places }

@@ -1,4 +1,4 @@
-//! Keys in their order.
+//! Queues of keys.
 
 ghost use Rattle.std.specs.Prelude.{◌≡◌, ℕ, ◌+◌, ◌<◌, ◌≤◌, ◌^◌, ◌++◌, ◌∷◌, [], Bool, IsTrue, List, OnOk};
 ghost use Rattle.std.specs.Prelude.{Some, filter, length, not, option_copied, slice_get};
@@ -16,11 +16,11 @@ use ns_types::text::Text;
 use std::alloc::{AllocError, Global};
 use std::marker::Model;
 
-/// Keys in their order, with room for more, which is made before it is needed. Each has a place, a number that rises
-/// along the queue and is given once; a key may stand at several. The places of a key are looked up.
+/// A queue of keys, with room for more, which is made before it is needed. Each entry has a place, a number that rises along
+/// the queue and is given once; a key may be at several places. A look-up finds the places of a key.
 pub struct KeyQueue {
     alloc: Global,
-    /// The place of the first key; the next place where there is none.
+    /// The place of the first key, or the next place if there is none.
     first: u64,
     /// The place that the next key gets.
     next: u64,
@@ -65,48 +65,49 @@ impl KeyQueue {
         }
     }
 
-    /// The places in their order, each with its key. A vacant one has none.
+    /// The places in their order, each with its key. A vacant slot has none.
     pub fn slots(&self) -> &[NumberSlot<EvalKey>]
         ensures { keys_in result.now ≡ self.now.items }
     {
         self.placed.keys.as_slice()
     }
 
-    /// How many keys there are. It goes through none.
+    /// How many keys there are. It reads no key.
     pub fn len(&self) -> usize
         ensures { result ≡ length self.now.items }
     {
         self.placed.keys.len()
     }
 
+    /// Whether there is no key.
     pub fn is_empty(&self) -> bool
         ensures { result ≡ is_empty self.now.items }
     {
         self.len() == 0
     }
 
-    /// The first key: a look-up.
+    /// The first key, by a look-up.
     pub fn first(&self) -> Option<&EvalKey>
         ensures { option_copied result ≡ slice_get self.now.items 0 }
     {
         self.placed.keys.get(self.first)
     }
 
-    /// The first place of the key: a look-up.
+    /// The first place of the key, by a look-up. None if it is not in the queue.
     fn place_of(&self, namespace: &Text, number: u64) -> Option<u64>
         ensures { IsPlaceOf (namespace.now, number) self.now result }
     {
         self.placed.places.first_of(namespace, number)
     }
 
-    /// Whether the key is among them: a look-up.
+    /// Whether the key is in the queue, by a look-up.
     pub fn has(&self, namespace: &Text, number: u64) -> bool
         ensures { result ≡ has_key self.now.items (namespace.now, number) }
     {
         self.place_of(namespace, number).is_some()
     }
 
-    /// The numbers of the namespace's keys, which rise, each with its places: a look-up.
+    /// The numbers of the namespace's keys, which rise, each with its places, by a look-up.
     pub fn numbers_of(&self, namespace: &Text) -> &[NumberSlot<NumberTable<()>>]
         ensures { (n : ℕ) → IsTrue (has_key self.now.items (namespace.now, n))
             → IsTrue (stands_in n result.now) }
@@ -114,7 +115,7 @@ impl KeyQueue {
         self.placed.places.numbers_of(namespace)
     }
 
-    /// Takes vacant slots away, where they are more than the keys.
+    /// Takes vacant slots away, if they are more than the keys.
     fn compact(&mut self)
         ensures items { self.new.items ≡ self.old.items }
         ensures next { self.new.next ≡ self.old.next }
@@ -132,9 +133,9 @@ impl KeyQueue {
         self.placed.reserve(self.alloc, place, key)
     }
 
-    /// Makes room for those keys. Want of memory is the only error, or of places: there are 2^64, each given once.
-    /// Where vacant slots are more than the keys, it takes them away first. Only then does it go through the keys, once
-    /// for at least as many that were taken out.
+    /// Makes room for these keys. The only errors are want of memory and want of places: there are 2^64, and each is given
+    /// once. If vacant slots are more than the keys, it takes them away first. Only then does it go through the keys, once for
+    /// at least as many keys that were taken out.
     pub fn reserve(&mut self, keys: &[EvalKey]) -> Result<(), AllocError>
         ensures items { self.new.items ≡ self.old.items }
         ensures ok { OnOk result (CanAdd keys.now self.new) }
@@ -163,7 +164,7 @@ impl KeyQueue {
         self.next += 1;
     }
 
-    /// Puts those keys at the end. It takes no memory, and looks at no other key.
+    /// Puts these keys at the end. It takes no memory, and reads no other key.
     pub fn append(&mut self, keys: Rows<EvalKey>)
         requires { CanAdd keys self.old }
         ensures { self.new.items ≡ self.old.items ++ keys }
@@ -173,8 +174,7 @@ impl KeyQueue {
         }
     }
 
-    /// Takes that key out of this place. Where it was the first, it goes on over the vacant slots to the next one that
-    /// has a key, and so over each slot once.
+    /// Takes the key out of this place. If it was the first, it goes on to the next key, over each vacant slot once.
     fn take_at(&mut self, place: u64, key: &EvalKey)
         requires { row_at self.old.placed.keys place ≡ Some key.now }
         ensures items { LeavesOthers key.now self.old.items self.new.items }
@@ -187,7 +187,7 @@ impl KeyQueue {
         }
     }
 
-    /// Takes that key out, wherever it stands.
+    /// Takes the key out of each of its places.
     fn take_key(&mut self, key: &EvalKey)
         ensures items { self.new.items ≡ filter (λ k. not (same_key k key.now)) self.old.items }
         ensures room { (more : List Key) → CanAdd more self.old → CanAdd more self.new }
@@ -197,8 +197,8 @@ impl KeyQueue {
         }
     }
 
-    /// Takes those keys out; room for others stays. It takes no memory, and looks at no other key: the slot of each that
-    /// is taken stays, vacant, and its places go from those of its namespace.
+    /// Takes these keys out; room for others stays. It takes no memory, and reads no other key: the slot of each key that goes
+    /// stays, vacant, and its places are removed from those of its namespace.
     pub fn take_out(&mut self, keys: &[EvalKey])
         ensures items { self.new.items ≡ filter (λ key. not (has_key keys.now key)) self.old.items }
         ensures room { (more : List Key) → CanAdd more self.old → CanAdd more self.new }
@@ -217,7 +217,7 @@ impl KeyQueue {
         self.placed.clear(place, key);
     }
 
-    /// Takes room for those keys away again, which `reserve` made. It looks at no other key.
+    /// Takes away again the room that `reserve` made for these keys. It reads no other key.
     pub fn clear_room(&mut self, keys: &[EvalKey])
         ensures { self.new.items ≡ self.old.items }
     {

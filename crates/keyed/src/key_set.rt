@@ -63,7 +63,7 @@ impl KeySet {
         }
     }
 
-    /// Makes a table for the name, unless it is there.
+    /// Makes a table for the name, unless there is one. Want of memory is the only error.
     fn open(&mut self, alloc: Global, name: &Text) -> Result<(), AllocError>
         ensures same { Keeps holds_key has_key_room self.old self.new }
         ensures ok { OnOk result (IsTrue (is_some (row_at self.new.numbers name.now))) }
@@ -87,7 +87,7 @@ impl KeySet {
         Ok(())
     }
 
-    /// Holds the key from now on. It takes no memory.
+    /// Adds the key. It takes no memory.
     pub fn insert(&mut self, name: &Text, number: u64)
         requires { IsTrue (has_key_room self.old (name.now, number)) }
         ensures { Adds holds_key has_key_room same_key (name.now, number) self.old self.new }
@@ -97,7 +97,7 @@ impl KeySet {
         }
     }
 
-    /// Holds the key no longer, and has no room for it. It takes no memory.
+    /// Removes the key, with the room for it. It takes no memory.
     pub fn remove(&mut self, name: &Text, number: u64)
         ensures { Drops holds_key has_key_room same_key (name.now, number) self.old self.new }
     {
@@ -110,7 +110,7 @@ impl KeySet {
         }
     }
 
-    /// Takes the room for the key away again, unless it holds the key.
+    /// Takes the room for the key away again, unless the set holds the key.
     pub fn clear(&mut self, name: &Text, number: u64)
         ensures held { (key : Key) → holds_key self.new key ≡ holds_key self.old key }
         ensures room { IsTrue (has_key_room self.new (name.now, number))

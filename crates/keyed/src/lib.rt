@@ -1,7 +1,6 @@
-//! Keeps tables by key, in plain sorted `Vec`s, which contracts see as finite maps from keys to slots. Where there are many names,
-//! an `indexmap` finds where each stands.
-//! A slot has a row, or is vacant: room for a row, made before it is needed. Sets of keys, and lists of keys that know which
-//! they have, stand here too.
+//! Keeps tables by key, in plain sorted `Vec`s, which contracts see as finite maps from keys to slots. If there are many
+//! names, an `indexmap` finds the place of each.
+//! A slot has a row, or is vacant: room for a row, made before it is needed. Sets and queues of keys are here too.
 #![tactic(auto)]
 
 mod index;

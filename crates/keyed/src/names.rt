@@ -11,10 +11,11 @@ use ns_types::text::Text;
 use std::alloc::{AllocError, Global};
 use std::marker::Model;
 
-/// A slot of a table by name: the name with its row, or with none where the slot is vacant.
+/// A slot of a table by name: the name with its row, or with none if the slot is vacant.
 pub type NameSlot<V> = (Text, Option<V>);
 
-/// A table by name: slots that have a row, or are vacant. A look-up among few is a binary search, among many it hashes the name.
+/// A table by name: slots that have a row, or are vacant. A look-up among few compares each name, and among many it hashes the
+/// name; without an index, for which there may be no memory, it is a binary search.
 pub struct NameTable<V> {
     slots: Slots<Text, V>,
 }
@@ -62,7 +63,7 @@ impl<V: Drop> NameTable<V> {
         self.slots.as_slice()
     }
 
-    /// A table of slots whose keys rise. Many names get an index, where there is memory for it.
+    /// A table of slots whose keys rise. Many names get an index, if there is memory for it.
     pub fn from_slots(slots: Vec<NameSlot<V>>) -> NameTable<V>
         requires { T (is_sorted name_cmp slots.items) }
         ensures { result ≡ from_sorted slots.items }
@@ -101,7 +102,7 @@ impl<V: Drop> NameTable<V> {
         self.slots.slot(key)
     }
 
-    /// The row at `key`, to be changed where it stands.
+    /// The row at `key`, to be changed in place.
     pub fn get_mut(&mut self, key: &Text) -> Option<&mut V>
         ensures* writes_back { sem 𝓛 (lends_at_name V.row self.entry key.now result) }
         ensures value { option_copied_mut result ≡ row_at self.old key.now }
@@ -109,15 +110,14 @@ impl<V: Drop> NameTable<V> {
         self.slots.get_mut(key)
     }
 
-    /// Whether a row at `key` needs no memory.
+    /// Whether there is a slot for `key`, so that a row there takes no memory.
     pub fn has_slot(&self, key: &Text) -> bool
         ensures { result ≡ has_slot self.now key.now }
     {
         self.slots.has_slot(key)
     }
 
-    /// Makes room for a row at `key`, unless it is there: the key is copied only where it is not.
-    /// Want of memory is the only error.
+    /// Makes a slot for a row at `key`, unless there is one: only then is the key copied. Want of memory is the only error.
     pub fn reserve(&mut self, key: &Text) -> Result<(), AllocError>
         ensures ok { OnOk result (self.new ≡ with_slot self.old key.now) }
         ensures err { OnErr result (self.new ≡ self.old) }
@@ -170,7 +170,7 @@ impl<V: Drop> NameTable<V> {
 
     // ---- changes: a slot with a row is the row's new value, a vacant one takes the row away
 
-    /// The row at `key` with those changes.
+    /// The row at `key` with those changes made.
     pub fn get_over<'a>(&'a self, changes: &'a NameTable<V>, key: &Text) -> Option<&'a V>
         ensures { option_copied result ≡ get (over (rows self.now) changes.now) key.now }
     {
@@ -180,7 +180,7 @@ impl<V: Drop> NameTable<V> {
         }
     }
 
-    /// Makes room for each changed row.
+    /// Makes room for each changed row. Want of memory is the only error.
     pub fn reserve_all(&mut self, changes: &NameTable<V>) -> Result<(), AllocError>
         ensures rows { rows self.new ≡ rows self.old }
         ensures room { OnOk result (HasRoomFor changes.now self.new) }

@@ -39,14 +39,14 @@ impl NumberPlaces {
         self.numbers.as_slice()
     }
 
-    /// The places of the number. A vacant slot is none.
+    /// The places of the number. A vacant slot is no place.
     pub(crate) fn places_of(&self, number: u64) -> Option<&NumberTable<()>>
         ensures { option_copied result ≡ row_at self.now.numbers number }
     {
         self.numbers.get(number)
     }
 
-    /// Makes a table for the number, unless it is there.
+    /// Makes a table for the number, unless there is one. Want of memory is the only error.
     fn open(&mut self, alloc: Global, number: u64) -> Result<(), AllocError>
         ensures same { Keeps holds_numbered has_numbered_room self.old self.new }
         ensures ok { OnOk result (IsTrue (is_some (row_at self.new.numbers number))) }
@@ -75,7 +75,7 @@ impl NumberPlaces {
         Ok(())
     }
 
-    /// Holds the place of the number from now on. It takes no memory.
+    /// Adds the place of the number. It takes no memory.
     pub(crate) fn insert(&mut self, number: u64, place: u64)
         requires { IsTrue (has_numbered_room self.old (number, place)) }
         ensures { Adds holds_numbered has_numbered_room same_numbered (number, place)
@@ -86,7 +86,7 @@ impl NumberPlaces {
         }
     }
 
-    /// Holds the place of the number no longer, and has no room for it. It takes no memory.
+    /// Removes the place of the number, with the room for it. It takes no memory.
     pub(crate) fn remove(&mut self, number: u64, place: u64)
         ensures { Drops holds_numbered has_numbered_room same_numbered (number, place)
             self.old self.new }

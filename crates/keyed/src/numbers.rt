@@ -11,11 +11,11 @@ use crate::slots::Slots;
 use std::alloc::{AllocError, Global};
 use std::marker::Model;
 
-/// A slot of a table by number: the number with its row, or with none where the slot is vacant.
+/// A slot of a table by number: the number with its row, or with none if the slot is vacant.
 pub type NumberSlot<V> = (u64, Option<V>);
 
-/// A table by number: slots that have a row, or are vacant. A look-up is a binary search, which begins where the number stands
-/// in a table whose numbers rise by one.
+/// A table by number: slots that have a row, or are vacant. A look-up is a binary search, which begins where the number would
+/// be if the numbers rose by one.
 pub struct NumberTable<V> {
     slots: Slots<u64, V>,
 }
@@ -42,7 +42,7 @@ impl<V> Model for NumberTable<V> {
     ghost invariant = { λ t. T (is_sorted nat_cmp t.slots) };
 }
 
-/// The number of the first row from `from` on, where the slots before `start` have smaller numbers.
+/// The number of the first row from `from` on, if the slots before `start` have smaller numbers.
 fn row_from<V>(slots: &[NumberSlot<V>], start: usize, from: u64) -> Option<u64>
     requires sorted { T (is_sorted nat_cmp slots.now) }
     requires start { Passed nat_cmp from slots.now start }
@@ -112,7 +112,7 @@ impl<V: Drop> NumberTable<V> {
         self.slots.get(&key)
     }
 
-    /// The number of the first row from `from` on. It looks up where that stands, and goes over vacant slots.
+    /// The number of the first row from `from` on. It looks up the place of `from`, and goes over vacant slots.
     pub fn next_row(&self, from: u64) -> Option<u64>
         ensures { IsNextRow self.now from result }
     {
@@ -127,7 +127,7 @@ impl<V: Drop> NumberTable<V> {
         self.slots.slot(&key)
     }
 
-    /// The row at `key`, to be changed where it stands.
+    /// The row at `key`, to be changed in place.
     pub fn get_mut(&mut self, key: u64) -> Option<&mut V>
         ensures* writes_back { sem 𝓛 (lends_at_number V.row self.entry key result) }
         ensures value { option_copied_mut result ≡ row_at self.old key }
@@ -135,14 +135,14 @@ impl<V: Drop> NumberTable<V> {
         self.slots.get_mut(&key)
     }
 
-    /// Whether a row at `key` needs no memory.
+    /// Whether there is a slot for `key`, so that a row there takes no memory.
     pub fn has_slot(&self, key: u64) -> bool
         ensures { result ≡ has_slot self.now key }
     {
         self.slots.has_slot(&key)
     }
 
-    /// Makes room for a row at `key`, unless it is there. Want of memory is the only error.
+    /// Makes a slot for a row at `key`, unless there is one. Want of memory is the only error.
     pub fn reserve(&mut self, key: u64) -> Result<(), AllocError>
         ensures ok { OnOk result (self.new ≡ with_slot self.old key) }
         ensures err { OnErr result (self.new ≡ self.old) }
@@ -159,7 +159,7 @@ impl<V: Drop> NumberTable<V> {
         self.slots.set(&key, row);
     }
 
-    /// Puts a row at `key`, unless one is there. Want of memory is the only error.
+    /// Puts a row at `key`, unless there is one. Want of memory is the only error.
     pub fn add(&mut self, key: u64, row: V) -> Result<(), AllocError>
         ensures ok { OnOk result (self.new ≡ added self.old key row) }
         ensures err { OnErr result (self.new ≡ self.old) }
@@ -200,7 +200,7 @@ impl<V: Drop> NumberTable<V> {
 
     // ---- changes: a slot with a row is the row's new value, a vacant one takes the row away
 
-    /// The row at `key` with those changes.
+    /// The row at `key` with those changes made.
     pub fn get_over<'a>(&'a self, changes: &'a NumberTable<V>, key: u64) -> Option<&'a V>
         ensures { option_copied result ≡ get (over (rows self.now) changes.now) key }
     {
@@ -210,7 +210,7 @@ impl<V: Drop> NumberTable<V> {
         }
     }
 
-    /// Makes room for each changed row.
+    /// Makes room for each changed row. Want of memory is the only error.
     pub fn reserve_all(&mut self, changes: &NumberTable<V>) -> Result<(), AllocError>
         ensures rows { rows self.new ≡ rows self.old }
         ensures room { OnOk result (HasRoomFor changes.now self.new) }

@@ -1,4 +1,4 @@
-//! Tables by name of owners, which know whether the counter of one may be at its bound.
+//! Tables of owners by name. Each knows whether the counter of one of its owners may be at its bound.
 
 ghost use Rattle.std.specs.Prelude.{◌≡◌, Bool, IsTrue, OnErr, OnOk, false, option_copied};
 ghost use Rattle.std.specs.List.{list_any};
@@ -21,12 +21,11 @@ pub trait Bounded {
         ensures { result ≡ at_bound self.now };
 }
 
-/// A table by name of rows with a counter. It remembers whether it ever was given a row whose counter is at its bound, so
-/// it lends none out to be changed where it stands.
+/// A table by name of rows with a counter. It remembers whether it was ever given a row whose counter is at its bound, so it
+/// lends out no row to be changed in place.
 pub struct OwnerTable<V: Bounded> {
     table: NameTable<V>,
-    /// It is never taken back, not even where the row goes: an owner whose counter is at its bound can do next to nothing
-    /// any more.
+    /// Once true it stays true, even if the row goes: an owner whose counter is at its bound can do next to nothing any more.
     ever_at_bound: bool,
 }
 
@@ -93,7 +92,7 @@ impl<V: Bounded + Drop> OwnerTable<V> {
         }
     }
 
-    /// The slots, to be looked at.
+    /// The slots, for reading.
     pub fn as_table(&self) -> &NameTable<V>
         ensures { result.now ≡ self.now }
     {
@@ -107,7 +106,7 @@ impl<V: Bounded + Drop> OwnerTable<V> {
         self.table.as_slice()
     }
 
-    /// Whether a row may be at its bound: if not, none is. That is one look, however many rows there are.
+    /// Whether a row may be at its bound: if it returns false, none is. It reads no row.
     pub fn may_be_at_bound(&self) -> bool
         ensures { result ≡ false → NoneAtBound V.at_bound self.now }
     {
@@ -121,8 +120,7 @@ impl<V: Bounded + Drop> OwnerTable<V> {
         self.table.get(key)
     }
 
-    /// Makes room for a row at `key`, unless it is there: the key is copied only where it is not.
-    /// Want of memory is the only error.
+    /// Makes a slot for a row at `key`, unless there is one: only then is the key copied. Want of memory is the only error.
     pub fn reserve(&mut self, key: &Text) -> Result<(), AllocError>
         ensures ok { OnOk result (self.new ≡ with_slot self.old key.now) }
         ensures err { OnErr result (self.new ≡ self.old) }

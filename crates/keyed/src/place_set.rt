@@ -29,7 +29,7 @@ impl PlaceSet {
         }
     }
 
-    /// The first place of the key: a look-up.
+    /// The first place of the key, by a look-up. None if it has none.
     pub(crate) fn first_of(&self, name: &Text, number: u64) -> Option<u64>
         ensures { IsHeldAt self.now (name.now, number) result }
     {
@@ -49,7 +49,7 @@ impl PlaceSet {
         }
     }
 
-    /// Makes a set for the name, unless it is there.
+    /// Makes a set for the name, unless there is one. Want of memory is the only error.
     fn open(&mut self, alloc: Global, name: &Text) -> Result<(), AllocError>
         ensures same { Keeps holds_place has_place_room self.old self.new }
         ensures ok { OnOk result (IsTrue (is_some (row_at self.new.names name.now))) }
@@ -80,7 +80,7 @@ impl PlaceSet {
         Ok(())
     }
 
-    /// Holds the place of the key from now on. It takes no memory.
+    /// Adds the place of the key. It takes no memory.
     pub(crate) fn insert(&mut self, name: &Text, number: u64, place: u64)
         requires { IsTrue (has_place_room self.old (name.now, (number, place))) }
         ensures { Adds holds_place has_place_room same_place (name.now, (number, place))
@@ -91,7 +91,7 @@ impl PlaceSet {
         }
     }
 
-    /// Holds the place of the key no longer, and has no room for it. It takes no memory.
+    /// Removes the place of the key, with the room for it. It takes no memory.
     pub(crate) fn remove(&mut self, name: &Text, number: u64, place: u64)
         ensures { Drops holds_place has_place_room same_place (name.now, (number, place))
             self.old self.new }

@@ -61,7 +61,7 @@ impl<T: Drop> Series<T> {
         self.rows.push_reserved(row);
     }
 
-    /// Only the rows stay for which the closure answers true, in their order. It takes no memory.
+    /// Keeps the rows for which the closure returns true, in their order, and drops the others. It takes no memory.
     pub fn retain<F: FnMut(&T) -> bool>(&mut self, keeps: F)
         requires { F.IsAlwaysCallable keeps }
         ensures items { IsFiltered (CalledAt F.FnMut) keeps self.old.items self.new.items }

@@ -12,10 +12,10 @@ use std::cmp::Ordering;
 use std::hash::Hash;
 use std::marker::Model;
 
-/// From so many slots on an index of their keys is kept.
+/// With this many slots or more, an index of their keys is kept.
 const MANY: usize = 16;
 
-/// The slots of a table in the order of their keys, with the number of those that have a row, and an index where they are many.
+/// The slots of a table in the order of their keys, with the number of those that have a row, and an index if they are many.
 #[derive(Drop)]
 pub(crate) struct Slots<K: Ord + Hash, V> {
     slots: Vec<(K, Option<V>)>,
@@ -34,16 +34,16 @@ impl<K: Ord + Hash, V> Model for Slots<K, V> {
     ghost invariant = { λ a. IsTable K.cmp a.slots.items a.filled × Knows a.index a.slots.items };
 }
 
-/// A key that tells where it most likely stands among others.
+/// A key from which its place among others can be guessed.
 pub(crate) trait SlotKey {
-    /// The slot to look at first, of so many whose keys rise from `least` on. Any answer serves; a good one saves steps.
+    /// The slot to compare first, of `count` slots whose keys rise from `least` on. Any will do; a good guess saves steps.
     fn guess(&self, least: &Self, count: usize) -> usize;
 
-    /// Fewer slots than so many are gone through one after the other.
+    /// With fewer slots than this, a look-up goes through them one after the other.
     fn few() -> usize;
 }
 
-/// Numbers that are given one after the other stand side by side, and the next one belongs behind the last.
+/// Numbers that are given one after the other have neighbouring slots, and the next number belongs after the last.
 impl SlotKey for u64 {
     fn guess(&self, least: &u64, count: usize) -> usize {
         let ahead = self.saturating_sub(*least);
@@ -58,7 +58,7 @@ impl SlotKey for u64 {
     }
 }
 
-/// Whether two texts are the same is known sooner than which of them comes first.
+/// It takes less to see whether two texts are equal than which of them comes first.
 impl SlotKey for Text {
     fn guess(&self, _least: &Text, count: usize) -> usize {
         count / 2
@@ -69,7 +69,7 @@ impl SlotKey for Text {
     }
 }
 
-/// A number is found by its guess.
+/// No index is kept of numbers: their guess finds them.
 impl IndexKey for u64 {
     fn index_copy(&self) -> Option<u64> {
         None
@@ -89,7 +89,7 @@ fn guess_in<K: SlotKey, X>(slots: &[(K, X)], key: &K) -> usize {
     }
 }
 
-/// The guess, where it is between the two, or else their middle.
+/// The guess, if it is at least `low` and below `high`, or else their middle.
 fn between(low: usize, high: usize, guess: usize) -> usize
     requires { low < high }
     ensures least { low ≤ result }
@@ -102,14 +102,14 @@ fn between(low: usize, high: usize, guess: usize) -> usize
     }
 }
 
-/// Where the slot of `key` stands, found by a comparison with each key.
+/// The place of the slot of `key`, found by a comparison with each key.
 fn place_among<K: Eq, X>(slots: &[(K, X)], key: &K) -> Option<usize>
     ensures { result ≡ position (λ slot. K.eq key.now slot.0) slots.now }
 {
     slots.iter().position(|slot| *key == slot.0)
 }
 
-/// Where the slot of `key` stands, or where it belongs: a binary search that begins at the key's guess.
+/// The place of the slot of `key`, or, as the error, where it belongs: a binary search that begins at the key's guess.
 fn place_in<K: Ord + SlotKey, X>(slots: &[(K, X)], key: &K) -> Result<usize, usize>
     requires { T (is_sorted K.cmp slots.now) }
     ensures { Placed K.cmp key.now slots.now result }
@@ -141,7 +141,7 @@ fn count_rows<K, V>(slots: &[(K, Option<V>)]) -> usize
     count
 }
 
-/// The index of many slots.
+/// An index of the keys of the slots, if they are many.
 fn index_of<K: Eq + Hash + IndexKey + Drop, V>(slots: &Vec<(K, Option<V>)>) -> KeyIndex<K>
     ensures { Knows result slots.now.items }
 {
@@ -152,8 +152,7 @@ fn index_of<K: Eq + Hash + IndexKey + Drop, V>(slots: &Vec<(K, Option<V>)>) -> K
     }
 }
 
-/// Keeps what is known of the keys, once a slot was put at `place`. Where nothing is known, an index is made when the slots have
-/// become twice as many.
+/// Adds the slot that was put at `place` to the index. Without an index, one is made if the number of slots is a power of two.
 fn note_slot<K: Eq + Hash + IndexKey + Drop, V>(
     known: &mut KeyIndex<K>,
     slots: &Vec<(K, Option<V>)>,
@@ -191,7 +190,7 @@ impl<K: Ord + Hash + SlotKey + IndexKey + Drop, V: Drop> Slots<K, V> {
         self.slots.as_slice()
     }
 
-    /// Slots whose keys rise.
+    /// A table of these slots, whose keys rise.
     pub(crate) fn from_slots(slots: Vec<(K, Option<V>)>) -> Slots<K, V>
         requires { T (is_sorted K.cmp slots.items) }
         ensures { result ≡ slots.items }
@@ -219,7 +218,8 @@ impl<K: Ord + Hash + SlotKey + IndexKey + Drop, V: Drop> Slots<K, V> {
         self.filled
     }
 
-    /// Where the slot of `key` stands, if anywhere, where no search is needed: among few, or by the index.
+    /// The place of the slot of `key`, if it has one, found without a binary search: the slots are few, or have an index. None
+    /// if such a search is needed.
     fn known(&self, key: &K) -> Option<Option<usize>>
         ensures { IfSome result (λ found. Found K.cmp key.now self.now found) }
     {
@@ -229,7 +229,7 @@ impl<K: Ord + Hash + SlotKey + IndexKey + Drop, V: Drop> Slots<K, V> {
         self.index.find(key)
     }
 
-    /// Where the slot of `key` stands, or where it belongs.
+    /// The place of the slot of `key`, or, as the error, the place where it belongs.
     fn place(&self, key: &K) -> Result<usize, usize>
         ensures { Placed K.cmp key.now self.now result }
     {
@@ -239,7 +239,7 @@ impl<K: Ord + Hash + SlotKey + IndexKey + Drop, V: Drop> Slots<K, V> {
         place_in(self.slots.as_slice(), key)
     }
 
-    /// Where the slot of `key` stands.
+    /// The place of the slot of `key`.
     fn find(&self, key: &K) -> Option<usize>
         ensures { Found K.cmp key.now self.now result }
     {
@@ -287,7 +287,7 @@ impl<K: Ord + Hash + SlotKey + IndexKey + Drop, V: Drop> Slots<K, V> {
         }
     }
 
-    /// The row at `key`, to be changed where it stands.
+    /// The row at `key`, to be changed in place.
     pub(crate) fn get_mut(&mut self, key: &K) -> Option<&mut V>
         ensures* writes_back { sem 𝓛
             (lends_at_key K.row V.row K.Ord K.hash_input self.entry key.now result) }
@@ -303,7 +303,7 @@ impl<K: Ord + Hash + SlotKey + IndexKey + Drop, V: Drop> Slots<K, V> {
         slot.1.as_mut()
     }
 
-    /// Makes room for a row at `key`, unless it is there.
+    /// Makes a slot for a row at `key`, unless there is one. Want of memory is the only error.
     pub(crate) fn reserve(&mut self, key: K) -> Result<(), AllocError>
         ensures ok { OnOk result (self.new ≡ with_slot K.cmp key self.old) }
         ensures err { OnErr result (self.new ≡ self.old) }
@@ -328,7 +328,7 @@ impl<K: Ord + Hash + SlotKey + IndexKey + Drop, V: Drop> Slots<K, V> {
         }
     }
 
-    /// Puts a row at `key`, unless one is there.
+    /// Puts a row at `key`, unless there is one. Want of memory is the only error.
     pub(crate) fn add(&mut self, key: K, row: V) -> Result<(), AllocError>
         ensures ok { OnOk result (self.new ≡ added K.cmp key row self.old) }
         ensures err { OnErr result (self.new ≡ self.old) }

@@ -16,7 +16,7 @@ use Rattle.ns_types.specs.State.Tables.{table_of}
 
 -- ---- the entries
 
--- the entry without what it waits for
+-- the entry as its group has it, without what it waits for
 abbrev pub row_of : BlockedEvaluation → Waiting
 row_of e = record { key = e.key; escapes = e.escapes; infeasible = e.infeasible }
 
@@ -34,7 +34,7 @@ entry_at index place = entry_in index.groups place (row_at index.waits place)
 unfoldable pub by_place : Index → ByNumber BlockedEvaluation
 by_place index = rows (table_of (λ place _. entry_at index place) index.waits)
 
--- the index of the entries, and the first place that none has had yet
+-- the index of the entries, and the next place, which no entry has had yet
 pub record BlockedList : Type 0 where
   pub index : Index
   pub next : ℕ
@@ -46,18 +46,18 @@ entries_of b = values (by_place b.index)
 abbrev pub keys_of : BlockedList → List Key
 keys_of b = map (λ e. e.key) (entries_of b)
 
--- those that wait for it, in their order, with their places
+-- the entries that wait for this quota or pool, by place, which is the list's order
 abbrev pub waiting_for : Waits → BlockedList → List (ℕ × Waiting)
 waiting_for waits b = map (λ e. (e.0, row_of e.1)) (filter (λ e. same_waits waits e.1.waits) (entries (by_place b.index)))
 
--- none of the entries' keys is among those, and none comes twice
+-- none of the entries has one of these keys, and no two of them have the same key
 abbrev pub are_new : List Key → List BlockedEvaluation → Bool
 are_new keys [] = true
 are_new keys (e ∷ es) = not (has_key keys e.key) && are_new (keys ++ e.key ∷ []) es
 
 -- ---- room
 
--- the entry can be put at this place without memory
+-- putting the entry at this place takes no memory
 pub record HasRoomAt (place : ℕ) (e : BlockedEvaluation) (index : Index) : Type 0 where
   pub waits : IsTrue (has_slot index.waits place)
   pub group : IsTrue (group_room index.groups e.waits place)
@@ -67,24 +67,24 @@ abbrev pub HasRoomFrom : ℕ → List BlockedEvaluation → Index → Type 0
 HasRoomFrom place [] index = Unit {0}
 HasRoomFrom place (e ∷ es) index = (place + 1 < 2 ^ 64) × HasRoomAt place e index × HasRoomFrom (place + 1) es index
 
--- the entries can be appended without memory
+-- appending the entries takes no memory, and a place is left for each
 abbrev pub CanAdd : List BlockedEvaluation → BlockedList → Type 0
 CanAdd es b = HasRoomFrom b.next es b.index
 
 -- ---- what holds of every list
 
--- the entry's row, where it waits for that
+-- the entry's row in a group: it is there if the entry waits for the group's quota or pool
 abbrev pub row_for : Waits → Option BlockedEvaluation → Option Waiting
 row_for waits None = None
 row_for waits (Some e) = cond (same_waits waits e.waits) (Some (row_of e)) None
 
 pub record IsIndexed (index : Index) (next : ℕ) : Type 0 where
-  -- a group has those that wait for it, at their places
+  -- each group has exactly the entries that wait for its quota or pool, at their places
   pub grouped : (waits : Waits) (n : ℕ) → group_row index.groups waits n ≡ row_for waits (entry_at index n)
-  -- each is found by its key, and no other key has a place
+  -- the index by key finds each entry's place, and has no other place
   pub placed : (n : ℕ) (e : BlockedEvaluation) → entry_at index n ≡ Some e → row_in index.places e.key ≡ Some n
   pub there : (key : Key) (n : ℕ) → row_in index.places key ≡ Some n → option_map (λ e. e.key) (entry_at index n) ≡ Some key
-  -- the places to come are behind
+  -- each entry's place is before the next place
   pub before : (n : ℕ) (e : BlockedEvaluation) → entry_at index n ≡ Some e → n < next
 
 -- ---- what a change leaves
@@ -99,7 +99,7 @@ pub record KeepsIndexRoom (old new : Index) : Type 0 where
   pub groups : KeepsGroupRoom old.groups new.groups
   pub keys : by_key.KeepsRoom old.places new.places
 
--- the room of all places but one
+-- room is kept at all places but one, and for all keys
 pub record KeepsRoomBut (at : ℕ) (old new : Index) : Type 0 where
   pub waits : (n : ℕ) → IsTrue (has_slot old.waits n) → IsTrue (has_slot new.waits n)
   pub groups : (waits : Waits) (n : ℕ) → same_number n at ≡ false →

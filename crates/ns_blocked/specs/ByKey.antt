@@ -17,7 +17,7 @@ module _ {V : Type 0} where
   abbrev pub row_in : ByKey V → Key → Option V
   row_in rows key = option_map_or (λ numbers. row_at numbers key.1) (row_at rows key.0) None
 
-  -- whether a row at the key needs no memory
+  -- whether putting a row at the key takes no memory
   abbrev pub has_room : ByKey V → Key → Bool
   has_room rows key = option_map_or (λ numbers. has_slot numbers key.1) (row_at rows key.0) false
 
@@ -29,7 +29,7 @@ module _ {V : Type 0} where
   abbrev pub KeepsRoom : ByKey V → ByKey V → Type 0
   KeepsRoom old new = (key : Key) → IsTrue (has_room old key) → IsTrue (has_room new key)
 
-  -- this row is at the key, or none, and the others stay
+  -- afterwards the row is at the key (or no row is), and all other rows stay
   abbrev pub WritesRow : Key → Option V → ByKey V → ByKey V → Type 0
   WritesRow at row old new = (key : Key) → row_in new key ≡ cond (same_key key at) row (row_in old key)
 

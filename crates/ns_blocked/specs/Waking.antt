@@ -21,16 +21,16 @@ use Rattle.ns_types.specs.State.Lists.{is_empty}
 use Rattle.ns_types.specs.State.Names.{Key, Name, has_class, has_key, has_number}
 use Rattle.ns_types.specs.State.Rows.{PoolRows, World, evaluation_at}
 
--- ---- whom a release wakes
+-- ---- which entries a release wakes
 
--- it escapes classes, or did not find this one infeasible
+-- the evaluation escapes classes, or did not find this class infeasible
 abbrev pub can_use : Waiting → Class → Bool
 can_use row class = row.escapes || not (has_class row.infeasible class)
 
 abbrev pub can_use_any : List Class → Waiting → Bool
 can_use_any classes row = list_any (can_use row) classes
 
--- the same of a slot of those that wait
+-- whether a slot has an evaluation that can use one of the classes
 abbrev pub is_usable : List Class → Option Waiting → Bool
 is_usable classes slot = option_map_or (can_use_any classes) slot false
 
@@ -42,19 +42,19 @@ wakes_of_quota quota e = same_waits (Quota quota) e.waits
 abbrev pub wakes_of_pool : Name → List Class → BlockedEvaluation → Bool
 wakes_of_pool pool classes e = same_waits (Pool pool) e.waits && can_use_any classes (row_of e)
 
--- some released quota or pool wakes it
+-- a released quota or pool wakes the entry
 abbrev pub is_woken : Releases → BlockedEvaluation → Bool
 is_woken r e = list_any (λ quota. wakes_of_quota quota e) r.quotas
     || list_any (λ p. wakes_of_pool p.pool p.classes e) r.pools
 
--- the keys of the entries that pass, in their order, and the other entries
+-- the keys of the entries that pass, in the list's order; and the entries that do not pass
 abbrev pub keys_of_passing : (BlockedEvaluation → Bool) → List BlockedEvaluation → List Key
 keys_of_passing passes es = map (λ e. e.key) (filter passes es)
 
 abbrev pub without_passing : (BlockedEvaluation → Bool) → List BlockedEvaluation → List BlockedEvaluation
 without_passing passes es = filter (λ e. not (passes e)) es
 
--- those that the releases wake
+-- the keys of the entries that the releases wake
 abbrev pub woken_by : Releases → List BlockedEvaluation → List Key
 woken_by r es = keys_of_passing (is_woken r) es
 
@@ -63,7 +63,7 @@ woken_by r es = keys_of_passing (is_woken r) es
 abbrev pub released_pool : World → World → Name → PoolRows → ReleasedPool
 released_pool w w' name pool = record { pool = name; classes = released_classes w w' name pool }
 
--- each pool that has a released class, with these, and the released quotas
+-- each pool that has released classes, with these classes, and the released quotas
 unfoldable pub released : World → World → Releases
 released w w' = record {
   pools = filter (λ p. not (is_empty p.classes)) (map (λ e. released_pool w w' e.0 e.1) (entries w'.pools));
@@ -72,18 +72,18 @@ released w w' = record {
 
 -- ---- the entries of a world
 
--- the quota that limits it, or else its pool
+-- the quota that limits the evaluation, or else its pool
 abbrev pub waits_of : Evaluation → Waits
 waits_of e = option_map_or Quota e.quota (Pool e.pool)
 
 abbrev pub entry_of : Key → Evaluation → BlockedEvaluation
 entry_of key e = record { key = key; waits = waits_of e; escapes = e.escapes; infeasible = e.infeasible }
 
--- the entries of `blocked`, in their order
+-- the world's blocked evaluations as entries, in the list's order
 abbrev pub entries_in : World → List BlockedEvaluation
 entries_in w = filter_map (λ key. option_map (entry_of key) (evaluation_at w key)) w.blocked
 
--- those that are there before the step and after its own change
+-- the entries that are there before the step and after its own change
 abbrev pub entries_still_in : World → World → List BlockedEvaluation
 entries_still_in w w' = filter (λ e. has_key w'.blocked e.key) (entries_in w)
 
@@ -92,32 +92,32 @@ entries_still_in w w' = filter (λ e. has_key w'.blocked e.key) (entries_in w)
 abbrev pub passes_at : (BlockedEvaluation → Bool) → Option BlockedEvaluation → Bool
 passes_at passes e = option_map_or passes e false
 
--- at exactly these places the entry passes
+-- these are the places of exactly the entries that pass
 abbrev pub ArePassing : (BlockedEvaluation → Bool) → Index → List ℕ → Type 0
 ArePassing passes index places = (n : ℕ) → has_number places n ≡ passes_at passes (entry_at index n)
 
--- the keys of those that pass, where the places are theirs
+-- if these are the places of the entries that pass, these are their keys
 abbrev pub AreKeysAt : List ℕ → BlockedList → List Key → Type 0
 AreKeysAt places b keys = (passes : BlockedEvaluation → Bool) → ArePassing passes b.index places →
     keys ≡ keys_of_passing passes (entries_of b)
 
--- the list without those that pass, where the places are theirs
+-- if these are the places of the entries that pass, the list has all entries but those
 abbrev pub IsLeftWithout : List ℕ → BlockedList → BlockedList → Type 0
 IsLeftWithout places old new = (passes : BlockedEvaluation → Bool) → ArePassing passes old.index places →
     entries_of new ≡ without_passing passes (entries_of old)
 
--- an entry is at each of the places
+-- each of these places has an entry
 abbrev pub ArePresent : List ℕ → Index → Type 0
 ArePresent places index = (n : ℕ) → IsTrue (has_number places n) → IsTrue (is_some (entry_at index n))
 
--- the places that are among them before, and these as well
+-- the places that were there before, and those that pass as well
 abbrev pub AddsPlaces : (ℕ → Bool) → List ℕ → List ℕ → Type 0
 AddsPlaces more old new = (n : ℕ) → has_number new n ≡ (has_number old n || more n)
 
--- at this place one waits for the quota
+-- an entry waits for the quota at this place
 abbrev pub is_of_quota : Groups → ℕ → Name → Bool
 is_of_quota groups n quota = is_some (group_row groups (Quota quota) n)
 
--- at this place one waits for the pool that can use one of the classes
+-- an entry that waits for the pool at this place can use one of the classes
 abbrev pub is_of_pool : Groups → ℕ → Name → List Class → Bool
 is_of_pool groups n pool classes = is_usable classes (group_row groups (Pool pool) n)

@@ -22,7 +22,7 @@ pub(crate) fn get_row<'a, V: Drop>(rows: &'a ByKey<V>, name: &Text, number: u64)
     }
 }
 
-/// The slots at the name with their numbers, which rise.
+/// The slots under the name, by rising number.
 pub(crate) fn slots_of<'a, V: Drop>(rows: &'a ByKey<V>, name: &Text) -> &'a [NumberSlot<V>]
     ensures { result.now ≡ entries (numbers_of rows.now name.now) }
 {
@@ -84,7 +84,8 @@ pub(crate) fn vacate_row<V: Drop>(rows: &mut ByKey<V>, name: &Text, number: u64)
     }
 }
 
-/// Takes the row at the key out with its room, and a table that has no slot left. It takes no memory.
+/// Takes the row at the key out together with its room, and drops a table that has no slot left. Returns the row, if there was
+/// one. It takes no memory.
 pub(crate) fn remove_row<V: Drop>(rows: &mut ByKey<V>, name: &Text, number: u64) -> Option<V>
     ensures row { result ≡ row_in rows.old (name.now, number) }
     ensures rows { WritesRow (name.now, number) None rows.old rows.new }
@@ -101,7 +102,7 @@ pub(crate) fn remove_row<V: Drop>(rows: &mut ByKey<V>, name: &Text, number: u64)
     row
 }
 
-/// Takes the room for a row at the key away again, unless the row is there.
+/// Gives the room for a row at the key back, unless the row is there.
 pub(crate) fn clear_row<V: Drop>(rows: &mut ByKey<V>, name: &Text, number: u64)
     ensures { KeepsRows rows.old rows.new }
 {

@@ -1,4 +1,4 @@
-//! Which classes an entry can use.
+//! Which classes a blocked evaluation can use.
 
 ghost use Rattle.std.specs.Prelude.{◌≡◌};
 ghost use Rattle.ns_blocked.specs.Waking.{can_use, can_use_any, is_usable};
@@ -26,7 +26,7 @@ fn can_use_any(row: &Waiting, classes: &[Class]) -> bool
     classes.iter().any(|class| can_use(row, class))
 }
 
-/// Whether room on nodes of these classes may serve the one that waits. A vacant slot is none.
+/// Whether the blocked evaluation can use room on a node of one of these classes. A vacant slot cannot.
 pub(crate) fn is_usable(slot: &Option<Waiting>, classes: &[Class]) -> bool
     ensures { result ≡ is_usable classes.now slot.now }
 {

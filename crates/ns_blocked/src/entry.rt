@@ -1,4 +1,4 @@
-//! An entry of the list, what it waits for, and which classes wake it.
+//! A blocked evaluation, what it waits for, and which classes wake it.
 
 use ns_types::key::EvalKey;
 use ns_types::node::Class;
@@ -17,13 +17,13 @@ pub enum Waits {
 pub struct BlockedEvaluation {
     pub key: EvalKey,
     pub waits: Waits,
-    /// Each class wakes it.
+    /// Whether every class wakes it.
     pub escapes: bool,
-    /// These do not wake it, unless it escapes.
+    /// The classes that do not wake it, unless `escapes` holds.
     pub infeasible: Rows<Class>,
 }
 
-/// An entry among those that wait for the same.
+/// A blocked evaluation as the index has it under the quota or the pool that it waits for.
 #[derive(Drop)]
 pub struct Waiting {
     pub key: EvalKey,

@@ -1,4 +1,4 @@
-//! At which places those stand that a release wakes.
+//! Finds the places of the entries that a release wakes.
 
 ghost use Rattle.std.specs.Prelude.{◌≡◌, OnOk};
 ghost use Rattle.std.specs.List.{list_any};
@@ -12,7 +12,7 @@ use ns_types::text::Text;
 use std::alloc::AllocError;
 use std::collections::BTreeSet;
 
-/// Adds the places of those that wait for the quota. Want of memory is the only error.
+/// Adds the places of the entries that wait for the quota. Want of memory is the only error.
 pub(crate) fn add_quota(
     groups: &Groups,
     quota: &Text,
@@ -29,7 +29,7 @@ pub(crate) fn add_quota(
     Ok(())
 }
 
-/// Adds the places of those that wait for the pool and can use one of the classes. Want of memory is the only error.
+/// Adds the places of the entries that wait for the pool and can use one of the classes. Want of memory is the only error.
 pub(crate) fn add_pool(
     groups: &Groups,
     pool: &Text,
@@ -47,7 +47,7 @@ pub(crate) fn add_pool(
     Ok(())
 }
 
-/// Adds the places of those that wait for one of the quotas. Want of memory is the only error.
+/// Adds the places of the entries that wait for one of the quotas. Want of memory is the only error.
 pub(crate) fn add_quotas(
     groups: &Groups,
     quotas: &[Text],
@@ -62,7 +62,7 @@ pub(crate) fn add_quotas(
     Ok(())
 }
 
-/// Adds the places of those that wait for one of the pools and can use one of its classes.
+/// Adds the places of the entries that wait for one of the pools and can use one of its classes.
 pub(crate) fn add_pools(
     groups: &Groups,
     pools: &[ReleasedPool],

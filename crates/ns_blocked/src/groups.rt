@@ -1,4 +1,4 @@
-//! Which entries wait for the same quota or pool, by their places in the list.
+//! The entries grouped by the quota or the pool that they wait for, and in a group by their places in the list.
 
 ghost use Rattle.std.specs.Prelude.{◌≡◌, ℕ, IsTrue, None, OnOk, Some, option_copied};
 ghost use Rattle.std.specs.FinMap.{entries};
@@ -12,7 +12,7 @@ use keyed::{NameTable, NumberSlot};
 use ns_types::text::Text;
 use std::alloc::{AllocError, Global};
 
-/// The entries that wait for a quota, and those that wait for a pool, by its name and then by their places.
+/// The entries that wait for a quota and those that wait for a pool, by the name of the quota or pool, then by place.
 #[derive(Drop)]
 pub(crate) struct Groups {
     quotas: ByKey<Waiting>,
@@ -29,21 +29,21 @@ impl Groups {
         }
     }
 
-    /// The slots of those that wait for the quota, in the order of their places.
+    /// The slots of the entries that wait for the quota, in the order of their places.
     pub(crate) fn of_quota(&self, quota: &Text) -> &[NumberSlot<Waiting>]
         ensures { result.now ≡ entries (group_of self.now (Waits.Quota quota.now)) }
     {
         slots_of(&self.quotas, quota)
     }
 
-    /// The slots of those that wait for the pool, in the order of their places.
+    /// The slots of the entries that wait for the pool, in the order of their places.
     pub(crate) fn of_pool(&self, pool: &Text) -> &[NumberSlot<Waiting>]
         ensures { result.now ≡ entries (group_of self.now (Waits.Pool pool.now)) }
     {
         slots_of(&self.pools, pool)
     }
 
-    /// The one that waits at this place.
+    /// The entry that waits at this place.
     pub(crate) fn get(&self, waits: &Waits, place: u64) -> Option<&Waiting>
         ensures { option_copied result ≡ group_row self.now waits.now place }
     {
@@ -70,7 +70,7 @@ impl Groups {
         }
     }
 
-    /// This one waits at this place. It takes no memory.
+    /// Puts an entry at this place. It takes no memory.
     pub(crate) fn set(&mut self, waits: &Waits, place: u64, row: Waiting)
         requires { IsTrue (group_room self.old waits.now place) }
         ensures rows { WritesGroup waits.now place (Some row) self.old self.new }
@@ -82,7 +82,7 @@ impl Groups {
         }
     }
 
-    /// Takes the one at this place out. It takes no memory.
+    /// Takes the entry at this place out, and returns it, if there was one. It takes no memory.
     pub(crate) fn remove(&mut self, waits: &Waits, place: u64) -> Option<Waiting>
         ensures row { result ≡ group_row self.old waits.now place }
         ensures rows { WritesGroup waits.now place None self.old self.new }
@@ -94,7 +94,7 @@ impl Groups {
         }
     }
 
-    /// Takes the room for an entry at this place away again, unless one is there.
+    /// Gives the room for an entry at this place back, unless an entry is there.
     pub(crate) fn clear(&mut self, waits: &Waits, place: u64)
         ensures { KeepsGroups self.old self.new }
     {

@@ -15,7 +15,7 @@ use keyed::{NameTable, NumberTable};
 use ns_types::key::EvalKey;
 use std::alloc::{AllocError, Global};
 
-/// What is waited for at each place, those that wait for the same, and the place of each key.
+/// What the entry at each place waits for, the entries grouped by that, and the place of each key.
 #[derive(Drop)]
 pub(crate) struct Index {
     pub(crate) waits: NumberTable<Waits>,
@@ -85,7 +85,7 @@ impl Index {
         self.waits.set(place, waits);
     }
 
-    /// Takes the entry at this place out, and answers its key. It takes no memory.
+    /// Takes the entry at this place out, and returns its key, if there was one. It takes no memory.
     pub(crate) fn take(&mut self, place: u64) -> Option<EvalKey>
         ensures key { result ≡ option_map (λ e. e.key) (entry_at self.old place) }
         ensures taken { (e : BlockedEvaluation) → entry_at self.old place ≡ Some e →
@@ -103,7 +103,7 @@ impl Index {
         Some(key)
     }
 
-    /// Takes the room for the entry at this place away again, unless it is there.
+    /// Gives the room for the entry at this place back, unless an entry is there.
     pub(crate) fn clear(&mut self, place: u64, entry: &BlockedEvaluation)
         ensures { SameIndex self.old self.new }
     {
@@ -112,14 +112,14 @@ impl Index {
         clear_row(&mut self.places, entry.key.namespace(), entry.key.number());
     }
 
-    /// Takes the room for the key away again, unless it is there.
+    /// Gives the room for the key back, unless the key is there.
     pub(crate) fn clear_key(&mut self, key: &EvalKey)
         ensures { SameIndex self.old self.new }
     {
         clear_row(&mut self.places, key.namespace(), key.number());
     }
 
-    /// Takes the vacant slots of places that were given up away, where they are more than the entries.
+    /// Drops the vacant slots of places that are no longer used, if they outnumber the entries.
     pub(crate) fn compact(&mut self)
         ensures { SameIndex self.old self.new }
     {

@@ -7,13 +7,13 @@ ghost use Rattle.ns_types.specs.Settling.Releases.{woken};
 ghost use Rattle.ns_types.specs.State.Names.{has_key};
 ghost use Rattle.ns_types.specs.State.Rows.{World};
 
-/// What a step releases wakes, of the entries that are there before the step and after its own change, exactly those that
+/// Of the entries that are in the list before the step and after its own change, the step's releases wake exactly those that
 /// the model wakes, in the same order.
 pub fn wakes_are_the_models()
     ensures { (w w' : World) → woken_by (released w w') (entries_still_in w w') ≡ woken w w' }
 {}
 
-/// And it leaves those that the model leaves, in the same order.
+/// Of these entries, the step's releases leave exactly those that the model leaves, in the same order.
 pub fn the_rest_is_the_models()
     ensures { (w w' : World)
         → map (λ e. e.key) (without_passing (is_woken (released w w')) (entries_still_in w w'))

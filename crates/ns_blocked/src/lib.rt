@@ -1,5 +1,5 @@
-//! Keeps the list of blocked evaluations and finds those that wait for a quota or for a pool. Those that wait for the same are
-//! looked up, and no other entry is looked at.
+//! Keeps the list of blocked evaluations and finds those that wait for a quota or for a pool. It looks these up, and looks at
+//! no other entry.
 #![tactic(auto)]
 
 mod by_key;

@@ -20,8 +20,8 @@ use std::marker::Model;
 
 mod release;
 
-/// The blocked evaluations in their order, with room for more, which is made before it is needed. Each has a place, a
-/// number that rises along the list; those that wait for a quota or a pool are looked up.
+/// The blocked evaluations in the order in which they were blocked, with room that is made before it is needed. Each has a
+/// place, a number that rises along the list. Those that wait for a quota or a pool are looked up.
 pub struct BlockedList {
     alloc: Global,
     index: Index,
@@ -53,7 +53,7 @@ impl Model for BlockedList {
 }
 
 impl BlockedList {
-    /// No entries. It takes no memory.
+    /// An empty list. It takes no memory.
     pub fn new(alloc: Global) -> BlockedList
         ensures { entries_of result ≡ [] }
     {
@@ -64,7 +64,7 @@ impl BlockedList {
         }
     }
 
-    /// Whether the key is among them: a look-up.
+    /// Whether the key is in the list: a look-up.
     pub fn has(&self, namespace: &Text, number: u64) -> bool
         ensures { result ≡ has_key (keys_of self.now) (namespace.now, number) }
     {
@@ -74,21 +74,23 @@ impl BlockedList {
         }
     }
 
-    /// Those that wait for the quota, in their order, with their places: a look-up. A vacant slot is none.
+    /// The slots of the entries that wait for the quota, by place, which is the list's order: a look-up. A vacant slot is no
+    /// entry.
     pub fn of_quota(&self, quota: &Text) -> &[NumberSlot<Waiting>]
         ensures { row_list result.now ≡ waiting_for (Waits.Quota quota.now) self.now }
     {
         self.index.groups.of_quota(quota)
     }
 
-    /// Those that wait for the pool, in their order, with their places: a look-up. A vacant slot is none.
+    /// The slots of the entries that wait for the pool, by place, which is the list's order: a look-up. A vacant slot is no
+    /// entry.
     pub fn of_pool(&self, pool: &Text) -> &[NumberSlot<Waiting>]
         ensures { row_list result.now ≡ waiting_for (Waits.Pool pool.now) self.now }
     {
         self.index.groups.of_pool(pool)
     }
 
-    /// Takes vacant slots away, where they are more than the entries.
+    /// Drops vacant slots, if they outnumber the entries.
     fn compact(&mut self)
         ensures entries { entries_of self.new ≡ entries_of self.old }
         ensures next { self.new.next ≡ self.old.next }
@@ -106,7 +108,7 @@ impl BlockedList {
         self.index.reserve(self.alloc, place, entry)
     }
 
-    /// Makes room for those entries. Want of memory is the only error, or of places: there are 2^64, each given once.
+    /// Makes room for those entries. Want of memory is an error, and so is want of places: there are 2^64, each used once.
     pub fn reserve(&mut self, entries: &[BlockedEvaluation]) -> Result<(), AllocError>
         ensures entries { entries_of self.new ≡ entries_of self.old }
         ensures ok { OnOk result (CanAdd entries.now self.new) }
@@ -156,8 +158,8 @@ impl BlockedList {
         }
     }
 
-    /// Puts those entries at the end, if none of them is in and none comes twice, and answers whether it did. Where it did
-    /// not, some of them may be in. It takes no memory.
+    /// Puts those entries at the end, if none of them is in the list and none comes twice, and returns whether it did. If it
+    /// returns false, some of them may be in the list. It takes no memory.
     pub fn append_new(&mut self, entries: Rows<BlockedEvaluation>) -> bool
         requires { CanAdd entries self.old }
         ensures { result ≡ true → entries_of self.new ≡ entries_of self.old ++ entries }
@@ -171,7 +173,7 @@ impl BlockedList {
         true
     }
 
-    /// Takes the entry at this place out, and answers its key. It takes no memory, and looks at no other.
+    /// Takes the entry at this place out, and returns its key. It takes no memory, and looks at no other entry.
     fn take_at(&mut self, place: u64) -> Option<EvalKey>
         requires { IsTrue (is_some (entry_at self.old.index place)) }
         ensures key { result ≡ option_map (λ e. e.key) (entry_at self.old.index place) }
@@ -182,7 +184,8 @@ impl BlockedList {
         self.index.take(place)
     }
 
-    /// Takes the entry with that key out, if there is one; room for others stays. It takes no memory, and looks at no other.
+    /// Takes the entry with that key out, if there is one. Room for others stays. It takes no memory, and looks at no other
+    /// entry.
     pub fn untrack(&mut self, key: &EvalKey)
         ensures entries { entries_of self.new ≡
             filter (λ e. not (same_key e.key key.now)) (entries_of self.old) }
@@ -206,7 +209,7 @@ impl BlockedList {
         }
     }
 
-    /// Takes the room for the entry at this place away again.
+    /// Gives the room for the entry at this place back.
     fn clear_at(&mut self, place: u64, entry: &BlockedEvaluation)
         ensures entries { entries_of self.new ≡ entries_of self.old }
         ensures next { self.new.next ≡ self.old.next }
@@ -214,7 +217,7 @@ impl BlockedList {
         self.index.clear(place, entry);
     }
 
-    /// Takes room for those entries away again. Those that are in stay.
+    /// Gives the room for those entries back. Entries that are in the list stay.
     pub fn clear_room(&mut self, entries: &[BlockedEvaluation])
         ensures { entries_of self.new ≡ entries_of self.old }
     {
@@ -227,7 +230,7 @@ impl BlockedList {
         }
     }
 
-    /// Takes the room for the key away again.
+    /// Gives the room for the key back.
     fn clear_key(&mut self, key: &EvalKey)
         ensures entries { entries_of self.new ≡ entries_of self.old }
         ensures next { self.new.next ≡ self.old.next }
@@ -235,7 +238,7 @@ impl BlockedList {
         self.index.clear_key(key);
     }
 
-    /// Takes room for those keys away again, which `take_out` leaves. Those that are in stay.
+    /// Gives back the room for those keys, which `take_out` leaves. Entries that are in the list stay.
     pub fn clear_keys(&mut self, keys: &[EvalKey])
         ensures { entries_of self.new ≡ entries_of self.old }
     {

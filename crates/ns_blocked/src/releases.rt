@@ -11,7 +11,7 @@ pub struct ReleasedPool {
     pub classes: Rows<Class>,
 }
 
-/// What a step releases, in no order. What stands twice counts once.
+/// What a step releases, in any order. A pool, class or quota that is named twice counts once.
 pub struct Releases {
     pub pools: Rows<ReleasedPool>,
     pub quotas: Rows<Text>,

@@ -39,7 +39,7 @@ changed_pool p x = record p { nodes = over p.nodes x.nodes }
 abbrev pub changed_quota : QuotaRows → Quota → QuotaRows
 changed_quota q x = record q { quota = x }
 
--- a row with the change of it, where there is one
+-- a row with its change, if it has one
 abbrev pub perhaps : {A B : Type 0} → (A → B → A) → Option B → A → A
 perhaps change x a = option_map_or (change a) x a
 
@@ -59,7 +59,7 @@ changed w c = record w {
   blocked = changed_list w.blocked c.blocked;
 }
 
--- a change of nothing
+-- an empty change of a namespace
 abbrev pub unchanged : Tenant → TenantChange
 unchanged t = record {
   evaluation_number = t.evaluation_number;
@@ -78,9 +78,9 @@ unchanged_pool p = record { nodes = empty }
 abbrev pub view : Tables → Change → World
 view t c = changed (world_of t) c
 
--- ---- what a method makes of the change
+-- ---- what a method does to the change
 
--- where it is done, the world that the tables hold with the change is f of the one before
+-- if the method succeeds, f takes the world as the change left it before to the world as the change leaves it now
 abbrev pub Does : {A E : Type 0} → Result A E → Tables → Change → Change → (World → World) → Type 0
 Does result t before after f = OnOk result (view t after ≡ f (view t before))
 
@@ -104,23 +104,23 @@ put_allocation n a t = record t { allocations = insert t.allocations n a }
 abbrev pub without_job : Name → Tenant → Tenant
 without_job id t = record t { jobs = remove t.jobs id }
 
--- the row under that number, of one kind
+-- the namespace's row of that number, for one kind of row
 abbrev pub row_in : {X : Type 0} → (Tenant → FinMap nat_cmp X) → World → Name → ℕ → Option X
 row_in rows_of w ns n = option_and_then (λ t. get (rows_of t) n) (get w.tenants ns)
 
--- a node that is there has one place more
+-- a node, if it is there, has one placement more
 abbrev pub count_place : Name → Name → World → World
 count_place pool name w = option_map_or (λ row. change_pool pool (with_place name row) w) (node_at w pool name) w
 
 abbrev pub without_node : Name → PoolRows → PoolRows
 without_node name pool = record pool { nodes = remove pool.nodes name }
 
--- the record over that of the quota, where it is there
+-- the quota's record is replaced, if the quota is there
 abbrev pub with_record : Name → Quota → World → World
 with_record name x w =
     option_map_or (λ q. record w { quotas = insert w.quotas name (changed_quota q x) }) (get w.quotas name) w
 
--- ---- numbers that can be given
+-- ---- counters that have a next number
 
 abbrev pub HasPlaceLeft : World → Name → Name → Type 0
 HasPlaceLeft w pool name = (row : Node) → node_at w pool name ≡ Some row → row.places + 1 < 2 ^ 64
@@ -135,13 +135,13 @@ HasAllocationLeft w ns = (t : Tenant) → get w.tenants ns ≡ Some t → t.allo
 abbrev pub next_evaluation : World → Name → Option ℕ
 next_evaluation w ns = option_map (λ t. t.evaluation_number + 1) (get w.tenants ns)
 
--- ---- the lists of evaluations: those that are ready, whose plan was handed in, and blocked
+-- ---- the lists of evaluations: ready, with a waiting plan, and blocked
 
--- whatever the list was before the step, it is f of what it was
+-- f takes the list as it was changed before to the list as it is changed now, whatever the list was before the step
 abbrev pub DoesToList : (List Key → List Key) → ListChange → ListChange → Type 0
 DoesToList f before after = (base : List Key) → changed_list base after ≡ f (changed_list base before)
 
--- behind the others
+-- the keys with one more at the end
 abbrev pub with_key : Key → List Key → List Key
 with_key key keys = keys ++ key ∷ []
 

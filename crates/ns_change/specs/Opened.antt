@@ -1,4 +1,4 @@
--- A change of one namespace, taken out of the change to be put again.
+-- A namespace's change, taken out of the step's change to be put back.
 use Rattle.std.specs.Prelude.{◌≡◌, IsTrue, Option, Some, None}
 use Rattle.std.specs.FinMap.{get, insert}
 use Rattle.keyed.specs.Table.{has_slot}
@@ -15,7 +15,7 @@ use Rattle.ns_change.specs.Changed.{view}
 abbrev pub with_tenant : Name → TenantChange → Change → Change
 with_tenant ns y c = record c { tenants = insert c.tenants ns (Some y) }
 
--- whatever is put in its place is what the world has there
+-- x is the namespace's change, and c without it is left; whichever change y is put back there, the world has it
 pub record IsOpen (t : Tables) (c : Change) (ns : Name) (x : TenantChange) (left : Change) : Type 0 where
   pub base : Tenant
   pub seen : get (view t c).tenants ns ≡ Some (changed_tenant base x)
@@ -26,7 +26,7 @@ abbrev pub Opened : Tables → Change → Name → Option TenantChange → Chang
 Opened t c ns None left = (get (view t c).tenants ns ≡ None) × (left ≡ c)
 Opened t c ns (Some x) left = IsOpen t c ns x left
 
--- ---- a change of one pool
+-- ---- a pool's change
 
 abbrev pub with_pool : Name → PoolChange → Change → Change
 with_pool name y c = record c { pools = insert c.pools name (Some y) }

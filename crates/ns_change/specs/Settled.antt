@@ -12,14 +12,14 @@ use Rattle.ns_change.specs.declared.change.Settled.{Settled}
 use Rattle.ns_change.specs.declared.change.SettledTenant.{SettledTenant}
 use Rattle.ns_change.specs.Changed.{changed_list, changed_pool, changed_quota, changed_tenant, perhaps}
 
--- a namespace whose events are published has one index more
+-- a namespace that publishes events gets the next index, and keeps its last 100 events
 abbrev pub publish : Tenant → List Event → Tenant
 publish t events = record t { index = t.index + 1; events = last 100 (t.events ++ events) }
 
 abbrev pub settled_tenant : Tenant → SettledTenant → Tenant
 settled_tenant t x = perhaps publish x.events (changed_tenant t x.rows)
 
--- the released classes of that pool, in no order and perhaps twice
+-- the released classes of that pool, in any order and perhaps twice
 abbrev pub classes_in : Name → List (Name × Class) → List Class
 classes_in name rooms = map (λ r. r.1) (filter (λ r. same_name name r.0) rooms)
 

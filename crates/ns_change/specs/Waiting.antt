@@ -12,7 +12,7 @@ use Rattle.ns_types.specs.State.Names.{Name, same_name}
 abbrev pub first : {X : Type 0} → (ℕ → X → Bool) → FinMap nat_cmp X → Option ℕ
 first p m = option_map (λ e. e.0) (find (λ e. p e.0 e.1) (entries m))
 
--- no number passes, or one does and none before it
+-- no number passes, or this is the least that passes
 abbrev pub Leads : (ℕ → Bool) → Option ℕ → Type 0
 Leads passes None = (q : ℕ) → passes q ≡ false
 Leads passes (Some k) = (passes k ≡ true) × ((q : ℕ) → q < k → passes q ≡ false)
@@ -24,21 +24,21 @@ row_passes p m q = option_map_or (p q) (get m q) false
 abbrev pub IsFirst : {X : Type 0} → (ℕ → X → Bool) → FinMap nat_cmp X → Option ℕ → Type 0
 IsFirst p m r = Leads (row_passes p m) r
 
--- the lesser of two numbers, where both are there
+-- the lesser of two numbers, or the one that is there
 abbrev pub lesser : Option ℕ → Option ℕ → Option ℕ
 lesser None b = b
 lesser (Some a) None = Some a
 lesser (Some a) (Some b) = Some (min a b)
 
--- a row of the table passes that the change does not hold
+-- the table's row of that number passes, and the change has no slot for it
 abbrev pub unheld_passes : {X : Type 0} → (ℕ → X → Bool) → FinMap nat_cmp X → FinMap nat_cmp (Option X) → ℕ → Bool
 unheld_passes p m c q = not (contains_key c q) && row_passes p m q
 
--- an evaluation of the job with such a status
+-- whether the evaluation is of the job and its status passes
 abbrev pub of_job : (Status → Bool) → Name → ℕ → Evaluation → Bool
 of_job is job _ e = same_name job e.job && is e.status
 
--- the status that is looked for: pending or blocked
+-- whether a status is the wanted one, which is pending or blocked
 abbrev pub stands : Status → Status → Bool
 stands Status.Pending s = is_pending s
 stands Status.Blocked s = is_blocked s

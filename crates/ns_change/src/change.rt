@@ -1,4 +1,4 @@
-//! Changed rows, by owner. A slot with a row is the row's new value; a vacant one takes the row away.
+//! Changed rows, by namespace or pool. A slot with a row holds the row's new value; a vacant slot removes the row.
 
 ghost use Rattle.std.specs.Prelude.{◌≡◌, []};
 ghost use Rattle.ns_change.specs.Changed.{view};
@@ -36,20 +36,20 @@ pub struct PoolChange {
     pub nodes: NameTable<Node>,
 }
 
-/// What goes out of a list, and what is put at its end.
+/// What leaves a list, and what is appended to it.
 #[derive(Drop)]
 pub struct ListChange {
     pub taken: Rows<EvalKey>,
     pub added: Rows<EvalKey>,
 }
 
-/// All that a step itself changes, before its end. A vacant slot of an owner is of no change, and so is the record of a
-/// quota that is not there.
+/// All that a step itself changes, before the step ends. A vacant slot of a namespace or pool changes nothing, and neither
+/// does the record of a quota that does not exist.
 #[derive(Drop)]
 pub struct Change {
     pub tenants: NameTable<TenantChange>,
     pub pools: NameTable<PoolChange>,
-    /// Records that are put over those of quotas.
+    /// New records of quotas, which replace the old ones.
     pub quotas: NameTable<Quota>,
     pub ready: ListChange,
     pub plans: ListChange,
@@ -68,7 +68,7 @@ impl ListChange {
 }
 
 impl Change {
-    /// A change of nothing.
+    /// An empty change.
     pub fn new(alloc: Global) -> Change
         ensures { (tables : Tables) → view tables result ≡ world_of tables }
     {
@@ -83,7 +83,7 @@ impl Change {
     }
 }
 
-/// What a command answers, and what it changes, if it is made.
+/// The content of a command's reply, and the change that the command would make.
 #[derive(Drop)]
 pub struct Prepared {
     pub content: Content,
@@ -94,23 +94,23 @@ pub struct Prepared {
 #[derive(Drop)]
 pub struct SettledTenant {
     pub rows: TenantChange,
-    /// An event of each changed row. None: no row changed that replies show, and the index stays.
+    /// The events of the changed rows. None: no row that replies show has changed, so the namespace's index stays.
     pub events: Option<Rows<Event>>,
 }
 
-/// All that a step changes, with what its end adds.
+/// All that a step changes, with what the end of the step adds.
 #[derive(Drop)]
 pub struct Settled {
     pub tenants: NameTable<SettledTenant>,
     pub pools: NameTable<PoolChange>,
-    /// Records that are put over those of quotas.
+    /// New records of quotas, which replace the old ones.
     pub quotas: NameTable<Quota>,
     pub ready: ListChange,
     pub plans: ListChange,
     pub blocked: ListChange,
-    /// Released classes, each with its pool, in no order and perhaps twice.
+    /// Released classes, each with its pool, in any order and perhaps twice.
     pub rooms: Rows<(Text, Class)>,
-    /// Released quotas, in no order and perhaps twice: those whose limits change, and those of namespaces of which a live
+    /// Released quotas, in any order and perhaps twice: those whose limits change, and those of namespaces in which a live
     /// allocation ended.
     pub released: Rows<Text>,
 }

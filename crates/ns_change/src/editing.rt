@@ -1,4 +1,4 @@
-//! Small changes, each as the model has it. Where memory is wanting, the change is let go.
+//! Small changes, each as the model has it. If no memory is left, the caller drops the change.
 
 ghost use Rattle.std.specs.Prelude.{◌≡◌, IfOk};
 ghost use Rattle.ns_types.specs.Settling.Making.{with_status};
@@ -16,7 +16,7 @@ use ns_types::key::EvalKey;
 use ns_types::text::Text;
 use std::alloc::{AllocError, Global};
 
-/// A change of nothing.
+/// An empty change of a namespace.
 pub(crate) fn unchanged(alloc: Global, tenant: &TenantRows) -> TenantChange
     ensures { result ≡ unchanged (tenant_of tenant.now) }
 {
@@ -30,7 +30,8 @@ pub(crate) fn unchanged(alloc: Global, tenant: &TenantRows) -> TenantChange
     }
 }
 
-/// Takes the change of a namespace out, which is to be put again.
+/// Takes the namespace's change out of `change`, or makes an empty one; the caller puts it back. None: there is no such
+/// namespace. Want of memory is the only error.
 pub(crate) fn open(
     tables: &Tables,
     change: &mut Change,
@@ -48,7 +49,7 @@ pub(crate) fn open(
     Ok(Some(unchanged(tables.alloc, tenant)))
 }
 
-/// Gives the evaluation that status.
+/// Sets the status of the evaluation, if it is there. Want of memory is the only error.
 pub fn set_status(
     tables: &Tables,
     change: &mut Change,

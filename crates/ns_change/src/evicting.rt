@@ -1,4 +1,4 @@
-//! What becomes of allocations.
+//! The desired status and the client status of allocations.
 
 ghost use Rattle.ns_types.specs.Settling.Making.{with_client, with_desired};
 ghost use Rattle.ns_change.specs.Changed.{DoesIn};
@@ -12,7 +12,7 @@ use ns_types::allocation::{ClientStatus, DesiredStatus};
 use ns_types::key::EvalKey;
 use std::alloc::AllocError;
 
-/// Gives the allocation that desired status.
+/// Sets the desired status of the allocation, if it is there. Want of memory is the only error.
 pub fn set_desired(
     tables: &Tables,
     change: &mut Change,
@@ -30,7 +30,7 @@ pub fn set_desired(
     put_row(tables, change, key.namespace(), key.number(), row)
 }
 
-/// Gives the allocation that client status.
+/// Sets the client status of the allocation, if it is there. Want of memory is the only error.
 pub fn set_client(
     tables: &Tables,
     change: &mut Change,

@@ -1,4 +1,4 @@
-//! New evaluations under the next number of their namespace, and evaluations that name one as their follower.
+//! New evaluations, which take the next number of their namespace, and the follower that an evaluation names.
 
 ghost use Rattle.std.specs.Prelude.{◌≡◌, IfOk};
 ghost use Rattle.ns_types.specs.Settling.Making.{with_evaluation};
@@ -15,7 +15,7 @@ use ns_types::key::EvalKey;
 use ns_types::text::Text;
 use std::alloc::AllocError;
 
-/// The evaluation names that one as its follower.
+/// Names the evaluation's follower, if the evaluation is there. Want of memory is the only error.
 pub fn set_follower(
     tables: &Tables,
     change: &mut Change,
@@ -33,7 +33,8 @@ pub fn set_follower(
     put_row(tables, change, key.namespace(), key.number(), row)
 }
 
-/// A new evaluation under the namespace's next number, which is answered. None: the namespace is not there.
+/// Adds an evaluation under the namespace's next number, and returns the number. None: there is no such namespace. Want of
+/// memory is the only error.
 pub fn add_evaluation(
     tables: &Tables,
     change: &mut Change,

@@ -13,7 +13,7 @@ use ns_types::job::Job;
 use ns_types::text::Text;
 use std::alloc::AllocError;
 
-/// Puts the job among those that change.
+/// Puts the job's row into the namespace's change.
 fn put_among(changed: &mut TenantChange, id: &Text, row: Job) -> Result<(), AllocError>
     ensures { OnOk result ((base : Tenant) → changed_tenant base changed.new
         ≡ with_job id.now row (changed_tenant base changed.old)) }
@@ -21,7 +21,7 @@ fn put_among(changed: &mut TenantChange, id: &Text, row: Job) -> Result<(), Allo
     put_name(&mut changed.jobs, id, row)
 }
 
-/// Takes the job away among those that change.
+/// Marks the job as removed in the namespace's change.
 fn remove_among(changed: &mut TenantChange, id: &Text) -> Result<(), AllocError>
     ensures { OnOk result ((base : Tenant) → changed_tenant base changed.new
         ≡ without_job id.now (changed_tenant base changed.old)) }
@@ -31,7 +31,7 @@ fn remove_among(changed: &mut TenantChange, id: &Text) -> Result<(), AllocError>
     Ok(())
 }
 
-/// Puts a job of a namespace that is there.
+/// Puts a job into the namespace, if the namespace is there. Want of memory is the only error.
 pub fn put_job(
     tables: &Tables,
     change: &mut Change,
@@ -58,7 +58,7 @@ pub fn put_job(
     }
 }
 
-/// Takes a job away.
+/// Removes a job from the namespace, if the namespace is there. Want of memory is the only error.
 pub fn remove_job(
     tables: &Tables,
     change: &mut Change,

@@ -1,7 +1,7 @@
-//! Holds what a step changes, as one value: by owner the rows that it writes or takes away, the numbers that it gives, the
-//! records that it puts over those of quotas, and what leaves each of the three lists and what is put at its end. Its
-//! meaning is `changed`, from the world before to the world that the step itself makes. The tables are read and never
-//! written here. So a step that is refused, or finds no memory, lets its change go, and nothing has happened.
+//! Holds what a step changes, as one value: for each namespace and pool the rows that the step writes or removes and the
+//! numbers that it gives, the new records of quotas, and what leaves each of the three lists and what is appended to it. Its
+//! meaning is `changed`, from the world before to the world that the step itself makes. The tables are read and never written
+//! here. So a step that is refused, or finds no memory, drops its change, and nothing has happened.
 //!
 //! Each method is one function of the model, over the world as the change leaves it: it looks at the change's own rows
 //! first, then at the tables'. A change has no index, event or release; settling makes a second value that has them.

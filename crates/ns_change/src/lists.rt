@@ -1,4 +1,4 @@
-//! What goes out of the lists of evaluations, and what is put at their ends.
+//! What leaves the lists of evaluations, and what is appended to them.
 
 ghost use Rattle.std.specs.Prelude.{◌≡◌, ◌++◌, OnOk};
 ghost use Rattle.ns_types.specs.Working.Work.{without_key};
@@ -13,7 +13,7 @@ use ns_types::rows::Rows;
 use std::alloc::{AllocError, Global};
 use std::slice;
 
-/// Puts a copy of the key at the end.
+/// Appends a copy of the key.
 fn push_copy(keys: &mut Rows<EvalKey>, key: &EvalKey) -> Result<(), AllocError>
     ensures { OnOk result (keys.new ≡ with_key key.now keys.old) }
 {
@@ -21,7 +21,7 @@ fn push_copy(keys: &mut Rows<EvalKey>, key: &EvalKey) -> Result<(), AllocError>
     keys.push(key)
 }
 
-/// Puts copies of all keys at the end.
+/// Appends copies of all the keys.
 fn push_all(keys: &mut Rows<EvalKey>, more: &[EvalKey]) -> Result<(), AllocError>
     ensures { OnOk result (keys.new ≡ keys.old ++ more.now) }
 {
@@ -31,7 +31,7 @@ fn push_all(keys: &mut Rows<EvalKey>, more: &[EvalKey]) -> Result<(), AllocError
     Ok(())
 }
 
-/// Puts copies of those at the end that are not to be taken.
+/// Appends copies of those keys in `more` that are not in `taken`.
 fn push_others(
     keys: &mut Rows<EvalKey>,
     more: &[EvalKey],
@@ -76,42 +76,42 @@ fn add_key(list: &mut ListChange, key: EvalKey) -> Result<(), AllocError>
     Ok(())
 }
 
-/// The evaluation is no longer ready.
+/// Takes the evaluation out of the ready list. Want of memory is the only error.
 pub fn take_ready(alloc: Global, change: &mut Change, key: &EvalKey) -> Result<(), AllocError>
     ensures { (t : Tables) → Does result t change.old change.new (without_ready key.now) }
 {
     take_key(alloc, &mut change.ready, key)
 }
 
-/// The evaluation is ready, behind the others.
+/// Appends the evaluation to the ready list. Want of memory is the only error.
 pub fn add_ready(change: &mut Change, key: EvalKey) -> Result<(), AllocError>
     ensures { (t : Tables) → Does result t change.old change.new (with_ready key) }
 {
     add_key(&mut change.ready, key)
 }
 
-/// The evaluation's plan no longer waits.
+/// Takes the evaluation out of the list of waiting plans. Want of memory is the only error.
 pub fn take_plan(alloc: Global, change: &mut Change, key: &EvalKey) -> Result<(), AllocError>
     ensures { (t : Tables) → Does result t change.old change.new (without_plan key.now) }
 {
     take_key(alloc, &mut change.plans, key)
 }
 
-/// The evaluation's plan waits, behind the others.
+/// Appends the evaluation to the list of waiting plans. Want of memory is the only error.
 pub fn add_plan(change: &mut Change, key: EvalKey) -> Result<(), AllocError>
     ensures { (t : Tables) → Does result t change.old change.new (with_plan key) }
 {
     add_key(&mut change.plans, key)
 }
 
-/// The evaluation is no longer among the blocked ones.
+/// Takes the evaluation out of the list of blocked evaluations. Want of memory is the only error.
 pub fn take_blocked(alloc: Global, change: &mut Change, key: &EvalKey) -> Result<(), AllocError>
     ensures { (t : Tables) → Does result t change.old change.new (without_blocked_key key.now) }
 {
     take_key(alloc, &mut change.blocked, key)
 }
 
-/// The evaluation is blocked, behind the others.
+/// Appends the evaluation to the list of blocked evaluations. Want of memory is the only error.
 pub fn add_blocked(change: &mut Change, key: EvalKey) -> Result<(), AllocError>
     ensures { (t : Tables) → Does result t change.old change.new (with_blocked_key key) }
 {

@@ -1,4 +1,5 @@
-//! Rows as a change leaves them: the change's own first. And whether an allocation is live on a node.
+//! Looks rows up as a change leaves them: first in the change, then in the tables. And whether an allocation is live on a
+//! node.
 
 ghost use Rattle.std.specs.Prelude.{◌≡◌, option_copied};
 ghost use Rattle.ns_types.specs.State.Rows.{allocation_at, evaluation_at, is_live, is_live_on, node_at};

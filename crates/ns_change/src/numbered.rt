@@ -1,4 +1,4 @@
-//! Rows of a namespace that have a number: evaluations, allocations, and workers that are busy.
+//! Rows of a namespace that have a number: evaluations, allocations and busy workers.
 
 ghost use Rattle.std.specs.Prelude.{◌≡◌, ℕ, OnOk, option_copied};
 ghost use Rattle.std.specs.FinMap.{FinMap, insert};
@@ -21,7 +21,7 @@ use ns_types::text::Text;
 use ns_types::worker::Worker;
 use std::alloc::AllocError;
 
-/// A row of a namespace, by number.
+/// A kind of row that a namespace has by number.
 pub trait NumberedRow: Drop {
     /// A namespace's rows of that kind.
     ghost rows_of: { Tenant → FinMap nat_cmp Self };
@@ -33,12 +33,12 @@ pub trait NumberedRow: Drop {
     fn stored(tenant: &TenantRows) -> &NumberTable<Self>
         ensures { rows result.now ≡ rows_of (tenant_of tenant.now) };
 
-    /// Those that change.
+    /// The rows that the step changes.
     fn changed(change: &TenantChange) -> &NumberTable<Self>
         ensures { (t : Tenant) → over (rows_of t) result.now
             ≡ rows_of (changed_tenant t change.now) };
 
-    /// Puts the row among those that change.
+    /// Puts the row into the namespace's change. Want of memory is the only error.
     fn put(self, changed: &mut TenantChange, number: u64) -> Result<(), AllocError>
         ensures { OnOk result ((t : Tenant) → changed_tenant t changed.new
             ≡ put_in number self (changed_tenant t changed.old)) };
@@ -98,7 +98,7 @@ impl NumberedRow for Worker {
     }
 }
 
-/// The row after the change: the change's own first.
+/// The row after the change: looked up first in the change, then in the tables.
 pub fn row<'a, R: NumberedRow>(
     tables: &'a Tables,
     change: &'a Change,
@@ -117,7 +117,7 @@ pub fn row<'a, R: NumberedRow>(
     }
 }
 
-/// Puts a changed row, over whatever table.
+/// Puts a row into a table of changed rows.
 fn put_slot<V: Drop>(changed: &mut NumberTable<V>, number: u64, row: V) -> Result<(), AllocError>
     ensures { OnOk result ((m : FinMap nat_cmp V) → over m changed.new
         ≡ insert (over m changed.old) number row) }
@@ -127,7 +127,7 @@ fn put_slot<V: Drop>(changed: &mut NumberTable<V>, number: u64, row: V) -> Resul
     Ok(())
 }
 
-/// The same under a name.
+/// Puts a row into a table of changed rows by name.
 pub(crate) fn put_name<V: Drop>(
     changed: &mut NameTable<V>,
     name: &Text,
@@ -141,7 +141,7 @@ pub(crate) fn put_name<V: Drop>(
     Ok(())
 }
 
-/// Puts a row of a namespace that is there.
+/// Puts a row into the namespace, if the namespace is there. Want of memory is the only error.
 pub fn put_row<R: NumberedRow>(
     tables: &Tables,
     change: &mut Change,

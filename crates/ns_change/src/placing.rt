@@ -1,4 +1,4 @@
-//! Nodes, and what is placed on them.
+//! Nodes, and the allocations that are placed on them.
 
 ghost use Rattle.std.specs.Prelude.{◌≡◌, ◌+◌, ◌<◌, ◌^◌, false, IfOk, IsTrue, OnOk};
 ghost use Rattle.ns_types.specs.Working.Commit.{with_allocation};
@@ -20,7 +20,8 @@ use ns_types::node::Node;
 use ns_types::text::Text;
 use std::alloc::AllocError;
 
-/// Takes the change of a pool out, which is to be put again.
+/// Takes the pool's change out of `change`, or makes an empty one; the caller puts it back. None: there is no such pool. Want
+/// of memory is the only error.
 fn open_pool(
     tables: &Tables,
     change: &mut Change,
@@ -40,7 +41,7 @@ fn open_pool(
     }))
 }
 
-/// Puts the node among those that change.
+/// Puts the node's row into the pool's change.
 fn put_among(changed: &mut PoolChange, name: &Text, row: Node) -> Result<(), AllocError>
     ensures { OnOk result ((base : PoolRows) → changed_pool base changed.new
         ≡ with_node name.now row (changed_pool base changed.old)) }
@@ -48,7 +49,7 @@ fn put_among(changed: &mut PoolChange, name: &Text, row: Node) -> Result<(), All
     put_name(&mut changed.nodes, name, row)
 }
 
-/// Takes the node away among those that change.
+/// Marks the node as removed in the pool's change.
 fn remove_among(changed: &mut PoolChange, name: &Text) -> Result<(), AllocError>
     ensures { OnOk result ((base : PoolRows) → changed_pool base changed.new
         ≡ without_node name.now (changed_pool base changed.old)) }
@@ -58,7 +59,7 @@ fn remove_among(changed: &mut PoolChange, name: &Text) -> Result<(), AllocError>
     Ok(())
 }
 
-/// Puts a node of a pool that is there.
+/// Puts a node into the pool, if the pool is there. Want of memory is the only error.
 pub fn put_node(
     tables: &Tables,
     change: &mut Change,
@@ -85,7 +86,7 @@ pub fn put_node(
     }
 }
 
-/// Takes a node of a pool away.
+/// Removes a node from the pool, if the pool is there. Want of memory is the only error.
 pub fn remove_node(
     tables: &Tables,
     change: &mut Change,
@@ -102,8 +103,8 @@ pub fn remove_node(
     removed
 }
 
-/// Counts a placement on a node of which the change has a row already, where the row stands. Else it answers no, and
-/// nothing changes.
+/// Counts a placement on a node whose row the change has already, in that row, and returns true. Otherwise returns false and
+/// changes nothing.
 fn count_again(tables: &Tables, change: &mut Change, pool: &Text, name: &Text) -> bool
     requires { HasPlaceLeft (view tables.now change.old) pool.now name.now }
     ensures counted { IsTrue result → view tables.now change.new
@@ -123,7 +124,8 @@ fn count_again(tables: &Tables, change: &mut Change, pool: &Text, name: &Text) -
     true
 }
 
-/// Counts a placement on a node that is there. Its row is copied for the first one alone.
+/// Counts a placement on a node, if the node is there. Only the step's first placement on the node copies its row. Want of
+/// memory is the only error.
 pub fn count_place(
     tables: &Tables,
     change: &mut Change,
@@ -144,7 +146,7 @@ pub fn count_place(
     put_node(tables, change, pool, name, row)
 }
 
-/// The row stands under the next number.
+/// Adds the allocation under the next number.
 fn add_row(tenant: &mut TenantChange, row: Allocation) -> Result<(), AllocError>
     requires { tenant.old.allocation_number + 1 < 2 ^ 64 }
     ensures { OnOk result ((base : Tenant) →
@@ -157,7 +159,8 @@ fn add_row(tenant: &mut TenantChange, row: Allocation) -> Result<(), AllocError>
     Ok(())
 }
 
-/// A new allocation under the namespace's next number. A change of the namespace is made where it stands.
+/// Adds an allocation under the namespace's next number, if the namespace is there. A change that the namespace has already is
+/// edited in place. Want of memory is the only error.
 pub fn add_allocation(
     tables: &Tables,
     change: &mut Change,

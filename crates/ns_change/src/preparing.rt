@@ -1,4 +1,4 @@
-//! What a command comes to, once its change was made or memory was wanting.
+//! The result of a command, once its change was made or no memory was left.
 
 ghost use Rattle.std.specs.Prelude.{◌≡◌, OnOk};
 ghost use Rattle.ns_types.specs.Settling.Outcome.{Done};
@@ -12,7 +12,7 @@ use ns_types::refusal::Refusal;
 use ns_types::reply::Content;
 use std::alloc::AllocError;
 
-/// The answer with the change, where the change was made. `Memory`: it was not, and is let go.
+/// Returns the reply's content with the change, if the change was made. `Memory`: it was not, and the change is dropped.
 pub fn prepare(
     content: Content,
     change: Change,

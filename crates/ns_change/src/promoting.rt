@@ -1,4 +1,4 @@
-//! The first evaluation of a job that waits, and the one that is blocked.
+//! The first pending evaluation of a job, and its blocked one.
 
 ghost use Rattle.std.specs.Prelude.{◌≡◌, ◌&&◌, option_copied};
 ghost use Rattle.keyed.specs.Table.{at_slot, rows};
@@ -58,7 +58,7 @@ fn first_in(slots: &[NumberSlot<Evaluation>], job: &Text, wanted: Status) -> Opt
     None
 }
 
-/// Whether the row of that number, as it was before the step, is of the job and stands so.
+/// Whether the evaluation of that number, as it was before the step, is of the job and has the wanted status.
 fn is_stored(tenant: &TenantRows, job: &Text, wanted: Status, number: u64) -> bool
     ensures { result ≡ row_passes (of_job (stands wanted) job.now)
         (rows tenant.now.evaluations.slots) number }
@@ -86,7 +86,7 @@ fn first_numbered(
     None
 }
 
-/// Of those that are not changed the first.
+/// The first of the job's evaluations with the wanted status that the step does not change.
 fn first_unchanged(
     tenant: &TenantRows,
     changed: &NumberTable<Evaluation>,
@@ -105,7 +105,7 @@ fn first_unchanged(
     None
 }
 
-/// The numbers of the job's evaluations that stood so before the step.
+/// The numbers of the job's evaluations that had the wanted status before the step.
 fn stored_numbers<'a>(
     tenant: &'a TenantRows,
     job: &Text,
@@ -121,7 +121,7 @@ fn stored_numbers<'a>(
     }
 }
 
-/// The job's first before the step: only those that stand so are looked up.
+/// The job's first evaluation with the wanted status before the step. It looks up no evaluation with another status.
 fn first_before(tenant: &TenantRows, job: &Text, wanted: Status) -> Option<u64>
     ensures { Leads (row_passes (of_job (stands wanted) job.now)
         (rows tenant.now.evaluations.slots)) result }
@@ -132,7 +132,7 @@ fn first_before(tenant: &TenantRows, job: &Text, wanted: Status) -> Option<u64>
     }
 }
 
-/// The job's first before the step of those that are not changed.
+/// The job's first evaluation that had the wanted status before the step and is not changed by it.
 fn first_left(
     tenant: &TenantRows,
     changed: &NumberTable<Evaluation>,
@@ -158,7 +158,7 @@ fn lesser(a: Option<u64>, b: Option<u64>) -> Option<u64>
     }
 }
 
-/// The first evaluation of the job that is pending, or blocked.
+/// The job's first evaluation with the wanted status, pending or blocked, after the change.
 fn first_of_job(
     tables: &Tables,
     change: &Change,
@@ -180,7 +180,8 @@ fn first_of_job(
     )
 }
 
-/// Where none of the job is ready or with a worker, the first waiting one is ready.
+/// Makes the job's first pending evaluation ready, unless an evaluation of the job is ready or with a worker. Want of memory
+/// is the only error.
 pub fn promote(
     tables: &Tables,
     change: &mut Change,
@@ -198,7 +199,7 @@ pub fn promote(
     add_ready(change, EvalKey::new(namespace.clone()?, number))
 }
 
-/// The job's blocked evaluation is canceled.
+/// Cancels the job's blocked evaluation, if there is one. It stays in the list. Want of memory is the only error.
 pub fn cancel_blocked(
     tables: &Tables,
     change: &mut Change,
@@ -215,7 +216,8 @@ pub fn cancel_blocked(
     set_status(tables, change, &key, Status::Canceled)
 }
 
-/// The job's blocked evaluation is no longer among the blocked ones.
+/// Takes the job's blocked evaluation, if there is one, out of the list of blocked evaluations. Want of memory is the only
+/// error.
 pub fn unlist_blocked(
     tables: &Tables,
     change: &mut Change,

@@ -1,4 +1,4 @@
-//! The queue after a change, and whom a step wakes.
+//! Whether a job has an evaluation that is ready or with a worker, and the evaluations that a step queues or wakes.
 
 ghost use Rattle.std.specs.Prelude.{◌≡◌, ℕ, IsTrue, Some};
 ghost use Rattle.keyed.specs.Table.{row_at};
@@ -57,7 +57,7 @@ fn has_number(keys: &[EvalKey], namespace: &Text, number: u64) -> bool
     false
 }
 
-/// Whether the evaluation of that number stays in the list, and is of the job.
+/// Whether the evaluation of that number is in the list before the step, is not taken out, and is of the job.
 fn is_left(
     tables: &Tables,
     change: &Change,
@@ -75,7 +75,7 @@ fn is_left(
         && is_of_job(tables, change, namespace, job, namespace, number)
 }
 
-/// Whether one of those numbers stays in the list, and is of the job.
+/// Whether one of these slots has the number of an evaluation that stays in the list and is of the job.
 fn is_among_left<T>(
     tables: &Tables,
     change: &Change,
@@ -96,8 +96,8 @@ fn is_among_left<T>(
     false
 }
 
-/// Whether one of the job's numbers in the namespace's table stays in the list. It goes along the job's numbers, or along those
-/// that the namespace has in the list, where these are fewer.
+/// Whether an evaluation that the namespace's table has for the job stays in the list. It goes through the job's evaluations,
+/// or through those that the namespace has in the list if these are fewer.
 fn any_stored_left(
     tables: &Tables,
     change: &Change,
@@ -125,7 +125,8 @@ fn any_stored_left(
     }
 }
 
-/// Whether one of the keys that stay is of the job. Only the job's own evaluations are looked up, and those that change.
+/// Whether an evaluation of the job stays in the list. It looks up only the job's own evaluations and those that the step
+/// changes.
 fn any_left(
     tables: &Tables,
     change: &Change,
@@ -230,7 +231,7 @@ fn any_works(
     false
 }
 
-/// Whether one that is not changed works on the job.
+/// Whether a worker that the step does not change works on an evaluation of the job.
 fn another_works(
     tables: &Tables,
     change: &Change,
@@ -273,7 +274,8 @@ pub(crate) fn is_busy(tables: &Tables, change: &Change, namespace: &Text, job: &
         || is_worked_on(tables, change, namespace, job)
 }
 
-/// The evaluation is ready, or it waits for another one of its job.
+/// Makes the evaluation ready, unless an evaluation of its job is ready or with a worker: then it waits. Want of memory is the
+/// only error.
 pub fn queue(tables: &Tables, change: &mut Change, key: &EvalKey) -> Result<(), AllocError>
     ensures { Does result tables.now change.old change.new (λ w. queue w key.now) }
 {
@@ -286,7 +288,8 @@ pub fn queue(tables: &Tables, change: &mut Change, key: &EvalKey) -> Result<(), 
     Ok(())
 }
 
-/// The evaluations are no longer blocked, and each is ready or waits, in this order.
+/// Makes the blocked evaluations pending, takes them out of the list, and queues each in this order: it is ready or waits.
+/// Want of memory is the only error.
 pub fn wake(tables: &Tables, change: &mut Change, keys: &[EvalKey]) -> Result<(), AllocError>
     ensures { Does result tables.now change.old change.new (wake keys.now) }
 {
@@ -300,7 +303,8 @@ pub fn wake(tables: &Tables, change: &mut Change, keys: &[EvalKey]) -> Result<()
     Ok(())
 }
 
-/// A new evaluation under the namespace's next number, which is ready or waits.
+/// Adds an evaluation under the namespace's next number, if the namespace is there, and queues it: it is ready or waits. Want
+/// of memory is the only error.
 pub fn make(
     tables: &Tables,
     change: &mut Change,

@@ -8,7 +8,7 @@ use ns_types::records::Quota;
 use ns_types::text::Text;
 use std::alloc::AllocError;
 
-/// Puts the record over that of the quota, where there is one of that name.
+/// Replaces the record of the quota of that name, if there is one. Want of memory is the only error.
 pub fn put_quota(change: &mut Change, name: &Text, quota: &Quota) -> Result<(), AllocError>
     ensures { (t : Tables) → Does result t change.old change.new (with_record name.now quota.now) }
 {

@@ -41,7 +41,8 @@ fn new_evaluation(
     })
 }
 
-/// With the job's type, priority and pool; where the job is gone, of type `service` and with those of its allocation.
+/// A new evaluation for the job of an allocation that ended, with the job's type, priority and pool. If the job is gone, its
+/// type is `service`, and it has the allocation's priority and pool. Want of memory is the only error.
 pub fn evaluation_for(
     alloc: Global,
     tenant: &TenantRows,

@@ -11,7 +11,7 @@ use ns_tables::Tables;
 use ns_types::text::Text;
 use std::alloc::AllocError;
 
-/// Takes the worker away among those that change.
+/// Marks the worker as idle in the namespace's change.
 fn remove_among(changed: &mut TenantChange, number: u64) -> Result<(), AllocError>
     ensures { OnOk result ((base : Tenant) → changed_tenant base changed.new
         ≡ without_worker number (changed_tenant base changed.old)) }
@@ -21,7 +21,7 @@ fn remove_among(changed: &mut TenantChange, number: u64) -> Result<(), AllocErro
     Ok(())
 }
 
-/// The worker is no longer busy for the namespace.
+/// Makes the worker idle for the namespace. Want of memory is the only error.
 pub fn remove_worker(
     tables: &Tables,
     change: &mut Change,

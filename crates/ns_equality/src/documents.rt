@@ -1,4 +1,4 @@
-//! Whether two documents of jobs say the same, member by member.
+//! Compares two documents of jobs, member by member.
 
 ghost use Rattle.std.specs.Prelude.{◌≡◌};
 ghost use Rattle.std.specs.Cmp.Lexicographic.{pointwise};

@@ -1,4 +1,4 @@
-//! The test, and values without parts.
+//! The test whether two values are the same, and the values that have no parts.
 
 ghost use Rattle.std.specs.Prelude.{◌≡◌, ◌↔◌, IsTrue};
 
@@ -13,7 +13,7 @@ mod steps;
 
 use ns_types::text::{Text, same_text};
 
-/// Values of which a program can tell whether contracts see the same in them. The test takes no memory.
+/// Values that a program can compare as contracts do: equal if contracts see the same value. The test takes no memory.
 pub trait Equal {
     /// Whether both are the same value.
     fn equal(&self, other: &Self) -> bool

@@ -1,6 +1,6 @@
-//! Compares values. `Equal` tells whether two are the same in every part, without taking memory: snapshots, steps and rendered
-//! answers, with all that they hold. Rows are compared as the model does, member by member: keys, what nodes offer, what quotas
-//! allow, documents of jobs, and what replies show of jobs, evaluations and allocations.
+//! Compares values. `Equal` tests whether two values are the same in every part, and takes no memory: snapshots, steps and
+//! rendered answers, with all that they hold. Rows are compared as the model does, member by member: keys, offers of nodes,
+//! limits of quotas, documents of jobs, and what replies show of jobs, evaluations and allocations.
 #![tactic(auto)]
 
 mod documents;

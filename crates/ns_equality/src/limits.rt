@@ -1,4 +1,4 @@
-//! What quotas allow.
+//! The limits of quotas.
 
 ghost use Rattle.std.specs.Prelude.{◌≡◌, not};
 ghost use Rattle.ns_types.specs.State.Resources.{limits_in, same_limits};
@@ -6,7 +6,7 @@ ghost use Rattle.ns_types.specs.State.Resources.{limits_in, same_limits};
 use ns_types::records::Quota;
 use ns_types::resources::{Limits, same_limits, unlimited};
 
-/// The limits of a quota: one without an entry limits nothing.
+/// The limits of a quota. A quota without an entry limits nothing.
 pub fn limits_in(quota: &Quota) -> Limits
     ensures { result ≡ limits_in quota.now.limits }
 {

@@ -1,4 +1,4 @@
-//! What nodes offer: classes, attributes and amounts.
+//! Offers of nodes: classes, attributes and amounts.
 
 ghost use Rattle.std.specs.Prelude.{◌≡◌, not, filter, IfOk};
 ghost use Rattle.std.specs.Cmp.Lexicographic.{pointwise};
@@ -48,7 +48,7 @@ fn has_class(classes: &[Class], class: &Class) -> bool
     classes.iter().any(|other| same_class(class, other))
 }
 
-/// Whether room on such a node may serve the evaluation.
+/// Whether the evaluation may use room on a node of this class: it escapes classes, or did not find the class infeasible.
 pub fn can_use(evaluation: &Evaluation, class: &Class) -> bool
     ensures { result ≡ can_use evaluation.now class.now }
 {
@@ -64,7 +64,7 @@ pub fn same_offer(a: &Offer, b: &Offer) -> bool
         && same_resources(a.capacity, b.capacity)
 }
 
-/// Whether the node may take allocations.
+/// Whether the node may take new allocations: it is ready and eligible.
 pub fn is_free(node: &Node) -> bool
     ensures { result ≡ is_free node.now }
 {
@@ -93,7 +93,7 @@ fn shared_attributes(alloc: Global, attributes: &[Attribute]) -> Result<Rows<Att
     Ok(rows)
 }
 
-/// The class of a node, with all attributes that are not unique.
+/// The class of a node, with all of its attributes that are not unique. Want of memory is the only error.
 pub fn class_of(alloc: Global, node: &Node) -> Result<Class, AllocError>
     ensures { IfOk result (λ class. class ≡ class_of node.now) }
 {

@@ -1,4 +1,4 @@
-//! Whether replies show the same of two rows, their indexes apart.
+//! Whether replies show the same of two rows. The indexes of evaluations and allocations are not compared.
 
 ghost use Rattle.std.specs.Prelude.{◌≡◌, option_copied};
 ghost use Rattle.std.specs.Option.{option_eq};
@@ -78,7 +78,7 @@ pub fn same_optional_text(a: Option<&Text>, b: Option<&Text>) -> bool
     }
 }
 
-/// Whether what an evaluation is made for is the same of both.
+/// Whether both evaluations were made for the same: job, type, priority, pool and trigger.
 fn same_cause(a: &Evaluation, b: &Evaluation) -> bool
     ensures { result ≡ same_cause a.now b.now }
 {
@@ -89,7 +89,7 @@ fn same_cause(a: &Evaluation, b: &Evaluation) -> bool
         && same_trigger(a.trigger, b.trigger)
 }
 
-/// Whether what became of them is the same of both, once the second is of that status.
+/// Whether the same became of both evaluations, if the second had that status.
 fn same_course(a: &Evaluation, b: &Evaluation, status: Status) -> bool
     ensures { result ≡ same_course a.now (record b.now { status = status }) }
 {
@@ -100,7 +100,7 @@ fn same_course(a: &Evaluation, b: &Evaluation, status: Status) -> bool
         && same_flag(a.escapes, b.escapes)
 }
 
-/// Whether replies show the same of both, once the second is of that status.
+/// Whether replies show the same of both evaluations, if the second had that status.
 pub fn same_with_status(a: &Evaluation, b: &Evaluation, status: Status) -> bool
     ensures { result ≡ same_evaluation a.now (record b.now { status = status }) }
 {
@@ -109,14 +109,14 @@ pub fn same_with_status(a: &Evaluation, b: &Evaluation, status: Status) -> bool
     cause & course
 }
 
-/// Whether replies show the same of both.
+/// Whether replies show the same of both evaluations.
 pub fn same_evaluation(a: &Evaluation, b: &Evaluation) -> bool
     ensures { result ≡ same_evaluation a.now b.now }
 {
     same_with_status(a, b, b.status)
 }
 
-/// Whether replies show the same of both.
+/// Whether replies show the same of both jobs, their indexes included.
 #[tactic(auto, unfolding(ns_types::specs::Settling::Same::same_job))]
 pub fn same_job(a: &Job, b: &Job) -> bool
     ensures { result ≡ same_job a.now b.now }
@@ -150,7 +150,7 @@ fn same_client(a: ClientStatus, b: ClientStatus) -> bool
     }
 }
 
-/// Whether both are of one place.
+/// Whether both allocations are of the same job, group and evaluation, and on the same node.
 fn same_place(a: &Allocation, b: &Allocation) -> bool
     ensures { result ≡ same_place a.now b.now }
 {
@@ -161,7 +161,7 @@ fn same_place(a: &Allocation, b: &Allocation) -> bool
         && same_text(&a.node, &b.node)
 }
 
-/// Whether what they take, and what became of them, is the same of both.
+/// Whether both allocations take the same, and the same became of them.
 fn same_fate(a: &Allocation, b: &Allocation) -> bool
     ensures { result ≡ same_fate a.now b.now }
 {
@@ -172,7 +172,7 @@ fn same_fate(a: &Allocation, b: &Allocation) -> bool
         && same_client(a.client, b.client)
 }
 
-/// Whether replies show the same of both.
+/// Whether replies show the same of both allocations.
 pub fn same_allocation(a: &Allocation, b: &Allocation) -> bool
     ensures { result ≡ same_allocation a.now b.now }
 {

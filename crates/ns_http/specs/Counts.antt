@@ -83,7 +83,7 @@ pub record CountsRead (old new : Counts) (result : Result ℕ Error) : Type 0 wh
   pub wide : READ_ROOM ≤ room
   pub counts : new ≡ after_read old room result
 
--- No call found the end or failed otherwise than by interruption, and no write took none of its bytes.
+-- No call found the end, failed otherwise than by interruption, or was a write that took none of its bytes.
 pub record IsOpen (c : Counts) : Type 0 where
   pub ended : c.ended ≡ false
   pub broken : c.broken ≡ false

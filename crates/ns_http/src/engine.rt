@@ -20,13 +20,15 @@ pub const READ_LIMIT: u64 = 16_777_216;
 /// Why a connection was given up.
 #[derive(Clone, Copy, Debug, PartialEq, Eq, Error)]
 pub enum ConnFault {
-    /// The reader failed, or ended inside a request, or the reads ran out.
+    /// The reader failed, ended inside a request or may not be read further, or there are no random
+    /// bits.
     #[error("read fault")]
     Read,
     /// The writer failed, took none of the bytes, or was interrupted too often.
     #[error("write fault")]
     Write,
-    /// There is no memory for the buffers. Nothing was read, answered or written.
+    /// No memory was left. From `serve` it is the memory for the buffers, and nothing was read,
+    /// answered or written.
     #[error("out of memory")]
     Memory,
 }

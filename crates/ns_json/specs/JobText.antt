@@ -5,7 +5,7 @@ use Rattle.json.specs.Print.{quoted}
 use Rattle.ns_types.specs.declared.reply.JobShown.{JobShown}
 use Rattle.ns_types.specs.Wire.Words.{job_status_text}
 
--- the text comes after what stood there before
+-- the text was added behind what was there before
 pub record Continues (old new text : List ℕ) : Type 0 where
   pub is : new ≡ old ++ text
 

@@ -1,5 +1,5 @@
--- The text of a log: a first line with the bootstrap secret, then one line for each entry. Of a log that was given out in
--- segments each has such a first line, which says how many entries come before it.
+-- The text of a log: a first line with the bootstrap secret, then one line for each entry. If the log was given out in
+-- segments, each segment has such a first line, which says how many entries come before it.
 use Rattle.std.specs.Prelude.{ℕ, List, [], ◌∷◌, ◌++◌, Option, Some, None, flat_map, codes, decimal}
 use Rattle.serde_json.specs.Data.{Data, null, boolean, string}
 use Rattle.serde_json.specs.Written.{compact_text}
@@ -17,7 +17,7 @@ use Rattle.ns_json.specs.Rendering.{namespace_json, quota_json, pool_json, attri
 use Rattle.ns_json.specs.Replies.{Entry}
 use Rattle.ns_types.specs.Wire.Words.{kind_text, node_status_text, eligibility_text, client_text}
 
--- what is asked of a server: its name and its arguments
+-- a command to a server: its name and its arguments
 abbrev pub Call : Type 0
 Call = Name × List (Name × Data)
 
@@ -176,7 +176,7 @@ line_of text = text ++ 10 ∷ []
 abbrev pub head_text : ℕ → Name → Name
 head_text start secret = codes "nsd-log 3 " ++ decimal start ++ codes " " ++ secret
 
--- a segment, before which come so many entries
+-- a segment before which come `start` entries
 unfoldable pub segment_text : Name → ℕ → List Entry → Name
 segment_text secret start log = line_of (head_text start secret) ++
     flat_map (λ e. line_of (compact_text (entry_json e))) log

@@ -23,13 +23,13 @@ token_of Part.Null = Token.null
 abbrev pub tokens_of : Data → List Token
 tokens_of d = json_tokens (outline d)
 
--- The tokens come after those before. It fails only where there was no room for them.
+-- The tokens were written behind those before. Writing fails only if there was no room for them.
 pub record Adds {E : Type 0} (r : Result (Unit {0}) E) (old new : Written) (ts : List Token) : Type 0 where
   pub ok : OnOk r (new.tokens ≡ old.tokens ++ ts)
   pub before : new.before ≡ old.before
   pub room : MatchResult r (λ _. old.spare ≤ new.spare + room ts) (λ _. old.spare < room ts)
 
--- The same where nothing is said of a failure.
+-- The tokens were written behind those before; nothing is said of a failure.
 pub record Follows (old new : Written) (ts : List Token) : Type 0 where
   pub tokens : new.tokens ≡ old.tokens ++ ts
   pub before : new.before ≡ old.before

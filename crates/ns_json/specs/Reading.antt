@@ -24,14 +24,15 @@ abbrev pub ◌>>=◌ : {A B : Type 0} → Read A → (A → Read B) → Read B
 (Ok x) >>= f = f x
 (Err e) >>= f = Err e
 
--- what a reader of documents refuses with
+-- the refusals of the readers of documents
 abbrev pub IsOfDocument : Refusal → Type 0
 IsOfDocument BadJson = Unit {0}
 IsOfDocument (BadField m) = Unit {0}
 IsOfDocument Memory = Unit {0}
 IsOfDocument _ = ⊥
 
--- What a function returned, seen by view, is what reading gives, unless memory ran out.
+-- What a function returned, seen by `view`, is the value or the refusal that the definition gives, unless memory ran
+-- out.
 abbrev pub Fails : {Y : Type 0} → Refusal → Read Y → Type 0
 Fails Memory read = Unit {0}
 Fails BadJson read = read ≡ Err BadJson
@@ -65,7 +66,7 @@ present m d = option_and_then unless_null (get (member_name m) d)
 unfoldable pub demanded : Member → Data → Read Data
 demanded m d = or_refuse m (present m d)
 
--- what an absent member stands for, or what the present one reads as
+-- the default if the member is absent, else what it is read as
 abbrev pub or_else : {A : Type 0} → A → (Data → Read A) → Option Data → Read A
 or_else default read None = Ok default
 or_else default read (Some d) = read d
@@ -88,7 +89,7 @@ body_in document body = json_in body >>= document
 
 -- ---- values of each kind
 
--- the top of a document
+-- the top of a document, which has to be an object
 unfoldable pub top : Data → Read Data
 top d = elim (as_object d) [ None ↦ Err BadJson | Some ms ↦ Ok (object ms) ]
 
@@ -98,7 +99,7 @@ an_object m d = or_refuse m (as_object d) >>= λ ms. Ok (object ms)
 unfoldable pub a_flag : Member → Data → Read Bool
 a_flag m d = or_refuse m (as_bool d)
 
--- a whole number from low to high
+-- the value, which has to be a whole number from `low` to `high`
 unfoldable pub a_number : Member → ℕ → ℕ → Data → Read ℕ
 a_number m low high d = do
   n ← or_refuse m (option_and_then as_u64 (as_number d))
@@ -117,26 +118,26 @@ a_name m kind d = do
   s ← or_refuse m (as_str d)
   if is_name kind s then Ok s else Err (BadField m)
 
--- the number of an id of that kind
+-- the number of the value, which has to be an id of that kind
 unfoldable pub an_id : Member → IdKind → Data → Read ℕ
 an_id m kind d = do
   s ← or_refuse m (as_str d)
   or_refuse m (id_of kind s)
 
--- whether one of them has the name
+-- whether an element of the list has the name
 abbrev pub has_name : {A : Type 0} → (A → List ℕ) → List A → List ℕ → Bool
 has_name name_of xs name = list_any (λ x. bytes_eq (name_of x) name) xs
 
 abbrev pub unless : {A : Type 0} → Bool → Member → A → Read A
 unless bad m x = if bad then Err (BadField m) else Ok x
 
--- a list of low to high items
+-- the value, which has to be a list of `low` to `high` items
 unfoldable pub a_list : Member → ℕ → ℕ → Data → Read Items
 a_list m low high d = do
   ds ← or_refuse m (as_array d)
   if nat_le low (items_len ds) && nat_le (items_len ds) high then Ok ds else Err (BadField m)
 
--- the items one after the other, onto those that were read before
+-- the elements that were read before, and behind them the items, read one after the other
 unfoldable pub each : {A : Type 0} → (List A → Data → Read A) → List A → Items → Read (List A)
 each read done no_items = Ok done
 each read done (item d ds) = read done d >>= λ x. each read (done ++ x ∷ []) ds

@@ -46,11 +46,11 @@ disk_in d = do
   e ← an_object Member.EphemeralDisk d
   or_else 300 (a_number Member.SizeMb 1 max_quantity) (present Member.SizeMb e)
 
--- no constraints stand on groups and tasks
+-- the list of constraints of a group or a task has to be empty, null or absent
 unfoldable pub no_constraints : Data → Read (Unit {0})
 no_constraints d = or_else tt (λ c. a_list Member.Constraints 0 0 c >>= λ ds. Ok tt) (present Member.Constraints d)
 
--- a task, after those of its group that stand before it
+-- a task, given the tasks of its group that stand before it
 unfoldable pub task_in : List Task → Data → Read Task
 task_in before d = do
   t ← an_object Member.Tasks d
@@ -81,7 +81,7 @@ group_in before d = do
 
 -- ---- constraints
 
--- a text without what it begins with, or ends with
+-- a text without its prefix, or without its suffix, if it has it
 abbrev pub without_prefix : List ℕ → List ℕ → Option (List ℕ)
 without_prefix p s = if starts_with eqb s p then Some (drop (length p) s) else None
 
@@ -131,13 +131,13 @@ kind_in d = do
   s ← a_text Member.Type d
   or_refuse Member.Type (kind_of s)
 
--- an empty name counts as absent
+-- a name; an empty text counts as absent
 unfoldable pub name_if_any : Member → NameKind → Data → Read (Option (List ℕ))
 name_if_any m kind d = do
   s ← a_text m d
   if length s == 0 then Ok None else some (a_name m kind d)
 
--- the pool that a job names; none is called `all`
+-- the pool that a job names; it must not be `all`
 abbrev pub not_all : Option (List ℕ) → Read (Option (List ℕ))
 not_all None = Ok None
 not_all (Some s) = if bytes_eq s (codes "all") then Err (BadField Member.NodePool) else Ok (Some s)
@@ -176,7 +176,7 @@ work_in j = do
   groups ← job_groups_in j
   Ok (constraints, groups)
 
--- what a job says beside its name and its namespace
+-- what a job's document has besides its name and its namespace
 unfoldable pub terms_in : Data → Read JobTerms
 terms_in j = do
   kind ← or_else Service kind_in (present Member.Type j)
@@ -193,7 +193,7 @@ names_in j = do
   namespace ← or_else None (name_if_any Member.Namespace NameKind.Namespace) (present Member.Namespace j)
   Ok (id, namespace)
 
--- what the job says, where no index is demanded
+-- the job's document, as a registration that enforces no index
 unfoldable pub job_in : Data → Read RegistrationDocument
 job_in d = do
   j ← an_object Member.Job d
@@ -212,7 +212,7 @@ job_in d = do
     };
   })
 
--- the index that is demanded, where one is
+-- the index that a registration enforces, if it enforces one
 abbrev pub enforced : Bool → ℕ → Option ℕ
 enforced true n = Some n
 enforced false n = None

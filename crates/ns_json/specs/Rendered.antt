@@ -1,4 +1,4 @@
--- Which replies are rendered.
+-- The replies that are rendered here.
 use Rattle.std.specs.Prelude.{ℕ}
 use Rattle.ns_types.specs.declared.reply.Content.{Content}
 

@@ -51,7 +51,7 @@ unfoldable pub event_line : Name → Event → Name
 event_line ns e = compact_text (object_of
     ((codes "Events", list_of (event_json ns) (e ∷ [])) ∷ (codes "Index", number_of e.index) ∷ [])) ++ 10 ∷ []
 
--- ---- what workers' steps say
+-- ---- the replies to workers' steps
 
 abbrev pub one_id : Name → ℕ → Data
 one_id name n = object_of ((name, string (id_text IdKind.Evaluation n)) ∷ [])
@@ -103,7 +103,7 @@ rendered (Err refusal) = refused refusal
 
 -- ---- logs
 
--- an entry is a step with the rendering of its answer
+-- an entry of a log is a step with its answer as it was rendered
 abbrev pub Entry : Type 0
 Entry = Step × Rendered
 

@@ -13,7 +13,7 @@ use ns_types::text::Text;
 use serde_json::Value;
 use std::alloc::Global;
 
-/// The key of `${attr.KEY}`.
+/// The key in `${attr.KEY}`. None if the text is not of that form.
 #[tactic(auto, unfolding(crate::specs::Registration::attribute_key))]
 fn attribute_key(text: &str) -> Option<&str>
     ensures { option_map (λ k. k.now) result ≡ attribute_key text.now }

@@ -55,7 +55,7 @@ fn disk_or_default(group: &Value) -> Result<u64, Refusal>
     }
 }
 
-/// No constraints stand on groups and tasks.
+/// Refuses constraints of a group or a task: their list has to be empty, null or absent.
 #[tactic(auto, unfolding(crate::specs::Registration::no_constraints))]
 fn refuse_constraints(value: &Value) -> Result<(), Refusal>
     ensures { Gives (λ u. tt) result (no_constraints (view value.now)) }

@@ -87,7 +87,7 @@ fn write_constraint(
     )
 }
 
-/// Constraints, one after the other.
+/// Writes the constraints, one after the other.
 pub fn write_constraints(
     out: &mut Writer,
     alloc: Global,
@@ -159,7 +159,7 @@ fn write_group(out: &mut Writer, group: &Group) -> Result<(), AllocError>
     write_parts(out, &[Part::EndArray, Part::EndObject])
 }
 
-/// Groups, one after the other.
+/// Writes the groups, one after the other.
 pub fn write_groups(out: &mut Writer, groups: &[Group]) -> Result<(), AllocError>
     ensures { OnOk result (Follows out.old out.new
         (flat_map (λ g. tokens_of (group_json g)) groups.now)) }

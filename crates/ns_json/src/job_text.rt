@@ -1,4 +1,4 @@
-//! A job as it is replied, as text: the fixed parts are constants, and the rest is copied from the row where it stands.
+//! The text of a job in replies: the fixed parts are constants, and the rest is copied right from the job's row.
 
 ghost use Rattle.std.specs.Prelude.{◌≡◌, ◌∷◌, OnOk, IfOk, codes, decimal, string_bytes};
 ghost use Rattle.std.specs.List.{flat_map, list_all};
@@ -39,7 +39,7 @@ fn is_plain(text: &str) -> bool
         .all(|b| *b != b'"' && *b != b'\\' && *b >= 32)
 }
 
-/// The text as a JSON string, some of whose bytes are escaped.
+/// Adds the text as a JSON string in which some bytes are escaped.
 fn push_escaped(out: &mut String, alloc: Global, text: &str) -> Result<(), AllocError>
     ensures { OnOk result (Continues (string_bytes out.old) (string_bytes out.new)
         (quoted text.now)) }
@@ -51,7 +51,7 @@ fn push_escaped(out: &mut String, alloc: Global, text: &str) -> Result<(), Alloc
     push(out, escaped.as_str())
 }
 
-/// The text as a JSON string.
+/// Adds the text as a JSON string.
 fn push_quoted(out: &mut String, alloc: Global, text: &str) -> Result<(), AllocError>
     ensures { OnOk result (Continues (string_bytes out.old) (string_bytes out.new)
         (quoted text.now)) }
@@ -72,7 +72,7 @@ fn push_number(out: &mut String, n: u64) -> Result<(), AllocError>
     push(out, buffer.format(n))
 }
 
-/// What stands before a number, and the number.
+/// Adds the text `before`, and the number.
 fn push_numbered(out: &mut String, before: &str, n: u64) -> Result<(), AllocError>
     ensures { OnOk result (Continues (string_bytes out.old) (string_bytes out.new)
         (numbered before.now n)) }
@@ -81,7 +81,7 @@ fn push_numbered(out: &mut String, before: &str, n: u64) -> Result<(), AllocErro
     push_number(out, n)
 }
 
-/// What stands before a text, and the text.
+/// Adds the text `before`, and the other text as a JSON string.
 fn push_texted(out: &mut String, alloc: Global, before: &str, text: &str) -> Result<(), AllocError>
     ensures { OnOk result (Continues (string_bytes out.old) (string_bytes out.new)
         (texted before.now text.now)) }
@@ -107,7 +107,7 @@ fn push_constraint(
     push(out, "}")
 }
 
-/// Each behind a comma.
+/// Adds the constraints, each behind a comma.
 fn push_more_constraints(
     out: &mut String,
     alloc: Global,
@@ -149,7 +149,7 @@ fn push_task(out: &mut String, alloc: Global, task: &Task) -> Result<(), AllocEr
     push(out, "}}")
 }
 
-/// Each behind a comma.
+/// Adds the tasks, each behind a comma.
 fn push_more_tasks(out: &mut String, alloc: Global, tasks: &[Task]) -> Result<(), AllocError>
     ensures { OnOk result (Continues (string_bytes out.old) (string_bytes out.new)
         (flat_map (λ x. 44 ∷ compact_text (task_json x)) tasks.now)) }
@@ -185,7 +185,7 @@ fn push_group(out: &mut String, alloc: Global, group: &Group) -> Result<(), Allo
     push(out, "]}")
 }
 
-/// Each behind a comma.
+/// Adds the groups, each behind a comma.
 fn push_more_groups(out: &mut String, alloc: Global, groups: &[Group]) -> Result<(), AllocError>
     ensures { OnOk result (Continues (string_bytes out.old) (string_bytes out.new)
         (flat_map (λ x. 44 ∷ compact_text (group_json x)) groups.now)) }
@@ -208,7 +208,7 @@ fn push_groups(out: &mut String, alloc: Global, groups: &[Group]) -> Result<(), 
     push_more_groups(out, alloc, rest)
 }
 
-/// The member that says a job's status.
+/// The member with a job's status.
 #[tactic(auto, unfolding(json::specs::Print::escape_byte))]
 fn status_member<'a>(status: JobStatus) -> &'a str
     ensures { result.now ≡ texted (codes ",\"Status\":") (job_status_text status) }
@@ -220,7 +220,7 @@ fn status_member<'a>(status: JobStatus) -> &'a str
     }
 }
 
-/// The end of the groups, and the member that says a job's type.
+/// The end of the groups, and the member with a job's type.
 #[tactic(auto, unfolding(json::specs::Print::escape_byte))]
 fn type_member<'a>(kind: JobKind) -> &'a str
     ensures { result.now ≡ texted (codes "],\"Type\":") (kind_text kind) }
@@ -231,7 +231,7 @@ fn type_member<'a>(kind: JobKind) -> &'a str
     }
 }
 
-/// Whether the job was stopped, and what stands up to its groups.
+/// The member that says whether the job was stopped, and what stands between it and the groups.
 fn stop_text<'a>(stop: bool) -> &'a str
     ensures { result.now ≡ stop_text stop }
 {
@@ -242,7 +242,7 @@ fn stop_text<'a>(stop: bool) -> &'a str
     }
 }
 
-/// The members between the constraints and the groups.
+/// Adds the members between the constraints and the groups.
 #[tactic(auto, unfolding(crate::specs::JobText::member_text))]
 fn push_members(out: &mut String, alloc: Global, job: &JobShown) -> Result<(), AllocError>
     ensures { OnOk result (Continues (string_bytes out.old) (string_bytes out.new)
@@ -277,7 +277,7 @@ fn push_job(out: &mut String, alloc: Global, job: &JobShown) -> Result<(), Alloc
     push(out, "}")
 }
 
-/// The text of a job.
+/// The text of a job. Want of memory is the only error.
 pub fn job_text(alloc: Global, job: &JobShown) -> Result<String, AllocError>
     ensures { IfOk result (λ s. string_bytes s ≡ compact_text (job_json job.now)) }
 {

@@ -29,7 +29,7 @@ pub fn read_json(alloc: Global, body: &[u8]) -> Result<Value, Refusal>
     }
 }
 
-/// The member, where it is there and not null.
+/// The member, if it is present and not null.
 #[tactic(auto, unfolding(crate::specs::Reading::present))]
 pub fn present(object: &Value, member: Member) -> Option<&Value>
     ensures { option_map (λ v. view v.now) result ≡ present member (view object.now) }
@@ -40,7 +40,7 @@ pub fn present(object: &Value, member: Member) -> Option<&Value>
     }
 }
 
-/// The member, which has to be there.
+/// The member, which has to be present and not null.
 #[tactic(auto, unfolding(crate::specs::Reading::demanded))]
 pub fn demanded(object: &Value, member: Member) -> Result<&Value, Refusal>
     ensures { Gives (λ v. view v.now) result (demanded member (view object.now)) }
@@ -48,7 +48,7 @@ pub fn demanded(object: &Value, member: Member) -> Result<&Value, Refusal>
     present(object, member).ok_or(Refusal::BadField(member))
 }
 
-/// The top of a document, which is an object.
+/// The top of a document, which has to be an object.
 #[tactic(auto, unfolding(crate::specs::Reading::top))]
 pub fn document(value: &Value) -> Result<&Value, Refusal>
     ensures { Gives (λ v. view v.now) result (top (view value.now)) }
@@ -60,7 +60,7 @@ pub fn document(value: &Value) -> Result<&Value, Refusal>
     }
 }
 
-/// A member that is an object.
+/// The value, which has to be an object.
 #[tactic(auto, unfolding(crate::specs::Reading::an_object))]
 pub fn object(value: &Value, member: Member) -> Result<&Value, Refusal>
     ensures { Gives (λ v. view v.now) result (an_object member (view value.now)) }
@@ -72,7 +72,7 @@ pub fn object(value: &Value, member: Member) -> Result<&Value, Refusal>
     }
 }
 
-/// A member that is `true` or `false`.
+/// The value, which has to be `true` or `false`.
 #[tactic(auto, unfolding(crate::specs::Reading::a_flag))]
 pub fn flag(value: &Value, member: Member) -> Result<bool, Refusal>
     ensures { Gives same result (a_flag member (view value.now)) }
@@ -80,7 +80,7 @@ pub fn flag(value: &Value, member: Member) -> Result<bool, Refusal>
     value.as_bool().ok_or(Refusal::BadField(member))
 }
 
-/// A whole number from low to high.
+/// The value, which has to be a whole number from `low` to `high`.
 #[tactic(auto, unfolding(crate::specs::Reading::a_number))]
 pub fn number(value: &Value, member: Member, low: u64, high: u64) -> Result<u64, Refusal>
     ensures { Gives same result (a_number member low high (view value.now)) }
@@ -94,10 +94,10 @@ pub fn number(value: &Value, member: Member, low: u64, high: u64) -> Result<u64,
 /// The most bytes of a text.
 pub const MAX_TEXT: usize = 256;
 
-/// The most of a resource that a task asks for or a node has.
+/// The most that a task may ask for of a resource, or a node may have of it.
 pub const MAX_QUANTITY: u64 = 2_147_483_647;
 
-/// A text of at most 256 bytes.
+/// The value, which has to be a text of at most 256 bytes.
 #[tactic(auto, unfolding(crate::specs::Reading::a_text))]
 pub fn text(value: &Value, member: Member) -> Result<&str, Refusal>
     ensures { Gives (λ s. s.now) result (a_text member (view value.now)) }
@@ -108,7 +108,7 @@ pub fn text(value: &Value, member: Member) -> Result<&str, Refusal>
     }
 }
 
-/// A name of that kind.
+/// The value, which has to be a name of that kind.
 #[tactic(auto, unfolding(crate::specs::Reading::a_name))]
 pub fn name(alloc: Global, value: &Value, member: Member, kind: NameKind) -> Result<Text, Refusal>
     ensures { Gives same result (a_name member kind (view value.now)) }
@@ -118,7 +118,7 @@ pub fn name(alloc: Global, value: &Value, member: Member, kind: NameKind) -> Res
     Ok(Text::from_str(alloc, name.as_str())?)
 }
 
-/// The number of an id of that kind.
+/// The number of the value, which has to be an id of that kind.
 #[tactic(auto, unfolding(crate::specs::Reading::an_id))]
 pub fn id(value: &Value, member: Member, kind: IdKind) -> Result<u64, Refusal>
     ensures { Gives same result (an_id member kind (view value.now)) }
@@ -130,7 +130,7 @@ pub fn id(value: &Value, member: Member, kind: IdKind) -> Result<u64, Refusal>
     }
 }
 
-/// A list of low to high items.
+/// The value, which has to be a list of `low` to `high` items.
 #[tactic(auto, using(crate::proofs::Items::counts), unfolding(crate::specs::Reading::a_list))]
 pub fn list(value: &Value, member: Member, low: usize, high: usize) -> Result<&[Value], Refusal>
     ensures { Gives (λ s. items_view s.now) result (a_list member low high (view value.now)) }
@@ -141,7 +141,7 @@ pub fn list(value: &Value, member: Member, low: usize, high: usize) -> Result<&[
     }
 }
 
-/// A whole number from low to high, or what an absent one stands for.
+/// The member, which has to be a whole number from `low` to `high`, or `default` if it is absent or null.
 pub fn number_or(
     object: &Value,
     member: Member,
@@ -158,7 +158,7 @@ pub fn number_or(
     }
 }
 
-/// Whether a flag is set, which is no where it is absent.
+/// Whether the flag is set. One that is absent or null is not.
 pub fn flag_or_false(object: &Value, member: Member) -> Result<bool, Refusal>
     ensures { Gives same result
         (or_else false (a_flag member) (present member (view object.now))) }
@@ -169,7 +169,7 @@ pub fn flag_or_false(object: &Value, member: Member) -> Result<bool, Refusal>
     }
 }
 
-/// A name, where an empty one counts as absent.
+/// The value, which has to be a name of that kind; an empty text counts as absent.
 #[tactic(auto, unfolding(crate::specs::Registration::name_if_any))]
 pub fn name_if_any(
     alloc: Global,

@@ -126,7 +126,7 @@ fn work(alloc: Global, job: &Value) -> Result<(Rows<Constraint>, Rows<Group>), R
     }
 }
 
-/// What a job says beside its name and its namespace.
+/// What a job's document has besides its name and its namespace.
 #[derive(Drop)]
 pub(crate) struct JobTerms {
     kind: JobKind,
@@ -173,7 +173,7 @@ fn names(alloc: Global, job: &Value) -> Result<(Text, Option<Text>), Refusal>
     }
 }
 
-/// What the job says. No index is demanded yet.
+/// The job's document, as a registration that enforces no index yet.
 #[tactic(auto, unfolding(crate::specs::Registration::job_in))]
 fn job(alloc: Global, value: &Value) -> Result<RegistrationDocument, Refusal>
     ensures { Gives same result (job_in (view value.now)) }
@@ -201,7 +201,7 @@ fn job(alloc: Global, value: &Value) -> Result<RegistrationDocument, Refusal>
     }
 }
 
-/// The index that is demanded, where one is.
+/// The index that the registration enforces, if it enforces one.
 #[tactic(auto, unfolding(crate::specs::Registration::enforced_in))]
 fn enforced(top: &Value) -> Result<Option<u64>, Refusal>
     ensures { Gives same result (enforced_in (view top.now)) }
@@ -229,7 +229,7 @@ fn registration(alloc: Global, value: &Value) -> Result<RegistrationDocument, Re
     }
 }
 
-/// The registration that a body is, or the first refusal.
+/// The registration in a body, or the first refusal.
 #[tactic(auto, unfolding(crate::specs::Reading::body_in))]
 pub fn read_registration(alloc: Global, body: &[u8]) -> Result<RegistrationDocument, Refusal>
     ensures value { Gives same result (body_in registration_in body.now) }

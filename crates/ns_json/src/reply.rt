@@ -15,7 +15,7 @@ use ns_types::id::{IdKind, id_str};
 use ns_types::reply::{Content, Reply, Response};
 use std::alloc::{AllocError, Global};
 
-/// Room for the reply of a write, which is made before its step.
+/// Room for the reply to a write, which is taken before the step.
 #[derive(Drop)]
 pub struct ReplyRoom {
     bytes: Vec<u8>,
@@ -24,13 +24,13 @@ pub struct ReplyRoom {
 }
 
 impl ReplyRoom {
-    /// Room for the longest reply of a write, where each byte of a text may take six.
+    /// Room for the longest reply to a write, even if each byte of a text takes six. Want of memory is the only error.
     pub fn new(alloc: Global) -> Result<ReplyRoom, AllocError> {
         let bytes = Vec::with_capacity(alloc, 320)?;
         Ok(ReplyRoom { bytes })
     }
 
-    /// The room as a buffer, for the replies of other writes.
+    /// The room as an empty buffer, for the replies to other writes.
     pub fn into_bytes(self) -> Vec<u8>
         ensures empty { result.items ≡ [] }
         ensures enough { 320 ≤ vec_capacity result }
@@ -39,7 +39,7 @@ impl ReplyRoom {
         bytes
     }
 
-    /// The response to a write, in the room that was made for it. It takes no memory.
+    /// The response to a registration or a deregistration, in this room. It takes no memory.
     #[tactic(auto, unfolding(crate::specs::Replies::rendered, crate::specs::Replies::body_of))]
     pub fn render(self, reply: &Reply) -> Response
         requires { IsRegistered reply.now.content }
@@ -54,7 +54,7 @@ impl ReplyRoom {
     }
 }
 
-/// The response to what succeeded.
+/// The response to a request that was answered by a reply. Want of memory is the only error.
 #[tactic(auto, unfolding(crate::specs::Replies::rendered, crate::specs::Replies::body_of))]
 pub fn render(alloc: Global, reply: &Reply) -> Result<Response, AllocError>
     requires { IsRendered reply.now.content }
@@ -99,7 +99,7 @@ fn write_registered(
     )
 }
 
-/// What a registration is answered.
+/// The body of the reply to a registration or a deregistration, in this room.
 fn registered_text(room: ReplyRoom, evaluation: u64, index: u64, job_index: u64) -> String
     ensures text { string_bytes result ≡ compact_text (registered_json evaluation index job_index) }
     ensures short { length (string_bytes result) ≤ longest_registered }

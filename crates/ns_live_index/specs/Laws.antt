@@ -1,4 +1,4 @@
--- When an index is right for a world that no row was written into one by one.
+-- When an index is right although it did not follow the world row by row, and why loads fit 64 bits.
 use Rattle.std.specs.Prelude.{Option, Result}
 use Rattle.ns_types.specs.declared.refusal.Refusal.{Refusal}
 use Rattle.ns_types.specs.declared.reply.Content.{Content}
@@ -15,16 +15,17 @@ use Rattle.ns_live_index.specs.declared.live.Live.{Live}
 use Rattle.ns_live_index.specs.Index.{IsEmpty, IsRight}
 use Rattle.ns_live_index.specs.Naming.{AreNamed, KeepsNodes}
 
--- nothing is live or shown at first, and no quota is named
+-- an empty index is right for the opening world: nothing is live in it, and no quota is named
 abbrev pub EmptyIsRightAtFirst : Type 0
 EmptyIsRightAtFirst = (secret : Name) (live : Live) → IsEmpty live → IsRight (opening secret).world live
 
--- administrators move no live allocation and change no node: only which namespaces name which quota is to be put right
+-- requests of administrators change no live allocation and no node, so only the names and totals of quotas have to be put
+-- right
 abbrev pub AdministrationKeepsRight : Type 0
 AdministrationKeepsRight = (secret : Option Name) (command : AdminCommand) (s s' : State)
     (result : Result Content Refusal) (live live' : Live) → Changes (administer secret command s) s result s' →
     IsRight s.world live → KeepsNodes live live' → AreNamed s'.world live' → IsRight s'.world live'
 
--- the load of each node fits 64 bits, be it there or not
+-- in a sound world the load of each node fits 64 bits, whether the node exists or not
 abbrev pub SoundLoadsFit : Type 0
 SoundLoadsFit = (w : World) → IsSound w → (pool node : Name) → IsCounted (node_load w pool node)

@@ -12,7 +12,7 @@ use Rattle.ns_live_index.specs.declared.live.Live.{Live}
 use Rattle.ns_live_index.specs.declared.pool_keys.NodeKeys.{NodeKeys}
 use Rattle.ns_live_index.specs.declared.pool_keys.PoolKeys.{PoolKeys}
 
--- ---- a node's
+-- ---- the keys on one node
 
 abbrev pub holds_here : NodeKeys → Key → Bool
 holds_here on = holds_key on.keys
@@ -20,7 +20,7 @@ holds_here on = holds_key on.keys
 abbrev pub has_room_here : NodeKeys → Key → Bool
 has_room_here on = has_key_room on.keys
 
--- ---- a pool's
+-- ---- the keys in one pool, by node
 
 abbrev pub holds_on_node : PoolKeys → Name × Key → Bool
 holds_on_node its = at_name holds_here its.nodes
@@ -28,10 +28,11 @@ holds_on_node its = at_name holds_here its.nodes
 abbrev pub has_node_room : PoolKeys → Name × Key → Bool
 has_node_room its = at_name has_room_here its.nodes
 
+-- something is kept for the node
 abbrev pub stands_on : PoolKeys → Name → Bool
 stands_on its node = is_some (row_at its.nodes node)
 
--- none, where nothing stands for the node
+-- the load that is kept for the node; none if nothing is kept for it
 abbrev pub load_on : PoolKeys → Name → Resources
 load_on its node = option_map_or (λ on. on.load) (row_at its.nodes node) none
 
@@ -41,7 +42,7 @@ no_keys = record { numbers = empty }
 abbrev pub keys_on : PoolKeys → Name → KeySet
 keys_on its node = option_map_or (λ on. on.keys) (row_at its.nodes node) no_keys
 
--- ---- all pools'
+-- ---- the keys in all pools
 
 abbrev pub holds_in_pool : Live → Name × (Name × Key) → Bool
 holds_in_pool live = at_name holds_on_node live.pools

@@ -5,7 +5,7 @@ use Rattle.keyed.specs.Table.{rows, with_row}
 use Rattle.ns_types.specs.State.Names.{Key}
 use Rattle.keyed.specs.declared.key_set.KeySet.{KeySet}
 
--- by namespace, then by number
+-- the keys of a set, by namespace and then by number
 abbrev pub keys_in : KeySet → List Key
 keys_in held = flat_map (λ namespace. map (λ n. (namespace.0, n)) (keys (rows namespace.1)))
     (entries (rows held.numbers))

@@ -12,8 +12,8 @@ use Rattle.ns_types.specs.State.Rows.{World, allocation_at, is_live, node_at}
 use Rattle.ns_types.specs.State.Sums.{node_load}
 use Rattle.keyed.specs.declared.key_set.KeySet.{KeySet}
 
--- what of a valid world keeps each node's load from passing 64 bits: live allocations are on nodes that are there, and
--- these have room for them and offer no more than they may
+-- what keeps each node's load within 64 bits in a valid world: live allocations are on nodes that exist, and these have room
+-- for them and offer no more than they may
 pub record IsWithinNodes (w : World) : Type 0 where
   pub placed : (key : Key) (row : Allocation) → allocation_at w key ≡ Some row → is_live row ≡ true →
       IsTrue (is_some (node_at w row.pool row.node))
@@ -24,7 +24,7 @@ pub record IsWithinNodes (w : World) : Type 0 where
 
 -- ---- what the rows at keys take together
 
--- the size of a row, live or not, where there is one
+-- what a row takes, live or not: 0 if there is none
 abbrev pub size_amount : (Resources → ℕ) → Option Allocation → ℕ
 size_amount amount row = option_map_or (λ row. amount row.size) row 0
 

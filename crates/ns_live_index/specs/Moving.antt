@@ -1,4 +1,4 @@
--- What a change of a key leaves of the loads of nodes.
+-- What a change of a key does to the loads of nodes.
 use Rattle.std.specs.Prelude.{false, IsTrue, Option, Some, None, if◌then◌else◌}
 use Rattle.std.specs.Option.{option_map_or}
 use Rattle.ns_types.specs.declared.allocation.Allocation.{Allocation}
@@ -11,7 +11,7 @@ use Rattle.ns_live_index.specs.declared.live.Live.{Live}
 use Rattle.ns_live_index.specs.declared.pool_keys.PoolKeys.{PoolKeys}
 use Rattle.ns_live_index.specs.Levels.{load_at, load_on, stands_at, stands_on}
 
--- the load has one part in the place of another, and stays within 64 bits
+-- the load changes as one of its parts goes from `before` to `after`, and stays within 64 bits
 abbrev pub MovesLoad : Resources → Resources → Resources → Resources → Type 0
 MovesLoad before after old new = (IsCounted old → IsCounted new) × Moves before after old new
 
@@ -31,7 +31,7 @@ abbrev pub MovesInPool : Name → Name → Resources → Resources → Live → 
 MovesInPool pool node before after old new = (p n : Name) →
     MovesLoad (part_at pool node p n before) (part_at pool node p n after) (load_at old p n) (load_at new p n)
 
--- the part goes, where something still stands for the node
+-- the load of the node loses the part, if something is still kept for the node
 abbrev pub LeavesOnNode : Name → Resources → PoolKeys → PoolKeys → Type 0
 LeavesOnNode node part old new = (name : Name) → IsTrue (stands_on new name) →
     MovesLoad (part_on node name part) none (load_on old name) (load_on new name)
@@ -42,12 +42,12 @@ LeavesInPool pool node part old new = (p n : Name) → IsTrue (stands_at new p n
 
 -- ---- what a row takes
 
--- on a node on which it is live, and none on others
+-- what a row takes on a node: its size if it is live there, and none if not
 abbrev pub taken : Name → Name → Option Allocation → Resources
 taken pool node None = none
 taken pool node (Some row) = if is_live_on pool node row then row.size else none
 
--- on the node on which the row is live its load has that in the place of what the row before it took
+-- on the node on which the row `after` is live, the load gains what it takes and loses what `before` took there
 abbrev pub AddsLoad : Option Allocation → Option Allocation → Live → Live → Type 0
 AddsLoad before after old new = (pool node : Name) →
     MovesLoad (if option_map_or (is_live_on pool node) after false then taken pool node before else none)

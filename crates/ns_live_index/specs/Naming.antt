@@ -1,4 +1,4 @@
--- Which namespaces name which quota, and the total of what they use, as it is held beside the index, and when that is right.
+-- Which namespaces name which quota, and the totals of what they use, as kept beside the index, and when they are right.
 use Rattle.std.specs.Prelude.{◌≡◌, Bool, false, IsTrue, Option, Some, None, if◌then◌else◌, sum_by}
 use Rattle.std.specs.Prelude.{List, [], ◌∷◌, is_some}
 use Rattle.std.specs.FinMap.{empty, entries, get}
@@ -27,7 +27,7 @@ has_name_room held ns = has_slot held.names ns
 abbrev pub holds_at : QuotaNames → Name × Name → Bool
 holds_at names = at_name holds_name names.quotas
 
--- whether that takes no memory
+-- whether there is room for the namespace at the quota, so that it takes no memory
 abbrev pub has_room_at : QuotaNames → Name × Name → Bool
 has_room_at names = at_name has_name_room names.quotas
 
@@ -35,7 +35,7 @@ has_room_at names = at_name has_name_room names.quotas
 abbrev pub names_at : QuotaNames → Name → ByName Unit
 names_at names quota = option_map_or (λ (held : QuotaUse). rows held.names) (row_at names.quotas quota) empty
 
--- the total that is kept of it
+-- the total that is kept for the quota
 abbrev pub total_at : QuotaNames → Name → Resources
 total_at names quota = option_map_or (λ (held : QuotaUse). held.total) (row_at names.quotas quota) none
 
@@ -44,7 +44,7 @@ abbrev pub row_name : Name × Option Unit → List Name
 row_name (ns, None) = []
 row_name (ns, Some row) = ns ∷ []
 
--- ---- when that is right
+-- ---- when names and totals are right
 
 abbrev pub is_quota : Option Name → Name → Bool
 is_quota named quota = option_map_or (same_name quota) named false
@@ -81,27 +81,27 @@ AreNamed w live = AreKeptFor w.tenants live
 
 -- ---- what a change leaves
 
--- the quotas with another one, or none, for the namespace
+-- the quotas that namespaces name, with this quota, or none, for the namespace
 abbrev pub with_quota : Name → Option Name → (Name → Option Name) → Name → Option Name
 with_quota namespace quota quota_of ns = if same_name ns namespace then quota else quota_of ns
 
--- what namespaces use, with another value for one of them
+-- what namespaces use, with this amount for the namespace
 abbrev pub with_use : Name → Resources → (Name → Resources) → Name → Resources
 with_use namespace used use_of ns = if same_name ns namespace then used else use_of ns
 
--- names and totals are put right where the namespace, which uses this, has named one quota, and names another
+-- names and totals stay right when the namespace, which uses `used`, goes from the quota `before` to the quota `after`
 abbrev pub PutsQuota : Name → Option Name → Option Name → Resources → QuotaNames → QuotaNames → Type 0
 PutsQuota namespace before after used old new = (quota_of : Name → Option Name) (use_of : Name → Resources) →
     AreKept quota_of use_of old → quota_of namespace ≡ before → IsTotal used (use_of namespace) →
     AreKept (with_quota namespace after quota_of) use_of new
 
--- names and totals are put right where a namespace that names the quota used one thing, and uses another
+-- names and totals stay right when the use of a namespace that names the quota goes from `before` to `after`
 abbrev pub PutsUse : Name → Resources → Resources → QuotaNames → QuotaNames → Type 0
 PutsUse quota before after old new = (quota_of : Name → Option Name) (use_of : Name → Resources) →
     AreKept quota_of use_of old → (namespace : Name) → quota_of namespace ≡ Some quota → IsTotal before (use_of namespace) →
     (used : Resources) → IsTotal after used → AreKept quota_of (with_use namespace used use_of) new
 
--- the namespace can be held at the quota without memory
+-- the namespace can be held without memory at the quota, if there is one
 abbrev pub HasNameRoom : QuotaNames → Name → Option Name → Type 0
 HasNameRoom names namespace None = Unit {0}
 HasNameRoom names namespace (Some quota) = IsTrue (has_room_at names (quota, namespace))
@@ -110,7 +110,7 @@ HasNameRoom names namespace (Some quota) = IsTrue (has_room_at names (quota, nam
 abbrev pub KeepsTotals : QuotaNames → QuotaNames → Type 0
 KeepsTotals old new = (quota : Name) → total_at new quota ≡ total_at old quota
 
--- the same is held, and each total stays
+-- the same namespaces are held at each quota, and each total stays
 pub record HoldsSame (old new : QuotaNames) : Type 0 where
   pub names : (quota ns : Name) → holds_at new (quota, ns) ≡ holds_at old (quota, ns)
   pub totals : KeepsTotals old new

@@ -22,12 +22,12 @@ use Rattle.ns_live_index.specs.Until.{is_live_until, is_past, live_until, row_if
 abbrev pub kept_in : ShownNodes → Name → Name → Option ShownNode
 kept_in shown pool name = option_and_then (λ nodes. row_at nodes name) (row_at shown.pools pool)
 
--- a node that is not behind
+-- the node that is kept, if it is not behind
 abbrev pub if_shown : Option ShownNode → Option PoolNode
 if_shown None = None
 if_shown (Some kept) = if kept.is_behind then None else Some kept.seen.node
 
--- behind or not
+-- the node that is kept, behind or not
 abbrev pub if_seen : Option ShownNode → Option SeenNode
 if_seen kept = option_map (λ k. k.seen) kept
 
@@ -47,7 +47,7 @@ base_at live pool name = base_in live.shown pool name
 abbrev pub ShowsSame : ShownNodes → ShownNodes → Type 0
 ShowsSame old new = (pool name : Name) → kept_in new pool name ≡ kept_in old pool name
 
--- that is kept of one node, or nothing, and the same of the others
+-- of one node this is kept, or nothing, and of the others the same as before
 abbrev pub ShowsThere : Name → Name → Option ShownNode → ShownNodes → ShownNodes → Type 0
 ShowsThere pool name kept old new = (p n : Name) →
     kept_in new p n ≡ (if same_name p pool && same_name n name then kept else kept_in old p n)
@@ -58,24 +58,24 @@ shown_so seen = Some (record { seen = seen; is_behind = false })
 abbrev pub as_behind : ShownNode → ShownNode
 as_behind kept = record { seen = kept.seen; is_behind = true }
 
--- whether the place comes after the last of a node that is kept
+-- the node is kept, and the place comes after its last one
 abbrev pub is_base_for : ℕ → Option ShownNode → Bool
 is_base_for place kept = option_map_or (λ k. is_past k.seen.last place) kept false
 
--- what is left of it where a row at the place comes or goes: it is behind, if the place comes after its last
+-- what is kept of a node after a row at the place came or went: it is behind if the place is after its last, else forgotten
 abbrev pub left_by : ℕ → Option ShownNode → Option ShownNode
 left_by place None = None
 left_by place (Some kept) = if is_past kept.seen.last place then Some (as_behind kept) else None
 
--- ---- when that is right
+-- ---- when what is kept is right
 
--- the node as a snapshot has it, where it is there
+-- the node as a snapshot has it, if it exists
 abbrev pub node_seen : World → Name → Name → Option PoolNode
 node_seen w pool name = option_map (λ row. record { name = name; row = row; live = live_on w pool name })
     (node_at w pool name)
 
--- Each node that is shown is as in the world, and of one that is kept the live allocations up to its last place are: nothing
--- is said of its row.
+-- Each node that is shown is as in the world. Of each node that is kept, the live allocations up to its last place are as in
+-- the world; its own row may differ.
 pub record AreShown (w : World) (live : Live) : Type 0 where
   pub nodes : (pool name : Name) (node : PoolNode) → shown_at live pool name ≡ Some node →
       node_seen w pool name ≡ Some node
@@ -84,24 +84,24 @@ pub record AreShown (w : World) (live : Live) : Type 0 where
 
 -- ---- what a change leaves shown
 
--- the row, where it is live on the node
+-- the row, if it is live on the node
 abbrev pub live_row : Name → Name → Option Allocation → Option Allocation
 live_row pool node = row_if (is_live_on pool node)
 
--- of these and of those rows the same pass, under the same keys
+-- the same rows pass before and after, under the same keys
 abbrev pub SamePass : (Allocation → Bool) → (Key → Option Allocation) → (Key → Option Allocation) → Type 0
 SamePass passes before after = (key : Key) → row_if passes (after key) ≡ row_if passes (before key)
 
--- the same are live on the node
+-- the same rows are live on the node
 abbrev pub SameOn : Name → Name → (Key → Option Allocation) → (Key → Option Allocation) → Type 0
 SameOn pool node = SamePass (is_live_on pool node)
 
--- the same are live on the node at places up to the last one
+-- the same rows are live on the node at places up to the last one
 abbrev pub SameUntil : Name → Name → Option ℕ → (Key → Option Allocation) → (Key → Option Allocation) → Type 0
 SameUntil pool node last = SamePass (is_live_until pool node last)
 
--- What is still shown was shown before, and on its node the same rows are live before and after. What is still kept was kept
--- before, and the same rows are live up to its last place.
+-- A node that is still shown was shown before, and the same rows are live on it before and after. A node that is still kept
+-- was kept before, and the same rows are live on it up to its last place.
 pub record ShowsUnmoved (before after : Key → Option Allocation) (old new : Live) : Type 0 where
   pub nodes : (pool name : Name) (node : PoolNode) → shown_at new pool name ≡ Some node →
       (shown_at old pool name ≡ Some node) × SameOn pool name before after
@@ -116,24 +116,24 @@ pub record ForgetsRow (row : Option Allocation) (old new : ShownNodes) : Type 0 
   pub bases : (pool name : Name) (seen : SeenNode) → base_in new pool name ≡ Some seen →
       (base_in old pool name ≡ Some seen) × (row_until pool name seen.last row ≡ None)
 
--- The row is live on no node that is shown, and is up to its last place on none that is kept.
+-- The row is not live on a node that is shown, and on a node that is kept it is not live up to the node's last place.
 pub record HidesRow (row : Option Allocation) (shown : ShownNodes) : Type 0 where
   pub nodes : (pool name : Name) (node : PoolNode) → shown_in shown pool name ≡ Some node →
       live_row pool name row ≡ None
   pub bases : (pool name : Name) (seen : SeenNode) → base_in shown pool name ≡ Some seen →
       row_until pool name seen.last row ≡ None
 
--- what is still kept was kept before
+-- a node that is still kept was kept so before
 abbrev pub KeepsBases : Live → Live → Type 0
 KeepsBases old new = (pool name : Name) (seen : SeenNode) → base_at new pool name ≡ Some seen →
     base_at old pool name ≡ Some seen
 
--- what is still shown was shown before, and is no changed node of the pool
+-- a node still shown was shown before, and is not a changed node of the pool; a node still kept was kept before
 pub record ForgetsNodes (pool : Name) (changes : ByName (Option Node)) (old new : Live) : Type 0 where
   pub nodes : (p n : Name) (node : PoolNode) → shown_at new p n ≡ Some node →
       (shown_at old p n ≡ Some node) × (same_name p pool ≡ true → get changes n ≡ None)
   pub bases : KeepsBases old new
 
--- nothing was shown or forgotten, and which namespaces name which quota stays
+-- the same is kept of each node, and the names and totals of quotas stay
 abbrev pub KeepsShown : Live → Live → Type 0
 KeepsShown old new = (new.shown ≡ old.shown) × KeepsNames old new

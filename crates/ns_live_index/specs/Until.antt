@@ -7,7 +7,7 @@ use Rattle.ns_types.specs.State.Names.{Name}
 use Rattle.ns_types.specs.State.Rows.{World, is_live_on}
 use Rattle.ns_types.specs.Working.Snapshot.{allocations_on, seen_live}
 
--- whether the place comes after the last one, where there is a last one
+-- the place comes after the last one; true if there is no last one
 abbrev pub is_past : Option ℕ → ℕ → Bool
 is_past None place = true
 is_past (Some last) place = nat_lt last place
@@ -20,19 +20,19 @@ unfoldable pub live_until : World → Name → Name → Option ℕ → List Live
 live_until w pool node last = map seen_live (by_number (λ a. a.1.1.place)
     (filter (λ a. is_until last a.1.1.place) (allocations_on w pool node)))
 
--- those at places after it
+-- the live allocations on the node at places after the last one, in the order in which they were placed
 unfoldable pub live_after : World → Name → Name → Option ℕ → List LiveAllocation
 live_after w pool node last = map seen_live (by_number (λ a. a.1.1.place)
     (filter (λ a. is_past last a.1.1.place) (allocations_on w pool node)))
 
--- the number of the last entry, or that one where there is none
+-- the number of the last entry, or the given one if there is no entry
 abbrev pub last_number : {X : Type 0} → Option ℕ → List (ℕ × X) → Option ℕ
 last_number last [] = last
 last_number last (e ∷ es) = last_number (Some e.0) es
 
 -- ---- one row
 
--- the row, where it passes
+-- the row, if it passes
 abbrev pub row_if : (Allocation → Bool) → Option Allocation → Option Allocation
 row_if passes None = None
 row_if passes (Some row) = if passes row then Some row else None
@@ -40,6 +40,6 @@ row_if passes (Some row) = if passes row then Some row else None
 abbrev pub is_live_until : Name → Name → Option ℕ → Allocation → Bool
 is_live_until pool node last row = is_live_on pool node row && is_until last row.place
 
--- the row, where it is live on the node, at a place up to the last one
+-- the row, if it is live on the node at a place up to the last one
 abbrev pub row_until : Name → Name → Option ℕ → Option Allocation → Option Allocation
 row_until pool node last = row_if (is_live_until pool node last)

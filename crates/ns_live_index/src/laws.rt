@@ -1,4 +1,4 @@
-//! What the index of live allocations rests on.
+//! Laws on which the index of live allocations rests.
 
 ghost use Rattle.ns_live_index.specs.Laws.{AdministrationKeepsRight, EmptyIsRightAtFirst, SoundLoadsFit};
 
@@ -7,13 +7,13 @@ pub fn empty_is_right_at_first()
     ensures { EmptyIsRightAtFirst }
 {}
 
-/// An index that is right stays so over what administrators ask, where it follows which namespaces name which quota: no
-/// namespace goes that has a live allocation, and no node changes.
+/// An index that is right stays so over requests of administrators, if it follows which namespaces name which quota: they
+/// delete no namespace that has a live allocation, and change no node.
 pub fn administration_keeps_right()
     ensures { AdministrationKeepsRight }
 {}
 
-/// What is live on a node of a sound world is within 64 bits together, and nothing is on a node that is not there.
+/// In a sound world the load of each node fits 64 bits, also of a node that does not exist: nothing is live on it.
 pub fn sound_loads_fit()
     ensures { SoundLoadsFit }
 {}

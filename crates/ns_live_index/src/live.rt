@@ -71,7 +71,7 @@ fn is_live_on(row: Option<&Allocation>, pool: &Text, node: &Text) -> bool
     }
 }
 
-/// What the row takes on the node: nothing, where it is not live there.
+/// What the row takes on the node: nothing if it is not live there.
 fn size_on(row: Option<&Allocation>, pool: &Text, node: &Text) -> Resources
     ensures { result ≡ taken pool.now node.now (option_copied row.entry) }
 {
@@ -87,7 +87,7 @@ fn size_on(row: Option<&Allocation>, pool: &Text, node: &Text) -> Resources
     }
 }
 
-/// Whether the row is live only on a node on which the last one is live, at no later place.
+/// Whether `last` is live on the node of `row`, at the place of `row` or an earlier one. True if there is no `row`.
 fn is_beside(last: Option<&Allocation>, row: Option<&Allocation>) -> bool
     ensures { IsTrue result → (shown : ShownNodes) → HidesRow (option_copied last.entry) shown →
         HidesRow (option_copied row.entry) shown }
@@ -98,7 +98,7 @@ fn is_beside(last: Option<&Allocation>, row: Option<&Allocation>) -> bool
     }
 }
 
-/// Whether the row, if any, is placed no later.
+/// Whether the row, if there is one, has that place or an earlier one.
 fn is_placed_by(row: Option<&Allocation>, place: u64) -> bool
     ensures { (its : Allocation) → option_copied row.entry ≡ Some its →
         IsTrue result → its.place ≤ place }
@@ -122,7 +122,7 @@ impl Live {
         }
     }
 
-    /// Makes room for the row under this key, where it is live. Want of memory is the only error.
+    /// Makes room for the row under this key, if it is live. Want of memory is the only error.
     pub fn reserve(
         &mut self,
         namespace: &Text,
@@ -140,9 +140,9 @@ impl Live {
         Ok(())
     }
 
-    /// The row under this key was `before` and is `after` from now on. It takes no memory: for a row that is live there
-    /// has to be room, which other keys keep. A node on which one of them is live is not shown any more. It is kept as a base
-    /// where that is placed after its last.
+    /// The row under this key was `before` and is `after` from now on. It takes no memory: for a live row there has to be
+    /// room. Other keys keep their room. A node on which one of the two rows is live is not shown any more; it is kept as a
+    /// base if that row is placed after the node's last one.
     pub fn put(
         &mut self,
         namespace: &Text,
@@ -167,7 +167,7 @@ impl Live {
         self.put_after(None, namespace, number, before, after);
     }
 
-    /// The same behind another row, if any, whose node is not shown any more, where it is live.
+    /// As `put`, after the row `last` was put, if there is one: if it is live, its node is not shown any more.
     fn put_after(
         &mut self,
         last: Option<&Allocation>,
@@ -199,7 +199,7 @@ impl Live {
         }
     }
 
-    /// The same of the index alone.
+    /// As `put`, of the keys and loads alone: what is shown stays.
     fn put_key(
         &mut self,
         namespace: &Text,
@@ -242,7 +242,7 @@ impl Live {
         Ok(())
     }
 
-    /// The namespace's rows are those of the table, and are changed so from now on: as `put`, row by row. Totals of quotas
+    /// The namespace's rows are those of the table, and these changes are made to them: as `put`, row by row. Totals of quotas
     /// do not follow.
     pub fn put_all(
         &mut self,
@@ -270,8 +270,7 @@ impl Live {
         }
     }
 
-    /// The same of a namespace's allocations, and the total of the quota that it names, if any, follows: where it names none, no
-    /// total is made.
+    /// As `put_all`, of a namespace's table of allocations. The total of the quota that it names follows, if it names one.
     pub fn put_changes(
         &mut self,
         namespace: &Text,
@@ -304,7 +303,7 @@ impl Live {
         }
     }
 
-    /// The changed nodes of the pool are not shown any more: those that are still there are kept as bases. It takes no memory.
+    /// The changed nodes of the pool are not shown any more: those that still exist are kept as bases. It takes no memory.
     pub fn forget_all(&mut self, pool: &Text, changes: &NameTable<Node>)
         ensures keys { KeepsKeys self.old self.new }
         ensures shown { ForgetsNodes pool.now changes.now self.old self.new }
@@ -322,14 +321,14 @@ impl Live {
         self.shown.get(pool, name)
     }
 
-    /// The node as it was last shown, behind or not: up to its last place the live allocations are the same.
+    /// The node as it was last shown, even if it changed since: up to its last place the live allocations are the same.
     pub fn base_of(&self, pool: &Text, name: &Text) -> Option<&SeenNode>
         ensures { option_copied result ≡ base_at self.now pool.now name.now }
     {
         self.shown.base_of(pool, name)
     }
 
-    /// Shows the node so from now on. Want of memory is the only error.
+    /// Shows the node as `seen` from now on. Want of memory is the only error.
     pub fn show(&mut self, pool: &Text, name: &Text, seen: SeenNode) -> Result<(), AllocError>
         ensures keys { KeepsKeys self.old self.new }
         ensures names { KeepsNames self.old self.new }
@@ -340,7 +339,7 @@ impl Live {
         self.shown.put(self.alloc, pool, name, seen)
     }
 
-    /// The keys of the live allocations on this node, where there are some.
+    /// The keys of the live allocations on this node, if there are some.
     pub fn keys_on(&self, pool: &Text, node: &Text) -> Option<&KeySet>
         ensures { (key : Key) →
             option_map_or (λ keys. holds_key keys key) (option_copied result) false
@@ -352,8 +351,8 @@ impl Live {
         }
     }
 
-    /// What the live allocations on this node take together: it is kept, and looks at none of them. It wraps, unless
-    /// the load fits, as it does in a valid world: its nodes have room for what is on them.
+    /// What the live allocations on this node take together. It is kept, so no allocation is read. It wraps, unless the load
+    /// fits 64 bits, as it does in a valid world: its nodes have room for what is on them.
     pub fn load(&self, pool: &Text, node: &Text) -> Resources
         ensures { (w : World) → IsRight w self.now → IsCounted (node_load w pool.now node.now) →
             result ≡ node_load w pool.now node.now }
@@ -380,8 +379,8 @@ impl Live {
         self.quotas.reserve(self.alloc, namespace, quota)
     }
 
-    /// The namespace, which uses this, named the quota `before`, and names `after` from now on: the total of `before`
-    /// loses what it uses, and that of `after` gains it. It takes no memory: there has to be room.
+    /// The namespace, which uses `used`, named the quota `before`, and names `after` from now on: the total of `before` loses
+    /// what it uses, and that of `after` gains it. It takes no memory: there has to be room.
     pub fn put_quota(
         &mut self,
         namespace: &Text,
@@ -397,7 +396,7 @@ impl Live {
         self.quotas.put(namespace, before, after, used);
     }
 
-    /// The namespaces that name the quota, by name. It looks at no other. Want of memory is the only error.
+    /// The namespaces that name the quota, by name. It reads no other. Want of memory is the only error.
     pub fn namespaces_naming(&self, quota: &Text) -> Result<Rows<Text>, AllocError>
         ensures { (w : World) → AreNamed w self.now →
             IfOk result (λ names. names ≡ namespaces_naming w quota.now) }
@@ -408,7 +407,7 @@ impl Live {
         }
     }
 
-    /// Whether a namespace names the quota. It looks at no other.
+    /// Whether a namespace names the quota. It reads no other.
     pub fn is_named(&self, quota: &Text) -> bool
         ensures { (w : World) → AreNamed w self.now →
             result ≡ any_row (λ _ tenant. names_quota quota.now tenant.namespace) w.tenants }
@@ -419,8 +418,8 @@ impl Live {
         }
     }
 
-    /// What the live allocations of all namespaces that name the quota take together: a total that is kept, by names and
-    /// totals that are right for the world. It is exact where the sums fit 64 bits. It takes no memory.
+    /// What the live allocations of all namespaces that name the quota take together. It is a total that is kept, exact if
+    /// names and totals are right for the world and the sums fit 64 bits. It takes no memory.
     pub fn quota_use(&self, quota: &Text) -> Resources
         ensures { (w : World) → AreNamed w self.now → IsCounted (quota_use w quota.now) →
             result ≡ quota_use w quota.now }
@@ -428,8 +427,8 @@ impl Live {
         self.quotas.total_of(quota)
     }
 
-    /// Holds the key where the row `after` is live: the load there has what that takes in the place of what `before`
-    /// took. It takes no memory.
+    /// Adds the key on the node on which `after` is live, if it is: that node's load gains what `after` takes and loses what
+    /// `before` took there. It takes no memory.
     fn add(
         &mut self,
         namespace: &Text,
@@ -452,7 +451,7 @@ impl Live {
         }
     }
 
-    /// The same as `reserve`, of a row that may be none.
+    /// As `reserve`, of a row that may be none. Want of memory is the only error.
     fn reserve_row(
         &mut self,
         namespace: &Text,
@@ -471,7 +470,7 @@ impl Live {
         }
     }
 
-    /// Makes a set for the pool, unless it is there.
+    /// Makes a set for the pool, unless there is one. Want of memory is the only error.
     fn open(&mut self, pool: &Text) -> Result<(), AllocError>
         ensures same { Keeps holds_in_pool has_pool_room self.old self.new }
         ensures loads { (p : Name) (n : Name) → load_at self.new p n ≡ load_at self.old p n }
@@ -510,7 +509,7 @@ impl Live {
         Ok(())
     }
 
-    /// Holds the key on the node from now on, whose load has `after` in the place of `before`. It takes no memory.
+    /// Adds the key on the node, whose load gains `after` and loses `before`. It takes no memory.
     fn insert(
         &mut self,
         pool: &Text,
@@ -531,8 +530,7 @@ impl Live {
         }
     }
 
-    /// Holds the key on the node no longer, whose load is without `size`. It takes no memory. A set without keys and room
-    /// goes with its last key.
+    /// Removes the key from the node, whose load loses `size`. A set without keys and room goes too. It takes no memory.
     fn remove(&mut self, pool: &Text, node: &Text, namespace: &Text, number: u64, size: Resources)
         ensures dropped { Drops holds_in_pool has_pool_room (same_at (same_at same_key))
             (pool.now, (node.now, (namespace.now, number))) self.old self.new }

@@ -1,5 +1,5 @@
-//! Which namespaces name which quota, so that none has to be looked for among all namespaces, and the total of what they
-//! use, so that no sum is made when it is asked. Room for a name is made before it is needed.
+//! Which namespaces name which quota, so that none has to be looked for among all namespaces, and the total of what they use,
+//! so that no sum is computed when it is needed. Room for a name is made before it is needed.
 
 ghost use Rattle.std.specs.Prelude.{◌≡◌, ◌++◌, IfOk, IsTrue, None, OnOk, Option, flat_map, is_some};
 ghost use Rattle.std.specs.Prelude.{false, option_copied, option_map, true};
@@ -19,8 +19,7 @@ use ns_types::rows::Rows;
 use ns_types::text::{Text, same_text};
 use std::alloc::{AllocError, Global};
 
-/// What names a quota: some namespaces, of which a vacant slot is room for one, and the total of what they use. Its sums
-/// wrap.
+/// The namespaces that name a quota, where a vacant slot is room for one, and the total of what they use. Its sums wrap.
 #[derive(Drop)]
 pub(crate) struct QuotaUse {
     names: NameTable<()>,
@@ -52,7 +51,7 @@ impl QuotaNames {
         }
     }
 
-    /// The slots of the quota's namespaces, where it has some.
+    /// The slots of the quota's namespaces, if it has some.
     pub(crate) fn names_of(&self, quota: &Text) -> Option<&[NameSlot<()>]>
         ensures { option_copied result
             ≡ option_map (λ held. entries held.names) (row_at self.now.quotas quota.now) }
@@ -73,7 +72,7 @@ impl QuotaNames {
         }
     }
 
-    /// Makes a table for the quota, unless it is there.
+    /// Makes a table for the quota, unless there is one. Want of memory is the only error.
     fn open(&mut self, alloc: Global, quota: &Text) -> Result<(), AllocError>
         ensures same { Keeps holds_at has_room_at self.old self.new }
         ensures totals { KeepsTotals self.old self.new }
@@ -127,7 +126,7 @@ impl QuotaNames {
         }
     }
 
-    /// Holds the namespace, which uses this, at the quota from now on. It takes no memory.
+    /// Adds the namespace, which uses `used`, to the quota. It takes no memory.
     fn insert(&mut self, quota: &Text, namespace: &Text, used: Resources)
         requires { IsTrue (has_room_at self.old (quota.now, namespace.now)) }
         ensures held { Adds holds_at has_room_at (same_at same_name) (quota.now, namespace.now)
@@ -142,7 +141,7 @@ impl QuotaNames {
         }
     }
 
-    /// Holds the namespace, which names no quota and uses this, at the quota, if there is one. It takes no memory.
+    /// Adds the namespace, which names no quota so far and uses `used`, to the quota, if there is one. It takes no memory.
     fn add(&mut self, namespace: &Text, quota: Option<&Text>, used: Resources)
         requires { HasNameRoom self.old namespace.now (option_copied quota) }
         ensures { PutsQuota namespace.now None (option_copied quota.entry) used
@@ -153,7 +152,7 @@ impl QuotaNames {
         }
     }
 
-    /// Holds the namespace, which uses this, at the quota no longer. A table goes with its last name. It takes no memory.
+    /// Removes the namespace, which uses `used`, from the quota. A table goes with its last name. It takes no memory.
     fn remove(&mut self, quota: &Text, namespace: &Text, used: Resources)
         ensures held { Drops holds_at has_room_at (same_at same_name) (quota.now, namespace.now)
             self.old self.new }
@@ -171,7 +170,7 @@ impl QuotaNames {
         }
     }
 
-    /// The namespace, which uses this, named `before` and names `after` from now on. It takes no memory.
+    /// The namespace, which uses `used`, named the quota `before` and names `after` from now on. It takes no memory.
     pub(crate) fn put(
         &mut self,
         namespace: &Text,
@@ -193,7 +192,7 @@ impl QuotaNames {
         }
     }
 
-    /// What a namespace uses that names the quota was `before` and is `after` from now on. It takes no memory.
+    /// A namespace that names the quota used `before`, and uses `after` from now on. It takes no memory.
     pub(crate) fn put_use(&mut self, quota: &Text, before: Resources, after: Resources)
         ensures { PutsUse quota.now before after self.old self.new }
     {

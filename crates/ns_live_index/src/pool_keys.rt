@@ -22,7 +22,7 @@ pub(crate) struct NodeKeys {
 }
 
 impl NodeKeys {
-    /// Holds the key from now on, and takes `after` in the place of `before`. It takes no memory: there has to be room.
+    /// Adds the key. The load gains `after` and loses `before`. It takes no memory: there has to be room.
     fn insert(&mut self, namespace: &Text, number: u64, before: Resources, after: Resources)
         requires { IsTrue (has_key_room self.old.keys (namespace.now, number)) }
         ensures keys { Adds holds_key has_key_room same_key (namespace.now, number)
@@ -33,7 +33,7 @@ impl NodeKeys {
         self.load = moved(self.load, before, after);
     }
 
-    /// Holds the key no longer, and takes no more what its row took. It takes no memory.
+    /// Removes the key. The load loses `size`. It takes no memory.
     fn remove(&mut self, namespace: &Text, number: u64, size: Resources)
         ensures keys { Drops holds_key has_key_room same_key (namespace.now, number)
             self.old.keys self.new.keys }
@@ -87,7 +87,7 @@ impl PoolKeys {
         }
     }
 
-    /// Makes a set for the node, unless it is there.
+    /// Makes a set for the node, unless there is one. Want of memory is the only error.
     fn open(&mut self, alloc: Global, node: &Text) -> Result<(), AllocError>
         ensures same { Keeps holds_on_node has_node_room self.old self.new }
         ensures loads { (name : Name) → load_on self.new name ≡ load_on self.old name }
@@ -124,7 +124,7 @@ impl PoolKeys {
         Ok(())
     }
 
-    /// Holds the key on the node from now on, whose load has `after` in the place of `before`. It takes no memory.
+    /// Adds the key on the node, whose load gains `after` and loses `before`. It takes no memory.
     pub(crate) fn insert(
         &mut self,
         node: &Text,
@@ -143,7 +143,7 @@ impl PoolKeys {
         }
     }
 
-    /// Holds the key on the node no longer, whose load is without `size`. It takes no memory.
+    /// Removes the key from the node, whose load loses `size`. It takes no memory.
     pub(crate) fn remove(&mut self, node: &Text, namespace: &Text, number: u64, size: Resources)
         ensures keys { Drops holds_on_node has_node_room (same_at same_key)
             (node.now, (namespace.now, number)) self.old self.new }

@@ -1,5 +1,6 @@
-//! The nodes as they were last shown to workers. What a snapshot has of a node stays: a node that changes is not shown any more,
-//! and made anew for the next snapshot. Where only rows came that are placed after all others, it is kept as a base for that.
+//! The nodes as they were last shown to workers. What a snapshot has of a node stays as it is: a node that changes is not
+//! shown any more, and is made anew for the next snapshot. If its own row changed, or rows came that are placed after all
+//! others, it is kept as a base for that.
 
 ghost use Rattle.std.specs.Prelude.{◌≡◌, ℕ, IsTrue, None, OnErr, OnOk, Some, if◌then◌else◌, is_some, option_copied, option_map};
 ghost use Rattle.std.specs.FinMap.{empty};
@@ -31,7 +32,7 @@ impl Drop for SeenNode {
     }
 }
 
-/// One that is behind is not shown any more: its row changed, or rows came that are placed after its last.
+/// A node that is kept. If it is behind, it is not shown: its own row changed, or rows came that are placed after its last.
 #[derive(Drop)]
 pub(crate) struct ShownNode {
     pub(crate) seen: SeenNode,
@@ -47,7 +48,7 @@ pub(crate) struct ShownNodes {
     pools: NameTable<PoolShown>,
 }
 
-/// Whether the place comes after the last one, where there is a last one.
+/// Whether the place comes after the last one. True if there is no last one.
 pub fn is_past(last: Option<u64>, place: u64) -> bool
     ensures { result ≡ is_past last place }
 {
@@ -63,7 +64,7 @@ fn has_none(nodes: &PoolShown) -> bool
     nodes.as_slice().is_empty()
 }
 
-/// Whether the place comes after the last of the node's.
+/// Whether the node is kept, and the place comes after its last one.
 fn is_base_for(kept: Option<&ShownNode>, place: u64) -> bool
     ensures { result ≡ is_base_for place (option_copied kept.entry) }
 {
@@ -73,7 +74,7 @@ fn is_base_for(kept: Option<&ShownNode>, place: u64) -> bool
     }
 }
 
-/// The node, if it is there, is behind from now on. It takes no memory.
+/// Marks the node as behind, if it is kept. It takes no memory.
 fn mark_in(nodes: &mut PoolShown, name: &Text)
     ensures { (n : Name) → row_at nodes.new n ≡ (if same_name n name.now
         then option_map as_behind (row_at nodes.old name.now) else row_at nodes.old n) }
@@ -83,7 +84,7 @@ fn mark_in(nodes: &mut PoolShown, name: &Text)
     }
 }
 
-/// A row at the place came or went: the node is behind, where that comes after its last, and else forgotten.
+/// A row at the place came or went: the node is behind if the place comes after its last one, and forgotten if not.
 fn unshow_in(nodes: &mut PoolShown, name: &Text, place: u64)
     ensures { (n : Name) → row_at nodes.new n ≡ (if same_name n name.now
         then left_by place (row_at nodes.old name.now) else row_at nodes.old n) }
@@ -96,7 +97,7 @@ fn unshow_in(nodes: &mut PoolShown, name: &Text, place: u64)
 }
 
 impl ShownNode {
-    /// It, unless it is behind.
+    /// The node, unless it is behind.
     fn shown(&self) -> Option<&Shared<PoolNode>>
         ensures { option_copied result ≡ if_shown (Some self.now) }
     {
@@ -148,7 +149,7 @@ impl ShownNodes {
         }
     }
 
-    /// Makes a table for the pool, unless it is there.
+    /// Makes a table for the pool, unless there is one. Want of memory is the only error.
     fn open(&mut self, alloc: Global, pool: &Text) -> Result<(), AllocError>
         ensures same { ShowsSame self.old self.new }
         ensures ok { OnOk result (IsTrue (is_some (row_at self.new.pools pool.now))) }
@@ -196,7 +197,7 @@ impl ShownNodes {
         }
     }
 
-    /// The node is behind from now on, if it is kept. It takes no memory.
+    /// Marks the node as behind, if it is kept. It takes no memory.
     fn mark(&mut self, pool: &Text, name: &Text)
         ensures { ShowsThere pool.now name.now
             (option_map as_behind (kept_in self.old pool.now name.now)) self.old self.new }
@@ -217,7 +218,8 @@ impl ShownNodes {
         }
     }
 
-    /// The node's row changed: one that stays in its pool is behind, and any other is forgotten. It takes no memory.
+    /// The node's own row changed: if it stays in its pool, it is behind from now on; if not, it is forgotten. It takes no
+    /// memory.
     pub(crate) fn forget(&mut self, pool: &Text, name: &Text, stays: bool)
         ensures { ShowsThere pool.now name.now
             (if stays then option_map as_behind (kept_in self.old pool.now name.now) else None)
@@ -230,8 +232,8 @@ impl ShownNodes {
         }
     }
 
-    /// The row came or went. The node on which it is live, if it is, is not shown any more: it is kept where the row is placed
-    /// after its last. It takes no memory.
+    /// The row came or went. If it is live, its node is not shown any more; the node is kept as a base if the row is placed
+    /// after its last one. It takes no memory.
     pub(crate) fn forget_row(&mut self, row: Option<&Allocation>)
         ensures { ForgetsRow (option_copied row.entry) self.old self.new }
     {

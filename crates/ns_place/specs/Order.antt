@@ -17,12 +17,12 @@ pub record Walk : Type 0 where
 abbrev pub walk : Resources → List ℕ → Walk
 walk size rest = record { size = size; rest = rest }
 
--- the node at a is better than the one at b, or as good and nearer
+-- the node at place a is better than the one at place b, or as good and has the lesser place
 pub record Precedes (size : Resources) (cs : List Candidate) (a b : ℕ) : Type 0 where
   pub unbeaten : (d : Candidate) → better size (slice_index_or cs b d) (slice_index_or cs a d) ≡ false
   pub first : b ≤ a → (d : Candidate) → better size (slice_index_or cs a d) (slice_index_or cs b d) ≡ true
 
--- each node that has room is in the rest, and each of the rest precedes those after it
+-- each node that has room is in the rest, and each node in the rest precedes the nodes after it
 pub record IsOrder (w : Walk) (cs : List Candidate) : Type 0 where
   pub whole : (j : ℕ) → j < length cs → ((d : Candidate) → fits w.size (slice_index_or cs j d) ≡ true) →
       Contains w.rest j
@@ -30,7 +30,7 @@ pub record IsOrder (w : Walk) (cs : List Candidate) : Type 0 where
   pub rising : (a b : ℕ) → a < b → b < length w.rest →
       Precedes w.size cs (slice_index w.rest a) (slice_index w.rest b)
 
--- the rest begins with k, which has room
+-- the rest begins with the node at place k, which has room
 pub record IsNextNode (w : Walk) (cs : List Candidate) (k : ℕ) : Type 0 where
   pub others : List ℕ
   pub is : w.rest ≡ k ∷ others
@@ -45,13 +45,13 @@ compare_ranks =
 abbrev pub nodes : List Rank → List ℕ
 nodes ranks = map (λ r. r.node) ranks
 
--- the rank says what would be left of a node of the first i
+-- the rank is that of one of the first i nodes: what would be left of it, and its name
 pub record IsRankOf (size : Resources) (cs : List Candidate) (i : ℕ) (rank : Rank) : Type 0 where
   pub below : rank.node < i
   pub left : (d : Candidate) → rank.left ≡ minus (slice_index_or cs rank.node d).left size
   pub name : (d : Candidate) → rank.name.now ≡ (slice_index_or cs rank.node d).name
 
--- the ranks of those of the first i that have room
+-- the ranks of those of the first i nodes that have room, in the order of the nodes
 pub record AreRanks (size : Resources) (cs : List Candidate) (i : ℕ) (ranks : List Rank) : Type 0 where
   pub whole : (j : ℕ) → j < i → ((d : Candidate) → fits size (slice_index_or cs j d) ≡ true) →
       Contains (nodes ranks) j

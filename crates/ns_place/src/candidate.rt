@@ -11,15 +11,15 @@ use ns_types::snapshot::LiveAllocation;
 use ns_types::text::Text;
 use std::marker::Model;
 
-/// Whether the job may use the node, what the plan so far leaves of it, and whom the job may evict there, the first to
-/// go first. Contracts see it as the model's `Candidate`.
+/// Whether the job may use the node, what the plan so far leaves of it, and the allocations that the job may evict there, in
+/// the order in which they are evicted. Contracts see it as the model's `Candidate`.
 #[derive(Drop)]
 pub struct Candidate<'a> {
     name: &'a Text,
     feasible: bool,
     left: Resources,
     evictable: Vec<&'a LiveAllocation>,
-    /// How many of them the plan has evicted.
+    /// How many of `evictable`, from the first on, the plan has evicted.
     evicted: usize,
 }
 
@@ -42,7 +42,8 @@ impl<'a> Model for Candidate<'a> {
 }
 
 impl<'a> Candidate<'a> {
-    /// Before the plan has placed anything: what is left, and whom the job may evict, the first to go first.
+    /// The node before the plan has placed anything. `evictable` has the allocations that the job may evict, in the order in
+    /// which they are evicted.
     pub fn new(
         name: &'a Text,
         feasible: bool,
@@ -64,7 +65,7 @@ impl<'a> Candidate<'a> {
         }
     }
 
-    /// Of two nodes alike the one of the lesser name is taken.
+    /// The node's name. Of two nodes with as much left, or whose victims cost the same, the one with the lesser name is taken.
     pub fn name(&self) -> &'a Text
         ensures { result.now ≡ self.now.name }
     {
@@ -78,14 +79,14 @@ impl<'a> Candidate<'a> {
         self.feasible
     }
 
-    /// What the plan so far leaves.
+    /// What the plan so far leaves of the node.
     pub fn left(&self) -> Resources
         ensures { result ≡ self.now.left }
     {
         self.left
     }
 
-    /// Whom the job may evict and the plan has not yet, the first to go first.
+    /// The allocations that the job may evict and that the plan has not evicted yet, in the order in which they are evicted.
     pub fn evictable(&self) -> &[&'a LiveAllocation]
         ensures all { map (λ a. a.now) result.now ≡ self.now.evictable }
         ensures counted { IsCountedFreed self.now.left self.now.evictable }
@@ -94,7 +95,7 @@ impl<'a> Candidate<'a> {
         rest
     }
 
-    /// The first `victims` of those whom the job may evict give way, and the size is taken.
+    /// Evicts the first `victims` of the allocations that the job may evict, and places the size on the node.
     pub fn place(&mut self, size: Resources, victims: usize)
         requires few { victims ≤ length self.old.evictable }
         requires room { IsTrue (makes_room size self.old (take victims self.old.evictable)) }

@@ -6,7 +6,7 @@ ghost use Rattle.ns_types.specs.Placing.Placement.{best_fit, better, fits};
 use crate::candidate::Candidate;
 use ns_types::resources::{Resources, compare, is_within, minus};
 
-/// Whether the job may use the node, and the size has room there.
+/// Whether the job may use the node and the size has room there.
 pub(crate) fn fits(candidate: &Candidate<'_>, size: Resources) -> bool
     ensures { result ≡ fits size candidate.now }
 {
@@ -25,8 +25,8 @@ fn is_better(candidate: &Candidate<'_>, other: &Candidate<'_>, size: Resources) 
         .is_lt()
 }
 
-/// The place of the node that fits and that none that fits betters: least CPU left afterwards, then least memory, then
-/// least name. None only where no node fits. It takes no memory.
+/// The place of the best of the nodes that fit: the one with the least CPU left afterwards, then the least memory, then the
+/// least disk, then the least name. None only where no node fits. It takes no memory.
 pub fn best_node(candidates: &[Candidate<'_>], size: Resources) -> Option<usize>
     ensures { result ≡ best_fit size candidates.now }
 {

@@ -46,8 +46,8 @@ fn all_hold(constraints: &[Constraint], name: &Text, node: &Node) -> bool
     constraints.iter().all(|c| holds(name, node, c))
 }
 
-/// Whether the job may use the node of that name: it is ready and eligible, and meets all constraints. An attribute
-/// that the node does not have equals no text. It takes no memory.
+/// Whether the job may use the node, which has that name: it is ready and eligible, and meets all constraints. An attribute
+/// that the node does not have differs from every text. It takes no memory.
 pub fn feasible(constraints: &[Constraint], name: &Text, node: &Node) -> bool
     ensures { result ≡ is_feasible constraints.now name.now node.now }
 {

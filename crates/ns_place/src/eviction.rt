@@ -1,4 +1,4 @@
-//! What giving way means for the plan, for the node and for the quota.
+//! What evictions mean for the plan, for the node and for the quota.
 
 ghost use Rattle.std.specs.Prelude.{◌≡◌, ◌≤◌, IfOk, IsTrue, filter, length, map, take};
 ghost use Rattle.ns_types.specs.Placing.Planning.{counts_for, eviction_of, placed_on};
@@ -34,7 +34,7 @@ fn counts_for(quota: &QuotaSeen, allocation: &LiveAllocation) -> bool
     namespaces.iter().any(|n| *n == *namespace)
 }
 
-/// What the quota has in use once those of the victims that count for it are gone.
+/// What the quota has in use once the victims that count for it are gone.
 fn used_without(used: Resources, quota: &QuotaSeen, victims: &[&LiveAllocation]) -> Resources
     ensures { result ≡ minus used
         (total (λ a. a.size) (filter (counts_for quota.now) (map (λ a. a.now) victims.now))) }
@@ -48,14 +48,15 @@ fn used_without(used: Resources, quota: &QuotaSeen, victims: &[&LiveAllocation])
     left
 }
 
-/// What the plan says of the victims, and what the quota has in use with the size and without them.
+/// The plan's evictions, and what the quota has in use with the size and without the victims.
 #[derive(Drop)]
 pub struct GivenWay {
     pub evictions: Rows<Eviction>,
     pub used: Resources,
 }
 
-/// The first `victims` of those whom the job may evict give way to the size.
+/// Evicts the first `victims` of the allocations that the job may evict on the node, and places the size there. It returns the
+/// plan's evictions and what the quota then has in use. Want of memory is the only error.
 pub fn give_way(
     alloc: Global,
     candidate: &mut Candidate<'_>,

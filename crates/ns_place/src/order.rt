@@ -1,5 +1,5 @@
-//! The order in which the nodes with room take allocations of one size. Equal demands go down it, in place of a look at
-//! every node for each.
+//! The order in which the nodes with room take allocations of one size. Demands of one size go down this order, so that not
+//! every node has to be looked at for each of them.
 
 ghost use Rattle.std.specs.Prelude.{◌≡◌, ◌≤◌, ◌<◌, ◌++◌, ◌∷◌, [], true, drop, length, slice_index};
 ghost use Rattle.std.specs.Prelude.{IfOk, MatchOption, OnErr, OnOk};
@@ -15,7 +15,7 @@ use std::alloc::{AllocError, Global};
 use std::cmp::Ordering;
 use std::marker::Model;
 
-/// What a size would leave of a node.
+/// What a size would leave of a node, the node's name and its place.
 #[derive(Drop)]
 struct Rank<'a> {
     left: Resources,
@@ -74,7 +74,7 @@ fn in_order(
     nodes_of(alloc, &ranks)
 }
 
-/// From `from` on, the first place whose node has room, or the end.
+/// The first index from `from` on whose node has room, or the end of `nodes`.
 fn skip(candidates: &[Candidate<'_>], nodes: &[usize], from: usize, size: Resources) -> usize
     requires within { from ≤ length nodes.now }
     requires order { IsOrder (walk size (drop from nodes.now)) candidates.now }
@@ -112,7 +112,7 @@ impl Model for Order {
 }
 
 impl Order {
-    /// Of all nodes that have room for the size.
+    /// The order of all nodes that have room for the size. Want of memory is the only error.
     pub fn new(
         alloc: Global,
         candidates: &[Candidate<'_>],
@@ -124,7 +124,8 @@ impl Order {
         Ok(Order { size, nodes, at: 0 })
     }
 
-    /// From now on for allocations of `size`, which begin anew where it is another size.
+    /// Makes the order one for allocations of `size`. If that is another size than before, it begins anew with all nodes that
+    /// have room. Want of memory is the only error, and leaves the order as it was.
     pub fn turn_to(
         &mut self,
         alloc: Global,
@@ -145,8 +146,7 @@ impl Order {
         Ok(())
     }
 
-    /// The best node with room. It stays the next while it has room. None only where no node has room. It takes no
-    /// memory.
+    /// The best node with room. It stays the next one while it has room. None only where no node has room. It takes no memory.
     pub fn next(&mut self, candidates: &[Candidate<'_>]) -> Option<usize>
         requires { IsOrder self.old candidates.now }
         ensures size { self.new.size ≡ self.old.size }
@@ -164,7 +164,7 @@ impl Order {
         }
     }
 
-    /// The node is tried after the others.
+    /// Adds the node, to be tried after the others. Want of memory is the only error, and leaves the order as it was.
     pub fn add(&mut self, node: usize) -> Result<(), AllocError>
         ensures ok { OnOk result (self.new ≡ walk self.old.size (self.old.rest ++ node ∷ [])) }
         ensures err { OnErr result (self.new ≡ self.old) }

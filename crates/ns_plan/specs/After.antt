@@ -22,11 +22,11 @@ after_stops w ns stops = stop_all ns (counted_stops w ns stops) w
 abbrev pub keys_of : List Eviction → List Key
 keys_of evictions = map victim_key evictions
 
--- the allocation of an eviction that counts
+-- the allocation of an eviction, if the eviction counts on the node
 abbrev pub counted : World → Name → Name → Eviction → Option Allocation
 counted w pool node e = if counts w pool node e then allocation_at w (victim_key e) else None
 
--- what an allocation, if it is there and live, takes from a node
+-- what an allocation takes from a node: nothing if it does not exist or is not live there
 abbrev pub part_on : Name → Name → Option Allocation → Resources
 part_on pool node None = none
 part_on pool node (Some a) = if is_live_on pool node a then a.size else none
@@ -35,12 +35,13 @@ part_on pool node (Some a) = if is_live_on pool node a then a.size else none
 abbrev pub names : World → Name → Name → Bool
 names w quota ns = option_map_or (same_name quota) (quota_named w ns) false
 
--- and what it takes from a quota, where its namespace names it
+-- what an allocation takes from a quota: nothing if it does not exist, is not live, or its namespace does not name the
+-- quota
 abbrev pub part_of_quota : Bool → Option Allocation → Resources
 part_of_quota named None = none
 part_of_quota named (Some a) = if named && is_live a then a.size else none
 
--- whether the namespace names the quota, where there is one
+-- whether there is a quota and the namespace names it
 abbrev pub shares : World → Option Name → Name → Bool
 shares w None ns = false
 shares w (Some quota) ns = names w quota ns

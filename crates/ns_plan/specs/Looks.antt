@@ -1,4 +1,4 @@
--- What a plan is checked against: look-ups of the present state whose sums can be counted.
+-- What a plan is checked against: look-ups of the present state, whose sums can be counted.
 use Rattle.std.specs.Prelude.{◌≡◌, ℕ, ◌<◌, ◌≤◌, Bool, List, Option, Some, None, if◌then◌else◌, length, slice_get}
 use Rattle.std.specs.List.{All}
 use Rattle.std.specs.FinMap.{get}
@@ -19,23 +19,24 @@ use Rattle.ns_types.specs.Working.Commit.{Checked, commit}
 abbrev pub job_at : World → Name → Name → Option Job
 job_at w ns id = option_and_then (λ t. get t.jobs id) (get w.tenants ns)
 
--- a quota that is not there limits nothing
+-- the quota's limits; a quota that does not exist limits nothing
 abbrev pub limits_of : World → Name → Limits
 limits_of w quota = option_map_or (λ rows. limits_in rows.quota.limits) (get w.quotas quota) unlimited
 
--- the load of each node and the use of each quota fit 64 bits, be they there or not
+-- the load of each node and the use of each quota can be counted in 64 bits, whether the node or quota exists or not
 pub record AreCounted (w : World) : Type 0 where
   pub load : (pool node : Name) → IsCounted (node_load w pool node)
   pub used : (quota : Name) → IsCounted (quota_use w quota)
 
--- each placement is on a node of the snapshot, which has no more than a pool may have, and none twice
+-- each placement is on a node of the snapshot, which has at most as many nodes as a pool may have, and none of them
+-- twice
 pub record IsOnFewNodes (kept : Snapshot) (p : Plan) : Type 0 where
   pub few : length kept.nodes ≤ 1000
   pub once : (i j : ℕ) (m n : PoolNode) → slice_get kept.nodes i ≡ Some m → slice_get kept.nodes j ≡ Some n →
       m.name ≡ n.name → i ≡ j
   pub inside : All (λ placement. placement.node < length kept.nodes) p.placing.placements
 
--- the allocation, where it is live
+-- the allocation, if it is live
 abbrev pub if_live : Option Allocation → Option Allocation
 if_live None = None
 if_live (Some a) = if is_live a then Some a else None
@@ -43,7 +44,7 @@ if_live (Some a) = if is_live a then Some a else None
 abbrev pub live_at : World → Key → Option Allocation
 live_at w key = if_live (allocation_at w key)
 
--- whether a plan is refused; places of the nodes that do their part of it, and of those that do not
+-- whether a plan is refused; the places of the nodes that do their part of it, and of those that do not
 pub record Decision : Type 0 where
   pub is_refused : Bool
   pub committed : List ℕ
@@ -52,12 +53,12 @@ pub record Decision : Type 0 where
 abbrev pub decision_of : Checked → Decision
 decision_of c = record { is_refused = c.is_refused; committed = c.committed; dropped = c.dropped }
 
--- what is decided of the plan in this state, where the snapshot's namespace is there
+-- the decision is that of the model in this state, if the snapshot's namespace exists
 abbrev pub IsChecked : Snapshot → Plan → World → Decision → Type 0
 IsChecked kept p w decision = (t : Tenant) → get w.tenants kept.namespace ≡ Some t →
     decision ≡ decision_of (commit kept p w t).checked
 
--- these are the victims of what is done, where these nodes do their part
+-- the keys are those of the victims, if these are the nodes that do their part
 abbrev pub AreVictims : Snapshot → Plan → World → List ℕ → List Key → Type 0
 AreVictims kept p w committed keys = (t : Tenant) → get w.tenants kept.namespace ≡ Some t →
     committed ≡ (commit kept p w t).checked.committed → keys ≡ (commit kept p w t).checked.victims

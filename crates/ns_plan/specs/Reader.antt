@@ -1,5 +1,5 @@
--- The decision node by node as one who only reads makes it: the state is the one after the stops, and of the nodes that
--- do their part only the keys of their victims are held.
+-- The decision node by node, made without a write: it reads the state after the stops, and holds only the keys of the
+-- victims of the nodes that do their part.
 use Rattle.std.specs.Prelude.{◌≡◌, ℕ, Bool, true, false, ◌&&◌, List, [], ◌∷◌, ◌++◌, Option, Some, None, filter}
 use Rattle.std.specs.Prelude.{flat_map, map, fold, if◌then◌else◌}
 use Rattle.std.specs.Option.{option_map_or}
@@ -51,7 +51,7 @@ takes kept w keys name size placed =
 
 -- ---- node by node
 
--- what is held: the keys of the victims so far, each once, and what is decided
+-- what is held so far: the keys of the victims, each once, and what is decided
 pub record Read : Type 0 where
   pub keys : List Key
   pub placed : Resources
@@ -82,19 +82,19 @@ read_all kept placements w nodes = fold (read_one kept placements w) nothing_rea
 
 -- ---- without a list of victims
 
--- what is left of the use of a quota, where there is one
+-- what is left of the quota's use; zero if there is no quota
 abbrev pub quota_left : World → Option Name → List Key → Resources
 quota_left w None keys = none
 quota_left w (Some quota) keys = use_left w quota keys
 
--- what is left of a node and of the quota, each key counted once
+-- what is left of a node's load and of the quota's use without the allocations at these keys, each counted once
 abbrev pub left_without : World → Name → Name → Option Name → List Key → Left
 left_without w pool node quota keys = record {
   load = load_left w pool node (once keys);
   used = quota_left w quota (once keys);
 }
 
--- with an allocation of that size gone, which counts for the quota or not
+-- what is left with one more allocation of that size gone, which counts for the quota or not
 abbrev pub with_gone : Left → Resources → Bool → Left
 with_gone left size shared = record {
   load = minus left.load size;
@@ -119,12 +119,13 @@ is_on w pool node key = option_map_or (is_live_on pool node) (allocation_at w ke
 abbrev pub AreElsewhere : World → Name → Name → List Key → Type 0
 AreElsewhere w pool node keys = (key : Key) → is_on w pool node key ≡ true → has_key keys key ≡ false
 
--- what is left where those of the evictions that count went, beside the keys
+-- what is left without the allocations at these keys and those of the evictions that count
 abbrev pub left_by : World → Name → Name → Option Name → List Key → List Eviction → Left
 left_by w pool node quota keys evictions =
     left_without w pool node quota (keys ++ counted_keys w pool node evictions)
 
--- the one is left by the first evictions, and the other by those that follow too, whatever went elsewhere
+-- if `old` is left by the evictions `seen`, then `new` is left by `seen` and `more`, whatever was evicted on other
+-- nodes
 abbrev pub Leaves : World → Name → Name → Option Name → List Eviction → Left → List Eviction → Left → Type 0
 Leaves w pool node quota seen old more new = (keys : List Key) → AreElsewhere w pool node keys →
     old ≡ left_by w pool node quota keys seen → new ≡ left_by w pool node quota keys (seen ++ more)
@@ -143,7 +144,7 @@ takes_left kept w quota name left size placed =
 
 -- ---- what is decided
 
--- so far: what is left of the quota's use, and what is placed, as it is counted
+-- what the program holds so far is what is decided: what is left of the quota's use, what is placed, and both lists
 pub record IsSoFar (w : World) (quota : Option Name) (so_far : SoFar) (r : Read) : Type 0 where
   pub used_is : so_far.used ≡ quota_left w quota (once r.keys)
   pub placed_is : so_far.placed ≡ amount_of r.placed
@@ -156,12 +157,12 @@ pub record IsUndecided (so_far : SoFar) : Type 0 where
   pub committed_is : so_far.committed.items ≡ []
   pub dropped_is : so_far.dropped.items ≡ []
 
--- from what is decided so far to what is decided with the node, where none of the victims so far is on it
+-- `new` is `old` with node k decided, if none of the victims so far is on that node
 abbrev pub Decides : Snapshot → List Placement → World → Option Name → ℕ → SoFar → SoFar → Type 0
 Decides kept placements w quota k old new = (r : Read) → IsSoFar w quota old r →
     AreElsewhere w kept.pool (node_name kept k) r.keys → IsSoFar w quota new (read_one kept placements w r k)
 
--- the nodes that do their part, and those that do not
+-- both lists are those that are decided: the nodes that do their part, and those that do not
 pub record IsDecided (committed dropped : List ℕ) (r : Read) : Type 0 where
   pub committed_is : committed ≡ r.committed
   pub dropped_is : dropped ≡ r.dropped

@@ -32,7 +32,7 @@ fn if_live<'a>(row: Option<&'a Allocation>) -> Option<&'a Allocation>
     }
 }
 
-/// The allocation, where it is live after the stops.
+/// The allocation, if it is live after the stops.
 fn live<'a, V: View>(
     view: &'a V,
     namespace: &Text,
@@ -63,7 +63,7 @@ fn counts_on(row: &Allocation, pool: &Text, node: &Text, priority: u64) -> bool
     is_live_on(row, pool, node) && row.priority == priority
 }
 
-/// The allocation that goes by the eviction, where that counts on the node after the stops.
+/// The allocation that the eviction evicts, if the eviction counts on the node after the stops.
 #[tactic(auto, using(crate::proofs::Afterwards::counted_live))]
 pub(crate) fn counted<'a, V: View>(
     view: &'a V,
@@ -110,8 +110,8 @@ fn names<V: View>(view: &V, quota: &Text, namespace: &Text) -> bool
     }
 }
 
-/// Whether the number at the place takes something and stands there for the first time. The numbers before it are
-/// looked at only where it takes something.
+/// Whether the stop at the place takes something, which is `part`, and its number does not stand earlier in the list. The
+/// numbers before it are looked at only if it takes something.
 fn takes_first(part: Resources, numbers: &Marked<'_>, place: usize) -> bool
     requires { place < length numbers.now }
     ensures { (d : ℕ) → result ≡ (not (same_resources part none)
@@ -120,8 +120,8 @@ fn takes_first(part: Resources, numbers: &Marked<'_>, place: usize) -> bool
     !same_resources(part, none()) && !numbers.stands_earlier(place)
 }
 
-/// The node's load after the stops. It costs a look-up for each of them, and where they do not rise a walk over those
-/// before each that takes something from the node.
+/// The node's load after the stops. It costs a look-up for each stop. If the stops do not rise, it also costs, for each stop
+/// that takes something from the node, a walk over the stops before it.
 pub(crate) fn load<V: View>(
     view: &V,
     namespace: &Text,
@@ -163,8 +163,8 @@ fn used<V: View>(view: &V, namespace: &Text, stops: &Marked<'_>, quota: &Text) -
     left
 }
 
-/// The use of the quota after the stops, where there is one. It costs a look-up for each of them, and where they do not
-/// rise the square of their number.
+/// The quota's use after the stops; zero if there is no quota. It costs a look-up for each stop, and the square of their number
+/// if they do not rise.
 pub(crate) fn use_of<V: View>(
     view: &V,
     namespace: &Text,
@@ -181,7 +181,7 @@ pub(crate) fn use_of<V: View>(
     }
 }
 
-/// Whether the namespace names the quota, where there is one.
+/// Whether there is a quota and the namespace names it.
 pub(crate) fn shares<V: View>(view: &V, quota: Option<&Text>, namespace: &Text) -> bool
     ensures { result ≡ shares (V.world view.now) (option_copied quota.entry) namespace.now }
 {

@@ -1,4 +1,4 @@
-//! Which parts of a plan are done.
+//! Decides which parts of a plan are done.
 
 ghost use Rattle.std.specs.Prelude.{◌≡◌, []};
 ghost use Rattle.ns_types.specs.Working.Commit.{nodes_in};
@@ -76,18 +76,18 @@ fn list_nodes(snapshot: &Snapshot, plan: &Plan, nodes: &mut ArrayVec<u16, 1000>)
 /// Checks the plan of the snapshot against the present state: whether it stands, and node by node whether all of its
 /// part is done or none. It takes no memory and writes nothing.
 ///
-/// Of the plan's stops those count whose allocations are live (`live_stops`). What the nodes that do their part evict,
-/// `victims` lists.
+/// The plan's stops of live allocations count, and no others (`live_stops`). `victims` lists the evictions of the nodes that do
+/// their part.
 ///
-/// It goes over the placements twice; over at most 16 once, and once more for each of their nodes. It looks each stop up
-/// once with its node, and asks the load of each node of the snapshot; where there are few stops and placements it looks
-/// each stop up for each node of the plan instead, and asks the load of no other. For each node of the plan it goes from
-/// the node's first placement that evicts to its last. It looks each eviction up once, and among the stops where it is of
-/// the snapshot's namespace, and for each that counts it goes from the node's first such placement to the eviction. What
-/// a quota has in use is asked once, with a look-up for each stop.
+/// It walks over the placements twice; if there are at most 16, it walks over them once, and once more for each of their nodes.
+/// It looks each stop up once with its node, and reads the load of each node of the snapshot; if there are few stops and
+/// placements, it looks each stop up for each node of the plan instead, and reads the load of these nodes alone. For each node
+/// of the plan it walks from the node's first placement that evicts to the last one. It looks each eviction up once, and also
+/// among the stops if it is of the snapshot's namespace; for each eviction that counts it walks from the node's first placement
+/// that evicts to the eviction. It reads the quota's use once, with a look-up for each stop.
 ///
-/// That holds of stops that rise, as those of a job that is gone or replaced do. Of others each look-up among the stops is
-/// a walk.
+/// This holds for stops that rise, as those of a job that is gone or replaced do. For others each look-up among the stops is a
+/// walk.
 pub fn check<V: View>(snapshot: &Snapshot, plan: &Plan, view: &V) -> Outcome
     requires counted { AreCounted (V.world view.now) }
     requires fits { IsOnFewNodes snapshot.now plan.now }

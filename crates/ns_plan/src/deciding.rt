@@ -1,4 +1,5 @@
-//! Which nodes do their part of a plan: each its whole part or none of it. Nothing is written, and no memory is taken.
+//! Decides which nodes do their part of a plan. Each does its whole part or none of it. Nothing is written, and no memory is
+//! taken.
 
 ghost use Rattle.std.specs.Prelude.{◌≡◌, ◌<◌, ◌≤◌, IfSome, length, option_copied};
 ghost use Rattle.arrayvec.specs.ArrayVec.{array_vec_len};
@@ -26,17 +27,17 @@ use ns_types::text::Text;
 /// What is decided so far.
 #[derive(Drop)]
 pub(crate) struct SoFar {
-    /// What is left of the quota's use.
+    /// What is left of the quota's use, without the victims so far.
     pub(crate) used: Resources,
-    /// What the nodes that do their part place.
+    /// What the nodes that do their part so far place.
     pub(crate) placed: Amount,
     /// Places of the nodes that do their part.
     pub(crate) committed: ArrayVec<u16, 1000>,
-    /// Places of those that do not.
+    /// The places of the nodes that do not.
     pub(crate) dropped: ArrayVec<u16, 1000>,
 }
 
-/// Decides for the node, which stands in neither list, by its part of the plan.
+/// Decides whether the node, which is in neither list, does its part of the plan.
 fn decide<V: View>(
     view: &V,
     snapshot: &Snapshot,
@@ -90,7 +91,7 @@ pub(crate) fn undecided() -> SoFar
     }
 }
 
-/// Decides for each node of the plan, one after another, after the stops.
+/// Decides for each node of the plan in turn whether it does its part, in the state after the stops.
 fn decide_each<V: View>(
     view: &V,
     snapshot: &Snapshot,
@@ -128,7 +129,8 @@ fn decide_each<V: View>(
     }
 }
 
-/// The same, where the parts of all nodes are gathered before. They take much room, so the caller has none of it.
+/// Decides as `decide_each` does, and first gathers the parts of all nodes. They take much stack, so this function is not
+/// inlined into its caller.
 #[inline(never)]
 fn decide_many<V: View>(
     view: &V,
@@ -154,10 +156,11 @@ fn decide_many<V: View>(
     decide_each(view, snapshot, plan, stops, loads, Some(&parts), so_far);
 }
 
-/// So many placements are gone over for each of their nodes. Of more the parts of all nodes are gathered in one walk.
+/// Up to this many placements are walked over once for each of their nodes. If there are more, the parts of all nodes are
+/// gathered in one walk.
 const FEW: usize = 16;
 
-/// The same, where the parts are gathered if there are many placements.
+/// Decides as `decide_each` does, and first gathers the parts of all nodes if there are many placements.
 fn decide_by_parts<V: View>(
     view: &V,
     snapshot: &Snapshot,
@@ -185,7 +188,7 @@ fn decide_by_parts<V: View>(
     }
 }
 
-/// The same, where the loads of all nodes after the stops are gathered before. They take much room too.
+/// Decides as `decide_by_parts` does, and first gathers the loads of all nodes after the stops. They take much stack too.
 #[inline(never)]
 fn decide_loaded<V: View>(
     view: &V,
@@ -207,11 +210,11 @@ fn decide_loaded<V: View>(
     decide_by_parts(view, snapshot, plan, stops, Some(&loads), so_far);
 }
 
-/// So many look-ups are made for the nodes of a plan, one of each stop for each placement. Of more the loads of all nodes
-/// are gathered before.
+/// Up to this many look-ups of stops, one for each stop and placement, are made node by node. If there would be more, the loads
+/// of all nodes are gathered first.
 const FEW_LOOKUPS: usize = 2_000;
 
-/// Decides for each node of the plan, where nothing is decided yet.
+/// Decides for each node of the plan whether it does its part. Nothing may be decided before.
 pub(crate) fn decide_all<V: View>(view: &V, snapshot: &Snapshot, plan: &Plan, so_far: &mut SoFar)
     requires counted { AreCounted (V.world view.now) }
     requires fits { IsOnFewNodes snapshot.now plan.now }

@@ -17,8 +17,8 @@ use ns_types::snapshot::Snapshot;
 use ns_types::text::same_text;
 use std::alloc::{AllocError, Global};
 
-/// Whether the eviction counts, after the plan's stops, on the node at that place of the snapshot. It takes no memory,
-/// and costs two look-ups, of which the one among the stops is a walk where these do not rise.
+/// Whether the eviction counts, after the plan's stops, on the node at that place of the snapshot. It takes no memory and costs
+/// two look-ups. The one among the stops is a walk if they do not rise.
 pub fn counts<V: View>(
     view: &V,
     snapshot: &Snapshot,
@@ -57,7 +57,7 @@ fn is_held(held: &[&Eviction], eviction: &Eviction) -> bool
     held.iter().any(|e| same_allocation(eviction, e))
 }
 
-/// Whether the eviction counts on the node, and its allocation is not held.
+/// Whether the eviction counts on the node, and `held` does not have its allocation yet.
 #[tactic(auto, using(crate::proofs::Holding::any_held))]
 fn is_new<V: View>(
     view: &V,
@@ -76,7 +76,7 @@ fn is_new<V: View>(
     counts(view, snapshot, stops, node, eviction) && !is_held(held, eviction)
 }
 
-/// Holds the placement's victims too, each allocation once.
+/// Adds the placement's victims to `held`, each allocation once.
 fn hold<'a, V: View>(
     view: &V,
     snapshot: &Snapshot,
@@ -98,8 +98,8 @@ fn hold<'a, V: View>(
     Ok(())
 }
 
-/// The evictions of committed nodes that count, each allocation once, in the order of the plan. It costs two look-ups for
-/// each eviction of these nodes, and the square of how many count.
+/// The evictions of committed nodes that count, each allocation once, in the order of the plan. Want of memory is the only
+/// error. It costs two look-ups for each eviction of these nodes, and the square of the number of those that count.
 pub fn victims<'a, V: View>(
     alloc: Global,
     view: &V,

@@ -14,11 +14,11 @@ use ns_types::snapshot::Snapshot;
 /// The placements on one node.
 #[derive(Clone, Copy)]
 pub(crate) struct NodePart {
-    /// What they take together.
+    /// What the placements take together.
     pub(crate) size: Amount,
-    /// The place in the plan of the first that evicts something.
+    /// The place in the plan of the first placement that evicts something.
     pub(crate) start: usize,
-    /// The place behind the last that does.
+    /// The place behind the last placement that evicts something.
     pub(crate) end: usize,
 }
 
@@ -32,7 +32,7 @@ fn no_part() -> NodePart
     }
 }
 
-/// With the next placement too, which is on the node. The plan's places end behind it at `end`.
+/// The part together with the next placement, which is on the node. `end` is the place behind that placement.
 fn with_next(part: NodePart, placement: &Placement, end: usize) -> NodePart
     requires { 0 < end }
     ensures { (before : List Placement) → end ≡ length before + 1 →
@@ -53,7 +53,7 @@ fn with_next(part: NodePart, placement: &Placement, end: usize) -> NodePart
     }
 }
 
-/// The part of one node, by a walk over all placements.
+/// The part of the node, by a walk over all placements.
 fn part_of(placements: &[Placement], node: u64) -> NodePart
     ensures { IsPart node placements.now result }
 {
@@ -67,7 +67,7 @@ fn part_of(placements: &[Placement], node: u64) -> NodePart
     part
 }
 
-/// The part of the node, which is looked up where the parts of all nodes were gathered.
+/// The part of the node. It is looked up if the parts of all nodes were gathered; else it costs a walk over all placements.
 pub(crate) fn part_at(
     gathered: Option<&[NodePart; 1000]>,
     placements: &[Placement],
@@ -98,7 +98,7 @@ pub(crate) fn parts_of(snapshot: &Snapshot, plan: &Plan) -> [NodePart; 1000]
     parts
 }
 
-/// The placements from the first on the node that evicts something to the last.
+/// The placements from the node's first one that evicts something to its last one that does.
 pub(crate) fn evicting(placements: &[Placement], part: NodePart) -> &[Placement]
     requires order { part.start ≤ part.end }
     requires inside { part.end ≤ length placements.now }

@@ -1,14 +1,15 @@
-//! What is decided node by node needs no state but the one after the stops; which sums are counted; how long plans are,
-//! and on which nodes.
+//! Laws of checking a plan: deciding node by node needs no state but the one after the stops, sums can be counted, and plans
+//! have bounded lengths and nodes of their snapshot.
 
 ghost use Rattle.ns_plan.specs.Laws.{KeptIsBounded, KeptIsOnFewNodes, ReadingDecides, SoundIsCounted};
 
-/// Who writes nothing before all nodes are decided decides as who takes each node's victims out at once.
+/// Deciding all nodes before anything is written gives the same result as taking each node's victims out of the state at once,
+/// as the model does.
 pub fn reading_decides()
     ensures { ReadingDecides }
 {}
 
-/// A valid world's sums can be counted.
+/// In a valid world the load of each node and the use of each quota can be counted.
 pub fn sound_is_counted()
     ensures { SoundIsCounted }
 {}

@@ -1,4 +1,4 @@
-//! What a node's victims leave of its load and of the quota's use. No list of them is held.
+//! What a node's victims leave of its load and of the quota's use. No list of the victims is held.
 
 ghost use Rattle.std.specs.Prelude.{◌≡◌, ◌++◌, ◌&&◌, ◌||◌, None, List, if◌then◌else◌, not, option_copied};
 ghost use Rattle.std.specs.List.{list_any};
@@ -40,7 +40,7 @@ fn has_eviction(evictions: &[Eviction], eviction: &Eviction) -> bool
     evictions.iter().any(|e| same_eviction(eviction, e))
 }
 
-/// Whether the eviction stands with a placement that is on the node.
+/// Whether the placement is on the node and has the eviction.
 #[tactic(auto, using(ns_types::proofs::Named::number_ties))]
 fn is_with(placement: &Placement, node: u64, eviction: &Eviction) -> bool
     ensures { result ≡ (same_number placement.now.node node
@@ -56,7 +56,7 @@ fn is_with_any(placements: &[Placement], node: u64, eviction: &Eviction) -> bool
     placements.iter().any(|p| is_with(p, node, eviction))
 }
 
-/// Whether the eviction stands earlier in the node's part: with a placement before, or before it with its own.
+/// Whether the eviction stands earlier in the node's part: in a placement before its own, or before it in its own.
 #[tactic(auto, using(crate::proofs::Leaves::in_part))]
 fn stands_earlier(
     before: &[Placement],
@@ -70,8 +70,8 @@ fn stands_earlier(
     is_with_any(before, node, eviction) || has_eviction(earlier, eviction)
 }
 
-/// The allocation that goes by the eviction, where that counts on the node and stands there for the first time. What
-/// stands before is looked at only where it counts.
+/// The allocation that the eviction evicts, if the eviction counts on the node and does not stand earlier in the node's part.
+/// What stands before it is looked at only if it counts.
 fn new_victim<'a, V: View>(
     view: &'a V,
     snapshot: &Snapshot,
@@ -114,7 +114,7 @@ fn with_gone(left: Left, size: Resources, shared: bool) -> Left
     }
 }
 
-/// What is left without the victims of the placement too, each of them once on its node.
+/// What is left without the placement's victims too, each of them counted once on its node.
 fn without_victims<V: View>(
     view: &V,
     snapshot: &Snapshot,
@@ -149,9 +149,9 @@ fn without_victims<V: View>(
     left
 }
 
-/// What is left of the node's whole load, and of the use that was left of the quota, without the victims of the node's
-/// part of these placements. It costs a walk over them, a look-up for each eviction of the part, and for each of these that
-/// counts another walk over the placements before it.
+/// What is left of the node's load and of the quota's use without the victims of the node's part of these placements. It costs
+/// a walk over the placements, a look-up for each eviction of the part, and for each eviction that counts another walk over the
+/// placements before it.
 pub(crate) fn left_at<V: View>(
     view: &V,
     snapshot: &Snapshot,

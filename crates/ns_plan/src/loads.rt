@@ -1,4 +1,4 @@
-//! What is in use on each node of a snapshot after a plan's stops, in one walk over them.
+//! The load of each node of a snapshot after a plan's stops, in one walk over the stops.
 
 ghost use Rattle.std.specs.Prelude.{◌≡◌, ◌+◌, ◌<◌, ◌≤◌, ◌&&◌, IfSome, Some, length, take, true};
 ghost use Rattle.ns_types.specs.State.Names.{same_name};
@@ -20,12 +20,12 @@ use ns_types::shared::Shared;
 use ns_types::snapshot::{PoolNode, Snapshot};
 use ns_types::text::{Text, same_text};
 
-/// Where the node of that name stands, if the nodes are in the order of their names.
+/// The place of the node with that name, if the nodes are in the order of their names and have it.
 fn guess(nodes: &[Shared<PoolNode>], name: &Text) -> usize {
     nodes.partition_point(|node| node.get().name < *name)
 }
 
-/// Where it stands, by a walk over all nodes.
+/// The place of the node with that name, by a walk over all nodes.
 fn walk_to(nodes: &[Shared<PoolNode>], name: &Text) -> Option<usize>
     ensures { IsPlaceOf nodes.now name.now result }
 {
@@ -37,7 +37,7 @@ fn walk_to(nodes: &[Shared<PoolNode>], name: &Text) -> Option<usize>
     None
 }
 
-/// Where the node of that name stands. It costs a binary search, and only where that fails a walk.
+/// The place of the node with that name. It costs a binary search, and a walk only if that fails.
 fn place_of(nodes: &[Shared<PoolNode>], name: &Text) -> Option<usize>
     ensures { IsPlaceOf nodes.now name.now result }
 {
@@ -54,7 +54,7 @@ fn is_live_in(row: &Allocation, pool: &Text) -> bool
     row.is_live() && same_text(pool, &row.pool)
 }
 
-/// What the allocation takes from its node, if that is of the snapshot.
+/// The place of the allocation's node and what the allocation takes there, if the node is of the snapshot.
 fn taken_by(snapshot: &Snapshot, row: &Allocation) -> Option<(usize, Resources)>
     requires apart { AreApart snapshot.now }
     requires lives { (is_live row.now && same_name snapshot.now.pool row.now.pool) ≡ true }
@@ -67,8 +67,8 @@ fn taken_by(snapshot: &Snapshot, row: &Allocation) -> Option<(usize, Resources)>
     }
 }
 
-/// What the allocation of the stop at the place takes, and from which node of the snapshot. None: it takes nothing from
-/// any of them, or its number stands earlier too.
+/// From which node of the snapshot the allocation of the stop at that place takes something, and how much. None: it takes
+/// nothing from any of these nodes, or its number stands earlier too.
 fn taken<V: View>(
     view: &V,
     snapshot: &Snapshot,
@@ -87,7 +87,7 @@ fn taken<V: View>(
     }
 }
 
-/// The loads of the nodes before the stops.
+/// The loads of the snapshot's nodes before the stops.
 fn present_loads<V: View>(view: &V, snapshot: &Snapshot) -> [Resources; 1000]
     requires counted { AreCounted (V.world view.now) }
     requires few { length snapshot.now.nodes ≤ 1000 }
@@ -121,7 +121,7 @@ fn take_off<V: View>(
     }
 }
 
-/// The loads of the nodes after the stops. It costs two look-ups for each of the stops, and one for each node.
+/// The loads of the snapshot's nodes after the stops. It costs two look-ups for each stop, and one for each node.
 pub(crate) fn loads_of<V: View>(
     view: &V,
     snapshot: &Snapshot,
@@ -140,7 +140,8 @@ pub(crate) fn loads_of<V: View>(
     loads
 }
 
-/// The load of the node after the stops, which is looked up where the loads of all nodes were gathered.
+/// The load of the node after the stops. It is looked up if the loads of all nodes were gathered; else it costs what `load`
+/// does.
 pub(crate) fn load_at<V: View>(
     view: &V,
     snapshot: &Snapshot,

@@ -31,8 +31,8 @@ fn same_version(a: Option<&Job>, b: Option<&Job>) -> bool
     }
 }
 
-/// Whether a plan for the one job stands now that the other is there. Of a plan that does not, `check` does nothing. It
-/// takes no memory.
+/// Whether a plan still stands that was made for the job as `planned`, now that the job is as `present`. Of a plan that does
+/// not stand, nothing is done. It takes no memory.
 pub fn stands(planned: Option<&Job>, present: Option<&Job>) -> bool
     ensures { result ≡ still_stands (option_copied planned.entry) (option_copied present.entry) }
 {
@@ -52,7 +52,7 @@ fn is_live(row: Option<&Allocation>) -> bool
     }
 }
 
-/// The stops of allocations that are live, in their order. It costs a look-up for each.
+/// The stops of live allocations, in their order. It costs a look-up for each stop. Want of memory is the only error.
 pub fn live_stops<V: View>(
     alloc: Global,
     view: &V,

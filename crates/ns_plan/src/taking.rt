@@ -43,7 +43,7 @@ fn has_room(load: Resources, size: Amount, node: &Node) -> bool
     is_below(add(amount_of(load), size), node.offer.capacity)
 }
 
-/// Whether the quota, where there is one, allows that much more beside what is in use.
+/// Whether the quota, if there is one, allows that much more beside what is in use.
 fn allows<V: View>(view: &V, quota: Option<&Text>, used: Resources, more: Amount) -> bool
     ensures { (r : Resources) → more ≡ amount_of r → result ≡ option_map_or
         (λ q. limits_allow (limits_of (V.world view.now) q) (plus used r))
@@ -74,7 +74,7 @@ fn accepts<V: View>(
         && allows(view, quota, left.used, add(placed, size))
 }
 
-/// Whether the node takes placements of that size beside what is placed, by what is left of it and of the quota.
+/// Whether the node can take placements of that size and the quota allows them beside what is placed, by what is left of both.
 pub(crate) fn takes<V: View>(
     view: &V,
     snapshot: &Snapshot,

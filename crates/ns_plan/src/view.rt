@@ -1,4 +1,4 @@
-//! How the present state is looked at.
+//! A view of the present state.
 
 ghost use Rattle.std.specs.Prelude.{◌≡◌, option_copied};
 ghost use Rattle.ns_types.specs.State.Rows.{World, allocation_at, node_at};
@@ -29,7 +29,7 @@ pub trait View {
     fn job(&self, namespace: &Text, id: &Text) -> Option<&Job>
         ensures { option_copied result ≡ job_at (world self.now) namespace.now id.now };
 
-    /// What the live allocations on a node take together, be the node there or not.
+    /// What the live allocations on a node take together, whether the node exists or not.
     fn load(&self, pool: &Text, node: &Text) -> Resources
         requires { AreCounted (world self.now) }
         ensures { result ≡ node_load (world self.now) pool.now node.now };
@@ -38,7 +38,7 @@ pub trait View {
     fn quota(&self, namespace: &Text) -> Option<&Text>
         ensures { option_copied result ≡ quota_named (world self.now) namespace.now };
 
-    /// What a quota allows. One that is not there allows all.
+    /// The quota's limits. A quota that does not exist limits nothing.
     fn limits(&self, quota: &Text) -> Limits
         ensures { result ≡ limits_of (world self.now) quota.now };
 

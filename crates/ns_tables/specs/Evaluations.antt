@@ -1,5 +1,4 @@
--- A namespace's evaluations, by number, and by the job under which their numbers stand: all of them, those that are pending
--- and those that are blocked.
+-- A namespace's evaluations by number, and their numbers by job: of all, of the pending ones and of the blocked ones.
 use Rattle.std.specs.Prelude.{Option}
 use Rattle.std.specs.FinMap.{entries}
 use Rattle.keyed.specs.Over.{HasRoomFor}
@@ -12,7 +11,7 @@ use Rattle.ns_tables.specs.Filing.{HasRoomAt, IsIndexOf, evaluation_job, job_whe
 
 pub record EvaluationTable : Type 0 where
   pub slots : ByNumber (Option Evaluation)
-  -- keys of a job and a number
+  -- the numbers of each job's evaluations, as keys of a job and a number
   pub jobs : KeySet
   pub pending : KeySet
   pub blocked : KeySet
@@ -24,7 +23,7 @@ pub record HasEvaluationRoom (changes : ByNumber (Option Evaluation)) (t : Evalu
   pub pending : Each (HasRoomAt (job_where is_pending) t.pending) (entries changes)
   pub blocked : Each (HasRoomAt (job_where is_blocked) t.blocked) (entries changes)
 
--- the numbers of the rows stand by job, and so do those of the pending and of the blocked ones
+-- the numbers of all rows, of the pending ones and of the blocked ones are filed by job
 pub record AreFiled (all waiting stuck : KeySet) (rows : ByNumber Evaluation) : Type 0 where
   pub jobs : IsIndexOf evaluation_job all rows
   pub pending : IsIndexOf (job_where is_pending) waiting rows

@@ -17,13 +17,13 @@ use ns_types::text::Text;
 use std::alloc::{AllocError, Global};
 use std::marker::Model;
 
-/// Allocations by number, with the numbers of each job, and with what the live ones take together, which is counted as
-/// rows change.
+/// Allocations by number, with the numbers of each job's allocations, and with what the live ones take together, which follows
+/// changes of rows.
 pub struct AllocationTable {
     alloc: Global,
     slots: NumberTable<Allocation>,
     jobs: KeySet,
-    /// Each sum is that of the live rows, without what is past 64 bits.
+    /// What the live rows take together, each sum without what is past 64 bits.
     live: Resources,
 }
 
@@ -53,7 +53,7 @@ impl Model for AllocationTable {
     ghost invariant = { λ t. IsKept t.jobs t.live t.slots };
 }
 
-/// What the row takes, if it is live.
+/// What the row takes: nothing if there is none, or if it is not live.
 fn row_use(row: Option<&Allocation>) -> Resources
     ensures { result ≡ row_use (option_copied row.entry) }
 {
@@ -63,7 +63,7 @@ fn row_use(row: Option<&Allocation>) -> Resources
     }
 }
 
-/// The total once those rows are changed. It looks at them alone, and at the rows that they change.
+/// The total after these rows are changed. It reads only them, and the rows that they replace.
 fn total_after(
     total: Resources,
     slots: &NumberTable<Allocation>,
@@ -123,7 +123,7 @@ impl AllocationTable {
         self.jobs.numbers_of(job)
     }
 
-    /// What the live allocations take together. It looks at none of them. The premise is that the sums fit 64 bits.
+    /// What the live allocations take together, which must fit 64 bits. It reads no allocation.
     pub fn live_use(&self) -> Resources
         requires { IsCounted (live_use self.now.slots) }
         ensures { result ≡ live_use self.now.slots }
@@ -131,14 +131,14 @@ impl AllocationTable {
         self.live
     }
 
-    /// The same without what is past 64 bits, and without the premise.
+    /// What the live allocations take together, each sum without what is past 64 bits. It reads no allocation.
     pub fn live_total(&self) -> Resources
         ensures { IsTotalOf result self.now.slots }
     {
         self.live
     }
 
-    /// What `live_total` is once those rows are changed. It looks at them alone, and at the rows that they change.
+    /// What `live_total` is after these rows are changed. It reads only them, and the rows that they replace.
     pub fn total_with(&self, changes: &NumberTable<Allocation>) -> Resources
         ensures { IsTotal result (rows_use (over (rows self.now.slots) changes.now)) }
     {
@@ -164,7 +164,7 @@ impl AllocationTable {
         self.slots.apply(changes);
     }
 
-    /// Takes the slot of that number out, if it is vacant, with the room that was made for its row.
+    /// Takes the slot of the changed row out, if it is vacant, with the room that was made for the row's number.
     pub fn clear_slot(&mut self, slot: &NumberSlot<Allocation>)
         ensures { self.new.slots ≡ without_vacant self.old.slots slot.now.0 }
     {

@@ -15,7 +15,7 @@ use ns_types::text::Text;
 use std::alloc::{AllocError, Global};
 use std::marker::Model;
 
-/// Evaluations by number, with the numbers of each job: all of them, the pending ones and the blocked ones.
+/// Evaluations by number, with the numbers of each job's evaluations: of all, of the pending ones and of the blocked ones.
 pub struct EvaluationTable {
     alloc: Global,
     slots: NumberTable<Evaluation>,
@@ -113,7 +113,7 @@ impl EvaluationTable {
         reserve_all::<BlockedJob>(&mut self.blocked, self.alloc, slots)
     }
 
-    /// Writes the changed rows. It takes no memory.
+    /// Writes the changed rows, and takes away those that are gone. It takes no memory.
     pub fn apply(&mut self, changes: NumberTable<Evaluation>)
         requires { HasEvaluationRoom changes self.old }
         ensures { rows self.new.slots ≡ over (rows self.old.slots) changes }
@@ -124,7 +124,7 @@ impl EvaluationTable {
         self.slots.apply(changes);
     }
 
-    /// Takes the slot of that number out, if it is vacant, with the room that was made for its row.
+    /// Takes the slot of the changed row out, if it is vacant, with the room that was made for the row's number.
     pub fn clear_slot(&mut self, slot: &NumberSlot<Evaluation>)
         ensures { self.new.slots ≡ without_vacant self.old.slots slot.now.0 }
     {

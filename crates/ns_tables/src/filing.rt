@@ -1,4 +1,4 @@
-//! Under which names the numbers of rows stand.
+//! Files the numbers of rows under names, which are those of their jobs.
 
 ghost use Rattle.std.specs.Prelude.{◌≡◌, ◌&&◌, ◌||◌, IsTrue, not, OnOk, Option, option_copied};
 ghost use Rattle.std.specs.FinMap.{entries};
@@ -19,18 +19,18 @@ use ns_types::evaluation::{Evaluation, Status};
 use ns_types::text::{Text, same_text};
 use std::alloc::{AllocError, Global};
 
-/// A name under which numbers of rows stand.
+/// A way to file the numbers of rows under names.
 pub(crate) trait Filing {
     type Row: Drop;
 
     ghost name_of: { Self.Row → Option Name };
 
-    /// The name of the row, where it has one.
+    /// The name under which the row's number is filed, if it is filed.
     fn name_of(row: &Self::Row) -> Option<&Text>
         ensures { option_copied result ≡ name_of row.now };
 }
 
-/// The job of an allocation.
+/// Files allocations by job.
 pub(crate) struct AllocationJob;
 
 impl Filing for AllocationJob {
@@ -43,7 +43,7 @@ impl Filing for AllocationJob {
     }
 }
 
-/// The job of an evaluation.
+/// Files evaluations by job.
 pub(crate) struct EvaluationJob;
 
 impl Filing for EvaluationJob {
@@ -56,7 +56,7 @@ impl Filing for EvaluationJob {
     }
 }
 
-/// The job of an evaluation that is pending.
+/// Files pending evaluations by job.
 pub(crate) struct PendingJob;
 
 impl Filing for PendingJob {
@@ -72,7 +72,7 @@ impl Filing for PendingJob {
     }
 }
 
-/// The job of an evaluation that is blocked.
+/// Files blocked evaluations by job.
 pub(crate) struct BlockedJob;
 
 impl Filing for BlockedJob {
@@ -88,7 +88,7 @@ impl Filing for BlockedJob {
     }
 }
 
-/// The name of a row that may be there.
+/// The name under which the row is filed, if there is a row and it is filed.
 fn name_at<F: Filing>(row: Option<&F::Row>) -> Option<&Text>
     ensures { option_copied result ≡ name_at F.name_of (option_copied row.entry) }
 {
@@ -123,7 +123,7 @@ fn reserve<F: Filing>(
     }
 }
 
-/// Makes room for the number of each row under its name.
+/// Makes room for the number of each row under its name. Want of memory is the only error.
 pub(crate) fn reserve_all<F: Filing>(
     numbers: &mut KeySet,
     alloc: Global,
@@ -138,7 +138,7 @@ pub(crate) fn reserve_all<F: Filing>(
     Ok(())
 }
 
-/// Takes the room for the number of the slot's row away again, unless it stands there.
+/// Takes the room for the number of the slot's row away again, unless the number is filed there.
 pub(crate) fn clear<F: Filing>(numbers: &mut KeySet, slot: &NumberSlot<F::Row>)
     ensures { (key : Key) → holds_key numbers.new key ≡ holds_key numbers.old key }
 {
@@ -171,7 +171,7 @@ fn insert_all<F: Filing>(numbers: &mut KeySet, slots: &[NumberSlot<F::Row>])
     }
 }
 
-/// Takes the number out from under the name of the row before, unless the slot's row stands there.
+/// Removes the number from the name of the row before, unless the slot's row has the same name.
 fn leave<F: Filing>(numbers: &mut KeySet, before: &NumberTable<F::Row>, slot: &NumberSlot<F::Row>)
     ensures { (key : Key) → holds_key numbers.new key
         ≡ (not (is_left F.name_of before.now slot.now key) && holds_key numbers.old key) }
@@ -197,7 +197,7 @@ fn leave_all<F: Filing>(
     }
 }
 
-/// Puts the number of each changed row under its name, and takes it out from under the one before.
+/// Files the number of each changed row under its name, and removes it from the name of the row before.
 pub(crate) fn refile<F: Filing>(
     numbers: &mut KeySet,
     before: &NumberTable<F::Row>,

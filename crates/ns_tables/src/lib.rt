@@ -1,7 +1,7 @@
-//! Keeps the tables of the whole world: what namespaces, pools and quotas own, and the lists of evaluations that are ready,
-//! planned and blocked. `world_of` is the world that they hold, without vacant slots and room. Steps are built over
-//! these tables; they are written in one place alone, where a settled change is committed. `events` keeps the last hundred events
-//! of a namespace.
+//! Keeps the tables of the whole world: what namespaces, pools and quotas own, and the queues of ready evaluations, of plans
+//! and of blocked evaluations. `world_of` is the world that they hold, without vacant slots and room. Steps read these tables;
+//! they are written in one place alone, where a settled change is committed. `events` keeps the last hundred events of a
+//! namespace.
 #![tactic(auto)]
 
 mod allocations;

@@ -1,4 +1,4 @@
-//! All rows of the world but the access lists, by owner.
+//! All rows of the state except the access lists, by owner.
 
 ghost use Rattle.std.specs.Prelude.{◌≡◌, option_copied};
 ghost use Rattle.std.specs.FinMap.{contains_key};
@@ -23,13 +23,13 @@ use std::alloc::Global;
 pub struct TenantRows {
     pub namespace: Namespace,
     pub index: u64,
-    /// The last numbers given.
+    /// The last numbers that were given to an evaluation and to an allocation.
     pub evaluation_number: u64,
     pub allocation_number: u64,
     pub jobs: NameTable<Job>,
     pub evaluations: EvaluationTable,
     pub allocations: AllocationTable,
-    /// Those that are busy for it.
+    /// The workers that have one of its evaluations.
     pub workers: NumberTable<Worker>,
     pub events: Events,
 }
@@ -55,7 +55,7 @@ pub struct PoolRows {
     pub pool: Pool,
     /// The number of its last release.
     pub release: u64,
-    /// The number of each class's last release. Of each class the first entry counts.
+    /// The number of the last release of each class. If a class has several entries, the first one counts.
     pub classes: Series<(Class, u64)>,
     pub nodes: NameTable<Node>,
 }
@@ -87,7 +87,7 @@ impl Drop for QuotaRows {
     }
 }
 
-/// Namespaces, pools and quotas, each by name with what it owns, and the three ordered lists.
+/// Namespaces, pools and quotas, each by name with what it owns, and the three queues.
 pub struct Tables {
     pub alloc: Global,
     pub tenants: OwnerTable<TenantRows>,
@@ -133,7 +133,7 @@ impl Tables {
         }
     }
 
-    /// The node of the pool.
+    /// The node of that name in the pool.
     pub fn node(&self, pool: &Text, name: &Text) -> Option<&Node>
         ensures { option_copied result ≡ node_at (world_of self.now) pool.now name.now }
     {

@@ -1,5 +1,5 @@
--- A namespace with a list of pools and a list of quotas: the server that holds it alone, the steps that are its own, and
--- what isolation requires of a run.
+-- A namespace with a list of pools and a list of quotas: the state of a server that has it alone, the steps that are its own,
+-- and what isolation requires of a run.
 use Rattle.std.specs.Prelude.{◌≡◌, Bool, true, false, ◌&&◌, if◌then◌else◌, List, [], ◌∷◌, filter, Err}
 use Rattle.std.specs.FinMap.{retain_keys}
 use Rattle.ns_types.specs.declared.refusal.Refusal.{Refusal}
@@ -14,12 +14,13 @@ use Rattle.ns_types.specs.Steps.{Answer, said, after}
 
 -- ---- a choice of owners
 
+-- the chosen owners: namespaces, pools and quotas
 pub record Part : Type 0 where
   pub spaces : Name → Bool
   pub pools : Name → Bool
   pub quotas : Name → Bool
 
--- the rows and entries of the chosen owners
+-- the rows of the chosen owners, and the queue entries of the chosen namespaces
 abbrev pub alone_in : Part → World → World
 alone_in part w = record {
   tenants = retain_keys w.tenants part.spaces;
@@ -34,7 +35,7 @@ alone_in part w = record {
 abbrev pub part_of : Name → List Name → List Name → Part
 part_of ns pools quotas = record { spaces = same_name ns; pools = has_name pools; quotas = has_name quotas }
 
--- the state in which the server holds the chosen owners alone, and all access lists
+-- the state of a server that has the chosen owners alone, and all access lists
 unfoldable pub alone : Part → State → State
 alone part s = record s { world = alone_in part s.world }
 
@@ -44,13 +45,13 @@ Agree part s t = t ≡ alone part s
 
 -- ---- own steps
 
--- a report of another namespace's allocation is that namespace's affair
+-- a report concerns the chosen namespaces if its allocation is of one of them; every other request about a chosen pool does
 abbrev pub concerns : Part → NodeCommand → Bool
 concerns part (NodeCommand.Report name report) = part.spaces report.namespace
 concerns part _ = true
 
--- What administrators ask of its record, its quotas and its pools, and all that they ask of policies and tokens.
--- A put of its record that names another pool or quota is not its own, and no list of what there is on the server.
+-- An own request of an administrator is one about a chosen namespace's record, about a chosen quota or pool, or about policies
+-- and tokens. A put of a record that names another pool or quota is not, nor is a list of all namespaces, quotas or pools.
 unfoldable pub is_own_admin : Part → AdminCommand → Bool
 is_own_admin part AdminCommand.ListNamespaces = false
 is_own_admin part (AdminCommand.PutNamespace name namespace) = part.spaces name && names_within part.pools part.quotas namespace
@@ -68,8 +69,8 @@ is_own_admin part (AdminCommand.DeletePolicy name) = true
 is_own_admin part (AdminCommand.CreateToken new) = true
 is_own_admin part (AdminCommand.DeleteToken accessor) = true
 
--- asked in a chosen namespace, whoever asks; asked of a chosen pool, or by an administrator of the chosen owners or the
--- access lists; or made by a worker for a chosen namespace
+-- an own step is a request in a chosen namespace, with any secret; a request about a chosen pool that concerns the chosen
+-- namespaces; an own request of an administrator; or a worker's step for a chosen namespace
 unfoldable pub is_own : Part → Step → Bool
 is_own part (Step.Ask ns secret command) = part.spaces ns
 is_own part (Step.Admin secret command) = is_own_admin part command
@@ -81,7 +82,7 @@ is_own part (Step.Apply worker ns) = part.spaces ns
 is_own part (Step.Finish worker ns) = part.spaces ns
 is_own part (Step.Nack worker ns) = part.spaces ns
 
--- what remains once the others are struck out
+-- the own steps: what remains once the others are struck out
 abbrev pub struck : Part → List Step → List Step
 struck part steps = filter (is_own part) steps
 
@@ -93,7 +94,7 @@ struck_answers part _ _ = []
 
 -- ---- premises
 
--- a put of a new name, whose table has no room on the whole server
+-- the step puts a new namespace, quota or pool, and the server's table of these is full
 abbrev pub lacks_room : Step → World → Bool
 lacks_room (Step.Admin secret (AdminCommand.PutNamespace name namespace)) w = is_full w.tenants name
 lacks_room (Step.Admin secret (AdminCommand.PutQuota name quota)) w = is_full w.quotas name
@@ -108,7 +109,7 @@ is_full_answer _ = false
 abbrev pub is_crowded_out : Part → Step → State → Answer → Bool
 is_crowded_out part step s answer = is_own part step && lacks_room step s.world && is_full_answer answer
 
--- a run at each state of which the namespace has these pools and quotas to itself, and no put of its own is crowded out
+-- a run in which the namespace has these pools and quotas to itself at each state, and none of its own puts is crowded out
 abbrev pub IsIsolated : Name → List Name → List Name → State → List Step → List Answer → State → Type 0
 IsIsolated ns pools quotas s [] [] s' = (is_apart s.world ns pools quotas ≡ true) × (s' ≡ s)
 IsIsolated ns pools quotas s (step ∷ steps) (answer ∷ answers) s' =

@@ -23,7 +23,7 @@ use Rattle.ns_types.specs.Working.Work.{dequeue, snap, submit, finish, nack}
 
 -- ---- who may make a step
 
--- the secret is known and gives the right, which comes before anything else of the state
+-- the secret gives the right that the step needs, which is checked before anything else; a worker's step needs none
 abbrev pub is_allowed : Step → Acl → Bool
 is_allowed (Step.Ask ns secret command) acl = right_of command (rights_of acl secret ns)
 is_allowed (Step.Admin secret command) acl = may_administer acl secret command
@@ -55,7 +55,7 @@ is_tenant_past_bound t = nat_lt greatest t.index || nat_lt greatest t.evaluation
 abbrev pub is_pool_past_bound : PoolRows → Bool
 is_pool_past_bound p = nat_lt greatest p.release || any_row (λ _ node. nat_lt greatest node.places) p.nodes
 
--- some counter has passed its bound
+-- some counter is past its bound
 unfoldable pub is_past_bound : World → Bool
 is_past_bound w = any_row (λ _ t. is_tenant_past_bound t) w.tenants || any_row (λ _ p. is_pool_past_bound p) w.pools
     || any_row (λ _ q. nat_lt greatest q.release) w.quotas
@@ -65,7 +65,7 @@ is_past_bound w = any_row (λ _ t. is_tenant_past_bound t) w.tenants || any_row 
 abbrev pub Answer : Type 0
 Answer = Result Reply Refusal
 
--- what is asked in a namespace is answered with its index after the step
+-- the reply to a request in a namespace has the namespace's index after the step; other replies have no index
 abbrev pub index_shown : Step → World → Option ℕ
 index_shown (Step.Ask ns secret command) w = option_map (λ t. t.index) (get w.tenants ns)
 index_shown _ w = None
@@ -79,7 +79,7 @@ said answer s = Some (answer, s)
 abbrev pub settled : State → State → State
 settled s s' = record s' { world = settle s.world s'.world }
 
--- a step that would pass a counter's bound is refused
+-- a step that would bring a counter past its bound is refused
 abbrev pub concluded_with : Step → State → Content → State → Option (Answer × State)
 concluded_with step s content s' =
     if is_past_bound s'.world then said (Err Refusal.Full) s
@@ -91,18 +91,18 @@ concluded step s NotEnabled = None
 concluded step s (Refused refusal) = said (Err refusal) s
 concluded step s (Done content s') = concluded_with step s content (settled s s')
 
--- the one answer and the one state to which a step leads; none where it is not enabled
+-- the one answer to a step, and the one state after it; none if the step is not enabled
 unfoldable pub after : Step → State → Option (Answer × State)
 after step s = if is_allowed step s.acl then concluded step s (act step s) else said (Err Refusal.Denied) s
 
--- the step is made: it is in turn, and answered by a reply
+-- the step is made: it is enabled, and its answer is a reply
 abbrev pub is_made : Option (Answer × State) → Bool
 is_made (Some (Ok reply, s)) = true
 is_made (Some (Err refusal, s)) = false
 is_made None = false
 
--- What a call that makes the step answers, and the state that it leaves. Want of memory comes last, where the step
--- would have been made. It is no step, and it and a call out of turn change nothing.
+-- What a call that makes the step returns, and the state that it leaves. The refusal for want of memory comes last: only where
+-- the step would have been made. It is no step, nor is a call that is not enabled, and both change nothing.
 abbrev pub Makes : Step → State → Answer → State → Type 0
 Makes step s (Ok reply) s' = after step s ≡ said (Ok reply) s'
 Makes step s (Err Refusal.Memory) s' = (is_made (after step s) ≡ true) × (s' ≡ s)
@@ -113,6 +113,7 @@ Makes step s (Err refusal) s' = (after step s ≡ said (Err refusal) s) × (s' �
 
 -- ---- runs
 
+-- these steps, one after the other, get these answers and lead from s to s'
 abbrev pub Run : State → List Step → List Answer → State → Type 0
 Run s [] [] s' = s' ≡ s
 Run s (step ∷ steps) (answer ∷ answers) s' = (mid : State) × (after step s ≡ said answer mid) × Run mid steps answers s'
@@ -143,7 +144,7 @@ opening_world = record {
   blocked = [];
 }
 
--- one token, a manager's, with the bootstrap secret
+-- one token, which is a management token and has the bootstrap secret
 abbrev pub opening_acl : Name → Acl
 opening_acl secret = record {
   policies = empty;

@@ -30,7 +30,7 @@ impl Clone for Pattern {
     }
 }
 
-/// What a rule gives.
+/// What a rule grants, or that it denies.
 #[derive(Clone, Copy, PartialEq, Eq)]
 pub struct Grants {
     pub list_jobs: bool,
@@ -80,7 +80,7 @@ impl Clone for Rule {
     }
 }
 
-/// By name.
+/// A policy. The access lists have it by its name.
 pub struct Policy {
     pub description: Text,
     /// The text of the rules, as given.
@@ -116,9 +116,9 @@ pub enum TokenKind {
     Management,
 }
 
-/// By secret.
+/// A token. The access lists have it by its secret.
 pub struct Token {
-    /// The text of an UUID, in lower case with hyphens.
+    /// The text of a UUID, in lower case with hyphens.
     pub accessor: Text,
     pub name: Text,
     pub kind: TokenKind,

@@ -29,7 +29,7 @@ pub struct Allocation {
     pub evaluation: u64,
     pub pool: Text,
     pub node: Text,
-    /// Its number in the node's order of placement.
+    /// Its place in its node's order of placement.
     pub place: u64,
     pub size: Resources,
     pub priority: u64,
@@ -61,7 +61,7 @@ impl Drop for Allocation {
 }
 
 impl Allocation {
-    /// Whether it is to run, and its client has not said that it ended or is lost.
+    /// Whether it is live: its desired status is `run`, and its client status is `pending` or `running`.
     pub fn is_live(&self) -> bool
         ensures { result ≡ is_live self.now }
     {

@@ -1,4 +1,4 @@
-//! Evaluations: what is to be looked at for a job.
+//! Evaluations: each asks the scheduler to look at a job.
 
 ghost use Rattle.std.specs.Prelude.{◌≡◌};
 
@@ -17,7 +17,7 @@ pub enum Status {
     Canceled,
 }
 
-/// What an evaluation was made for.
+/// Why an evaluation was made.
 #[derive(Clone, Copy, PartialEq, Eq)]
 pub enum Trigger {
     JobRegister,
@@ -42,9 +42,9 @@ pub struct Evaluation {
     pub previous: Option<u64>,
     /// The evaluation that follows it.
     pub follower: Option<u64>,
-    /// The quota that ended placing.
+    /// The quota that ended placing, if one did.
     pub quota: Option<Text>,
-    /// Whether a constraint escapes classes.
+    /// Whether it escapes classes: then room on a node of any class may wake it.
     pub escapes: bool,
     /// The classes that were found infeasible: in their order, each once.
     pub infeasible: Rows<Class>,

@@ -6,7 +6,7 @@ ghost use Rattle.ns_types.specs.Asking.Good.{IsGoodNodeCommand, is_good_admin, i
 use crate::step::{AdminCommand, AskCommand, NodeCommand};
 use std::marker::Model;
 
-/// What is asked in one namespace.
+/// A request in one namespace, within the limits.
 pub struct GoodAsk {
     command: AskCommand,
 }
@@ -30,6 +30,7 @@ impl Model for GoodAsk {
 }
 
 impl GoodAsk {
+    /// The command, which is within the limits.
     pub fn new(command: AskCommand) -> GoodAsk
         requires { IsTrue (is_good_ask command) }
         ensures { result ≡ command }
@@ -37,6 +38,7 @@ impl GoodAsk {
         GoodAsk { command }
     }
 
+    /// The command, for reading.
     pub fn get(&self) -> &AskCommand
         ensures same { result.now ≡ self.now }
         ensures good { IsTrue (is_good_ask self.now) }
@@ -45,7 +47,7 @@ impl GoodAsk {
     }
 }
 
-/// What administrators ask.
+/// A request of an administrator, within the limits.
 pub struct GoodAdmin {
     command: AdminCommand,
 }
@@ -69,6 +71,7 @@ impl Model for GoodAdmin {
 }
 
 impl GoodAdmin {
+    /// The command, which is within the limits.
     pub fn new(command: AdminCommand) -> GoodAdmin
         requires { IsTrue (is_good_admin command) }
         ensures { result ≡ command }
@@ -76,6 +79,7 @@ impl GoodAdmin {
         GoodAdmin { command }
     }
 
+    /// The command, for reading.
     pub fn get(&self) -> &AdminCommand
         ensures same { result.now ≡ self.now }
         ensures good { IsTrue (is_good_admin self.now) }
@@ -84,7 +88,7 @@ impl GoodAdmin {
     }
 }
 
-/// What is asked of one pool and its nodes.
+/// A request about one pool and its nodes, within the limits.
 pub struct GoodNodeCommand {
     command: NodeCommand,
 }
@@ -107,6 +111,7 @@ impl Model for GoodNodeCommand {
 }
 
 impl GoodNodeCommand {
+    /// The command, which is within the limits.
     pub fn new(command: NodeCommand) -> GoodNodeCommand
         requires { IsGoodNodeCommand command }
         ensures { result ≡ command }
@@ -114,6 +119,7 @@ impl GoodNodeCommand {
         GoodNodeCommand { command }
     }
 
+    /// The command, for reading.
     pub fn get(&self) -> &NodeCommand
         ensures same { result.now ≡ self.now }
         ensures good { IsGoodNodeCommand self.now }

@@ -1,4 +1,4 @@
-//! Ids of evaluations and allocations: UUID texts that say a kind and a number.
+//! Ids of evaluations and allocations: texts of UUIDs, which contain a kind and a number.
 
 ghost use Rattle.std.specs.Prelude.{◌≡◌, ◌<◌, ◌^◌, ℕ, Some, IfSome, IfNone, IfOk, ◌≤◌, length};
 ghost use Rattle.ns_types.specs.State.Id.{IsNoId, id_text, id_number, kind_number, uuid_number};
@@ -7,7 +7,7 @@ use crate::text::Text;
 use std::alloc::{AllocError, Global};
 use uuid::Uuid;
 
-/// What an id is of.
+/// Whether an id is that of an evaluation or of an allocation.
 #[derive(Clone, Copy, PartialEq, Eq)]
 pub enum IdKind {
     Evaluation,
@@ -43,12 +43,12 @@ pub fn id_text(alloc: Global, kind: IdKind, number: u64) -> Result<Text, AllocEr
     Text::from_str(alloc, id_str(kind, number, &mut buffer))
 }
 
-/// The number of the id of that kind that a text stands for.
+/// The number in an id of that kind. None if the text is no such id.
 pub fn id_read(kind: IdKind, text: &str) -> Option<u64>
-    // It is the number for which the text is the id.
+    // The text is the id of that number.
     ensures found { IfSome result (λ n. uuid_number text.now ≡ Some (id_number kind n)) }
     ensures none { IfNone result (IsNoId kind text.now) }
-    // What `id_text` writes is read again.
+    // It reads back what `id_text` writes.
     ensures written { (n : ℕ) → n < 2 ^ 64 → text.now ≡ id_text kind n → result ≡ Some n }
 {
     let Ok(id) = Uuid::parse_str(text) else {

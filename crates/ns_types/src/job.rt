@@ -160,7 +160,7 @@ impl Clone for Document {
     }
 }
 
-/// A row of a namespace, by the job's id. Those who are shown the row share its document.
+/// A row of a namespace, by the job's id. Copies of the row share its document.
 pub struct Job {
     pub document: Shared<Document>,
     pub stop: bool,
@@ -195,7 +195,7 @@ impl Clone for Job {
     }
 }
 
-/// A registration as it is asked. Without a pool it is the namespace's default.
+/// A registration as it is requested. Without a pool, the job gets the namespace's default pool.
 pub struct Registration {
     pub id: Text,
     pub kind: JobKind,
@@ -203,7 +203,7 @@ pub struct Registration {
     pub pool: Option<Text>,
     pub constraints: Rows<Constraint>,
     pub groups: Rows<Group>,
-    /// The index that is demanded of the stored job. Zero: there is no such job.
+    /// The modify index that the job must have, if one is demanded. 0: there must be no such job.
     pub enforced: Option<u64>,
 }
 

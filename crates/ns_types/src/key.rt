@@ -30,6 +30,7 @@ impl Model for EvalKey {
 }
 
 impl EvalKey {
+    /// The key of the namespace's evaluation of that number.
     pub fn new(namespace: Text, number: u64) -> EvalKey
         ensures { result ≡ (namespace, number) }
     {

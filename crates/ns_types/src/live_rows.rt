@@ -17,16 +17,17 @@ use std::marker::Model;
 /// How many of the last names the name of a new row is compared with.
 const RECENT: usize = 8;
 
-/// Live allocations in the order in which they were placed. Contracts see them as a list. Beside it stands a list of the names of
-/// their namespaces, where a name may stand twice, and for each allocation the place of its name there. Where two such lists have
-/// equal names and equal places, their allocations have equal namespaces, and no name is compared for each allocation.
+/// Live allocations in the order in which they were placed. Contracts see them as a list. The names of their namespaces are in
+/// a list of their own, in which a name may occur twice, and each allocation has the place of its name there. If two such
+/// lists have equal names and equal places, their allocations have equal namespaces, and no name is compared for each
+/// allocation.
 pub struct LiveRows {
     rows: Vec<LiveAllocation>,
     names: Vec<Shared<Text>>,
     owners: Vec<usize>,
-    /// What they take together. None: it is past 64 bits.
+    /// What the allocations take together. None if it is past 64 bits.
     load: Option<Resources>,
-    /// None of them has a lower priority.
+    /// No allocation has a lower priority.
     least: u64,
 }
 
@@ -73,7 +74,7 @@ fn recent(names: &[Shared<Text>], name: &Text) -> Option<usize>
     None
 }
 
-/// The place of the name. It is put at the end, if it is none of the last `RECENT`.
+/// The place of the name, which is put at the end if it is not one of the last `RECENT`. Want of memory is the only error.
 fn owner_of(names: &mut Vec<Shared<Text>>, name: &Shared<Text>) -> Result<usize, AllocError>
     ensures kept { KeepsNames names.old.items names.new.items }
     ensures ok { IfOk result (λ place. slice_get names.new.items place ≡ Some name.now) }
@@ -86,7 +87,7 @@ fn owner_of(names: &mut Vec<Shared<Text>>, name: &Shared<Text>) -> Result<usize,
     Ok(place)
 }
 
-/// The same names with one more owner each.
+/// The same names, which get one more owner each and are not copied.
 fn shared_names(alloc: Global, names: &[Shared<Text>]) -> Result<Vec<Shared<Text>>, AllocError>
     ensures { IfOk result (λ shared. shared.items ≡ names.now) }
 {
@@ -108,7 +109,7 @@ fn copied_row(row: &LiveAllocation) -> Result<LiveAllocation, AllocError>
     })
 }
 
-/// The same rows, with memory for so many.
+/// A copy of the rows, with memory for `most` of them.
 fn copied_rows(
     alloc: Global,
     rows: &[LiveAllocation],
@@ -123,7 +124,7 @@ fn copied_rows(
     Ok(copy)
 }
 
-/// The same places, with memory for so many.
+/// A copy of the places, with memory for `most` of them.
 fn copied_owners(alloc: Global, owners: &[usize], most: usize) -> Result<Vec<usize>, AllocError>
     ensures { IfOk result (λ copy. copy.items ≡ owners.now) }
 {
@@ -132,7 +133,7 @@ fn copied_owners(alloc: Global, owners: &[usize], most: usize) -> Result<Vec<usi
     Ok(copy)
 }
 
-/// Whether these are the same names.
+/// Whether both lists have the same names in the same order.
 fn same_names(a: &[Shared<Text>], b: &[Shared<Text>]) -> bool
     ensures { OnTrue result (a.now ≡ b.now) }
 {
@@ -154,7 +155,7 @@ fn same_but_name(a: &LiveAllocation, b: &LiveAllocation) -> bool
     a.number == b.number && a.priority == b.priority && a.size == b.size
 }
 
-/// What is taken together with one more.
+/// The load with one more allocation of that size. None if it is past 64 bits.
 fn with_size(load: Option<Resources>, size: Resources) -> Option<Resources>
     ensures { (sum : Resources) → SomeIff load (IsCounted sum) sum →
         SomeIff result (IsCounted (plus sum size)) (plus sum size) }
@@ -166,7 +167,7 @@ fn with_size(load: Option<Resources>, size: Resources) -> Option<Resources>
 }
 
 impl LiveRows {
-    /// None. It takes no memory.
+    /// An empty list. It takes no memory.
     pub fn new(alloc: Global) -> LiveRows
         ensures { result ≡ [] }
     {
@@ -179,7 +180,7 @@ impl LiveRows {
         }
     }
 
-    /// None, with memory for so many.
+    /// An empty list, with memory for `most` rows. Want of memory is the only error.
     pub fn with_capacity(alloc: Global, most: usize) -> Result<LiveRows, AllocError>
         ensures { IfOk result (λ rows. rows ≡ []) }
     {
@@ -192,7 +193,7 @@ impl LiveRows {
         })
     }
 
-    /// The same rows, with memory for so many more. Want of memory is the only error.
+    /// A copy of the rows, with memory for `more` rows beside them. Want of memory is the only error.
     pub fn copied(&self, alloc: Global, more: usize) -> Result<LiveRows, AllocError>
         ensures { IfOk result (λ copy. copy ≡ self.now) }
     {
@@ -212,14 +213,14 @@ impl LiveRows {
         self.rows.as_slice()
     }
 
-    /// What they take together. None: it is past 64 bits. It looks at none of them.
+    /// What the allocations take together. None if it is past 64 bits. It reads no allocation.
     pub fn load(&self) -> Option<Resources>
         ensures { IsLoad self.now result }
     {
         self.load
     }
 
-    /// None of them has a lower priority. It looks at none of them.
+    /// A priority below which no allocation is. It reads no allocation.
     pub fn least_priority(&self) -> u64
         ensures { All (λ a. result ≤ a.priority) self.now }
     {
@@ -250,8 +251,8 @@ impl LiveRows {
         Ok(())
     }
 
-    /// Whether both have equal rows, and their names stand in the same order. It compares no name for each row.
-    /// After a no the rows may still be equal.
+    /// Whether both have equal rows and equal lists of names. It compares no name for each row. If it returns false, the rows
+    /// may still be equal.
     pub fn is_like(&self, other: &LiveRows) -> bool
         ensures { OnTrue result (self.now ≡ other.now) }
     {
@@ -264,7 +265,7 @@ impl LiveRows {
         self.owners.as_slice() == other.owners.as_slice() && self.has_like(other)
     }
 
-    /// Whether those at the same places have the same numbers, priorities and sizes.
+    /// Whether the rows at the same places have the same numbers, priorities and sizes.
     fn has_like(&self, other: &LiveRows) -> bool
         requires { length self.now ≡ length other.now }
         ensures { OnTrue result (map without_name self.now ≡ map without_name other.now) }

@@ -32,10 +32,10 @@ impl Clone for Attribute {
     }
 }
 
-/// What constraints that do not escape can tell of a node: its class and the attributes that are not unique.
+/// What constraints that do not escape classes look at on a node: its class name and its attributes that are not unique.
 pub struct Class {
     pub name: Text,
-    /// By key, each key once.
+    /// In the order of their keys, each key once.
     pub attributes: Rows<Attribute>,
 }
 
@@ -68,7 +68,7 @@ pub enum NodeStatus {
 /// What a registration says of a node.
 pub struct Offer {
     pub class: Text,
-    /// By key, each key once.
+    /// In the order of their keys, each key once.
     pub attributes: Rows<Attribute>,
     pub capacity: Resources,
 }
@@ -88,7 +88,7 @@ pub struct Node {
     pub offer: Offer,
     pub status: NodeStatus,
     pub eligible: bool,
-    /// Counts the placements on it.
+    /// How many allocations were placed on it.
     pub places: u64,
 }
 

@@ -1,4 +1,4 @@
-//! What a plan says: which allocations stop, and which are placed where, with whom they evict.
+//! Plans: which allocations stop, and which are placed on which nodes, with the allocations that they evict.
 
 use crate::resources::Resources;
 use crate::rows::Rows;
@@ -20,7 +20,7 @@ impl Drop for Eviction {
     }
 }
 
-/// One allocation of a group of the job, by the places of the group in the job and of the node in the snapshot.
+/// One new allocation of the job: the place of its group in the job, and the place of its node in the snapshot.
 pub struct Placement {
     pub group: u64,
     pub node: u64,

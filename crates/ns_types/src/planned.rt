@@ -1,4 +1,4 @@
-//! A plan that goes through the server, with the snapshot of which it is.
+//! A plan, with the snapshot that it was made from.
 
 ghost use Rattle.std.specs.Prelude.{◌≡◌, IfOk};
 ghost use Rattle.ns_types.specs.Placing.Plan.{does_nothing, is_short, plan};
@@ -45,14 +45,14 @@ impl Planned {
         Planned { snapshot, made }
     }
 
-    /// What the plan was made from.
+    /// The snapshot that the plan was made from.
     pub fn snapshot(&self) -> &Shared<Snapshot>
         ensures { result.now ≡ self.now }
     {
         &self.snapshot
     }
 
-    /// Its stops by number, and its placements by the places of groups and nodes in the snapshot.
+    /// The plan: its stops by number, and its placements by the places of groups and nodes in the snapshot.
     pub fn plan(&self) -> &Plan
         ensures { result.now ≡ plan self.now }
     {
@@ -76,7 +76,7 @@ impl Planned {
         plan.stops.as_slice().is_empty() && plan.placing.placements.as_slice().is_empty()
     }
 
-    /// Whether something was missing and not placed. It takes no memory.
+    /// Whether a missing allocation was not placed. It takes no memory.
     pub fn is_short(&self) -> bool
         ensures { result ≡ is_short (plan self.now) }
     {

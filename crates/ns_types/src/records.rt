@@ -43,7 +43,7 @@ impl Clone for Namespace {
 
 pub struct Quota {
     pub description: Text,
-    /// No entry is as one without limits.
+    /// Without an entry nothing is limited.
     pub limits: Option<Limits>,
 }
 

@@ -31,7 +31,7 @@ pub enum Member {
     MemoryMb,
     Name,
     Namespace,
-    /// The parameter of that name.
+    /// The parameter `namespace`.
     NamespaceParameter,
     NodeClass,
     NodePool,
@@ -176,9 +176,9 @@ pub enum Refusal {
     NotServed,
     Memory,
     LogFull,
-    /// A worker's call out of turn.
+    /// A worker's call that is not enabled.
     NotEnabled,
-    /// A plan whose snapshot is not the kept one.
+    /// A plan of a snapshot that is not the kept one.
     Foreign,
 }
 

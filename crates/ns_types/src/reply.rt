@@ -1,4 +1,4 @@
-//! What a step answers.
+//! Replies to steps.
 
 use crate::acl::{Policy, TokenKind};
 use crate::allocation::Allocation;
@@ -83,9 +83,9 @@ pub struct TokenShown {
     pub policies: Rows<Text>,
 }
 
-/// What a step says beside the index.
+/// What a reply has beside the index.
 pub enum Content {
-    /// The number of the evaluation that was made, its index, and the job's.
+    /// The number of the evaluation that was made, its index, and the job's modify index.
     Registered(u64, u64, u64),
     /// The number of the evaluation that was made, and its index.
     Stopped(u64, u64),
@@ -105,9 +105,9 @@ pub enum Content {
     Nodes(Rows<NodeShown>),
     Policy(PolicyShown),
     Token(TokenShown),
-    /// Of that namespace.
+    /// The events of that namespace.
     Events(Text, Rows<Event>),
-    /// A write that has nothing to say.
+    /// A write whose reply has no content.
     Written,
     Took(u64),
     Snapped(u64),
@@ -153,7 +153,7 @@ impl Drop for Content {
 }
 
 pub struct Reply {
-    /// The namespace's index after the step, for what was asked in one.
+    /// The namespace's index after the step, if the request was made in a namespace.
     pub index: Option<u64>,
     pub content: Content,
 }
@@ -167,7 +167,7 @@ impl Drop for Reply {
     }
 }
 
-/// An answer as bytes.
+/// An answer as it is sent.
 #[derive(Drop)]
 pub struct Rendered {
     pub status: u16,
@@ -175,7 +175,7 @@ pub struct Rendered {
     pub body: Text,
 }
 
-/// What answers a request: the index and the body of a reply of status 200, or a refusal, which takes no memory.
+/// The response to a request: the index and the body of a reply, whose status is 200, or a refusal, which takes no memory.
 #[derive(Drop)]
 pub enum Response<A: Allocator = Global> {
     Done(Option<u64>, String<A>),

@@ -24,6 +24,7 @@ impl<T> Model for Rows<T> {
 }
 
 impl<T> Rows<T> {
+    /// No rows. It takes no memory.
     pub fn new(alloc: Global) -> Rows<T>
         ensures { result ≡ [] }
     {
@@ -53,6 +54,7 @@ impl<T> Rows<T> {
 }
 
 impl<T: Copy> Rows<T> {
+    /// Copies of the rows. Want of memory is the only error.
     pub fn from_slice(alloc: Global, items: &[T]) -> Result<Rows<T>, AllocError>
         ensures { IfOk result (λ rows. rows ≡ items.now) }
     {
@@ -62,6 +64,7 @@ impl<T: Copy> Rows<T> {
 }
 
 impl<T: Drop> Rows<T> {
+    /// Puts a row at the end. Want of memory is the only error.
     pub fn push(&mut self, row: T) -> Result<(), AllocError>
         ensures ok { OnOk result (self.new ≡ self.old ++ row ∷ []) }
         ensures err { OnErr result (self.new ≡ self.old) }

@@ -42,7 +42,7 @@ impl<T: Drop> Shared<T> {
         Ok(Shared { value })
     }
 
-    /// How many own the value at this moment. No clause can say it: others come and go.
+    /// How many owners the value has at this moment. No clause states it, because other owners come and go.
     pub fn owners(&self) -> usize {
         Arc::strong_count(&self.value)
     }

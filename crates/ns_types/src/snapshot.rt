@@ -1,4 +1,4 @@
-//! What a worker plans from: one evaluation's part of the state.
+//! A worker's snapshot: the part of the state that one evaluation is planned from.
 
 use crate::allocation::Allocation;
 use crate::evaluation::Evaluation;
@@ -10,7 +10,7 @@ use crate::rows::Rows;
 use crate::shared::Shared;
 use crate::text::Text;
 
-/// An allocation of the evaluation's own job that is live or done.
+/// An allocation of the evaluation's own job that is live, or that completed and is of a batch job.
 pub struct OwnAllocation {
     pub number: u64,
     pub row: Allocation,
@@ -25,7 +25,7 @@ impl Drop for OwnAllocation {
     }
 }
 
-/// A live allocation of any namespace, as a node holds it. Those of one namespace share its name.
+/// A live allocation of any namespace, as its node has it. Allocations of one namespace share its name.
 pub struct LiveAllocation {
     pub namespace: Shared<Text>,
     pub number: u64,

@@ -9,14 +9,14 @@ use crate::records::{Namespace, Pool, Quota};
 use crate::rows::Rows;
 use crate::text::Text;
 
-/// What is asked in one namespace.
+/// A request in one namespace.
 #[derive(Drop)]
 pub enum AskCommand {
-    /// Those whose ids begin with the text.
+    /// The jobs whose ids begin with the text.
     ListJobs(Text),
     Register(Registration),
     ReadJob(Text),
-    /// With purge the job is removed.
+    /// Stops the job, or removes it if the flag, purge, is set.
     Deregister(Text, bool),
     JobAllocations(Text),
     JobEvaluations(Text),
@@ -27,11 +27,11 @@ pub enum AskCommand {
     StopAllocation(u64),
     ReadNamespace,
     QuotaUsage(Text),
-    /// From the index on.
+    /// The events from that index on.
     Events(u64),
 }
 
-/// A token to be made, with the two texts drawn for it.
+/// A token to be made, with the accessor and the secret that were drawn for it.
 #[derive(Drop)]
 pub struct NewToken {
     pub accessor: Text,
@@ -41,7 +41,7 @@ pub struct NewToken {
     pub policies: Rows<Text>,
 }
 
-/// What administrators ask.
+/// A request of an administrator.
 #[derive(Drop)]
 pub enum AdminCommand {
     ListNamespaces,
@@ -58,11 +58,11 @@ pub enum AdminCommand {
     PutPolicy(Text, Policy),
     DeletePolicy(Text),
     CreateToken(NewToken),
-    /// By accessor.
+    /// The token with that accessor.
     DeleteToken(Text),
 }
 
-/// A client's word of an allocation.
+/// A client's report of the status of an allocation.
 #[derive(Drop)]
 pub struct Report {
     pub namespace: Text,
@@ -70,7 +70,7 @@ pub struct Report {
     pub client: ClientStatus,
 }
 
-/// What is asked of one pool and its nodes.
+/// A request about one pool and its nodes.
 #[derive(Drop)]
 pub enum NodeCommand {
     ReadPool,
@@ -82,7 +82,7 @@ pub enum NodeCommand {
     Report(Text, Report),
 }
 
-/// One event of the server. A worker's step names the worker and the namespace that it works for.
+/// One step of the server. A worker's step names the worker and the namespace of its evaluation.
 pub enum Step {
     Ask(Text, Option<Text>, GoodAsk),
     Admin(Option<Text>, GoodAdmin),

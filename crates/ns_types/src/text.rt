@@ -43,6 +43,7 @@ impl Text {
         Text { text }
     }
 
+    /// A copy of the text. Want of memory is the only error.
     pub fn from_str(alloc: Global, text: &str) -> Result<Text, AllocError>
         ensures { IfOk result (λ t. t ≡ text.now) }
     {

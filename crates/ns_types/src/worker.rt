@@ -1,4 +1,4 @@
-//! Workers that have an evaluation. An idle one has no row.
+//! Workers that have an evaluation. An idle worker has no row.
 
 ghost use Rattle.std.specs.Prelude.{◌≡◌, IfOk, None, Some, if◌then◌else◌, option_copied};
 ghost use Rattle.ns_types.specs.Working.Work.{planned_of, with_snapshot};
@@ -22,7 +22,7 @@ pub enum Phase {
 }
 
 /// A row of a namespace, by the worker's number. Contracts see the model's `Worker`. From Submit on it has the plan of its
-/// snapshot, until it looks again.
+/// snapshot, until it takes another snapshot.
 pub struct Worker {
     evaluation: u64,
     phase: Phase,
@@ -63,7 +63,7 @@ impl Model for Worker {
 impl Worker {
     ghost use Rattle.ns_types.specs.declared.worker.Phase.TheVariants as Phase;
 
-    /// It has taken the evaluation of that number, for so many tries.
+    /// The row of a worker that has dequeued the evaluation of that number and has these tries.
     pub fn took(evaluation: u64, tries: u64) -> Worker
         ensures { result ≡ record {
           evaluation = evaluation;
@@ -88,34 +88,35 @@ impl Worker {
         self.evaluation
     }
 
+    /// How far it is with its evaluation.
     pub fn phase(&self) -> Phase
         ensures { result ≡ self.now.phase }
     {
         self.phase
     }
 
-    /// How often its plan may still be tried.
+    /// How many tries remain.
     pub fn tries(&self) -> u64
         ensures { result ≡ self.now.tries }
     {
         self.tries
     }
 
-    /// The snapshot that it took last. A plan is known by it.
+    /// The snapshot that it took last. It determines the plan.
     pub fn kept(&self) -> Option<&Shared<Snapshot>>
         ensures { option_copied result ≡ self.now.kept }
     {
         self.kept.as_ref()
     }
 
-    /// The plan that it handed in, of its snapshot.
+    /// The plan of its snapshot, if it has submitted it.
     pub fn plan(&self) -> Option<&Planned>
         ensures { option_copied result ≡ planned_of self.now }
     {
         self.made.as_ref()
     }
 
-    /// The row once it has taken that snapshot.
+    /// The row after the worker has taken that snapshot.
     pub fn snapped(&self, kept: Shared<Snapshot>) -> Worker
         ensures { result ≡ with_snapshot kept self.now }
     {
@@ -128,7 +129,7 @@ impl Worker {
         }
     }
 
-    /// The row once it has handed in the plan of its snapshot.
+    /// The row after the worker has submitted the plan of its snapshot. Want of memory is the only error.
     pub fn submitted(&self, planned: Planned) -> Result<Worker, AllocError>
         requires { self.now.kept ≡ Some planned }
         ensures { IfOk result (λ w. w ≡ record self.now { phase = Phase.Submitted }) }
@@ -143,7 +144,7 @@ impl Worker {
         })
     }
 
-    /// The row once its plan was applied, with the tries that remain.
+    /// The row after its plan was applied, with the tries that remain. Want of memory is the only error.
     pub fn applied(&self, has_dropped: bool, tries: u64) -> Result<Worker, AllocError>
         requires { self.now.phase ≡ Phase.Submitted }
         ensures { IfOk result (λ w. w ≡ record self.now {

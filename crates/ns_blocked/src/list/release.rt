@@ -1,4 +1,4 @@
-//! What a release finds in the list, and takes out of it.
+//! Finds the entries that a release wakes, and takes them out of the list.
 
 ghost use Rattle.std.specs.Prelude.{◌≡◌, IfOk, List, OnErr, OnOk};
 ghost use Rattle.ns_blocked.specs.Blocked.{CanAdd, entries_of};
@@ -18,8 +18,8 @@ use std::alloc::AllocError;
 use std::collections::BTreeSet;
 
 impl BlockedList {
-    /// The keys of those that the releases wake, in their order. Want of memory is the only error. It looks at those alone
-    /// that wait for what is released, and nothing is changed.
+    /// The keys of the entries that the releases wake, in the list's order. Want of memory is the only error. It looks only at
+    /// entries that wait for what is released, and changes nothing.
     pub fn woken(&self, releases: &Releases) -> Result<Rows<EvalKey>, AllocError>
         ensures { IfOk result (λ keys. keys ≡ woken_by releases.now (entries_of self.now)) }
     {
@@ -27,9 +27,9 @@ impl BlockedList {
         self.keys_at(places)
     }
 
-    /// Takes those out that the releases wake, and answers their keys in their order. Want of memory is the only error, and
-    /// then nothing is changed. It looks at those alone that wait for what is released; room for others stays, also for
-    /// these keys (`clear_keys`).
+    /// Takes the entries that the releases wake out of the list, and returns their keys in the list's order. Want of memory is
+    /// the only error, and then nothing is changed. It looks only at entries that wait for what is released. Room for others
+    /// stays, also for these keys (`clear_keys`).
     pub fn release(&mut self, releases: &Releases) -> Result<Vec<EvalKey>, AllocError>
         ensures woken { IfOk result
             (λ keys. keys.items ≡ woken_by releases.now (entries_of self.old)) }
@@ -42,7 +42,8 @@ impl BlockedList {
         self.take_places(places)
     }
 
-    /// The same for one pool.
+    /// Takes the entries that a release of one pool wakes out of the list, and returns their keys in the list's order. Want of
+    /// memory is the only error, and then nothing is changed.
     pub fn release_pool(
         &mut self,
         pool: &Text,
@@ -59,7 +60,8 @@ impl BlockedList {
         self.take_places(places)
     }
 
-    /// The same for one quota.
+    /// Takes the entries that a release of one quota wakes out of the list, and returns their keys in the list's order. Want
+    /// of memory is the only error, and then nothing is changed.
     pub fn release_quota(&mut self, quota: &Text) -> Result<Vec<EvalKey>, AllocError>
         ensures woken { IfOk result (λ keys. keys.items
             ≡ keys_of_passing (wakes_of_quota quota.now) (entries_of self.old)) }
@@ -72,7 +74,7 @@ impl BlockedList {
         self.take_places(places)
     }
 
-    /// The places of those that the releases wake.
+    /// The places of the entries that the releases wake.
     fn find_woken(&self, releases: &Releases) -> Result<BTreeSet<u64>, AllocError>
         ensures { IfOk result (λ places.
             ArePassing (is_woken releases.now) self.now.index places.keys) }
@@ -101,7 +103,7 @@ impl BlockedList {
         Ok(places)
     }
 
-    /// The keys of the entries at these places, in their order.
+    /// The keys of the entries at these places, in the list's order.
     fn keys_at(&self, mut places: BTreeSet<u64>) -> Result<Rows<EvalKey>, AllocError>
         ensures { IfOk result (λ keys. AreKeysAt places.keys self.now keys) }
     {
@@ -114,7 +116,7 @@ impl BlockedList {
         Ok(Rows::from_vec(keys))
     }
 
-    /// Takes the entries at these places out, from the last to the first, and answers their keys in their order.
+    /// Takes the entries at these places out, from the last to the first, and returns their keys in the list's order.
     fn take_places(&mut self, mut places: BTreeSet<u64>) -> Result<Vec<EvalKey>, AllocError>
         requires { ArePresent places.keys self.old.index }
         ensures woken { IfOk result (λ keys. AreKeysAt places.keys self.old keys.items) }

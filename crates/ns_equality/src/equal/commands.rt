@@ -1,4 +1,4 @@
-//! What is asked: in a namespace, by administrators, and of a pool.
+//! Requests in a namespace, of administrators, and about a pool.
 
 use crate::equal::Equal;
 use ns_types::step::{AdminCommand, AskCommand, NodeCommand};

@@ -16,7 +16,7 @@ impl<T: Equal> Equal for Option<T> {
     }
 }
 
-/// Whether the lists are as long, and have the same value at each place.
+/// Whether the lists have the same length, and the same value at each place.
 pub(crate) fn same_list<T: Equal>(a: &[T], b: &[T]) -> bool
     ensures { IsTrue result ↔ (a.now ≡ b.now) }
 {

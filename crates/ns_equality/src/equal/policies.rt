@@ -1,4 +1,4 @@
-//! Policies and what rules are made of.
+//! Policies, and the parts of their rules.
 
 use crate::equal::Equal;
 use ns_types::acl::{Grants, Pattern, Policy, Rule, RuleKind};

@@ -1,4 +1,4 @@
-//! Snapshots and what is seen only in them.
+//! Snapshots, and the rows that only they have.
 
 use crate::equal::Equal;
 use crate::equal::lists::same_list;
@@ -20,7 +20,7 @@ impl Equal for LiveAllocation {
     }
 }
 
-/// Most are told to be the same without a comparison of the names of each.
+/// Most lists that are the same are found to be so without comparing a name for each row.
 impl Equal for LiveRows {
     fn equal(&self, other: &LiveRows) -> bool {
         self.is_like(other) || same_list(self.as_slice(), other.as_slice())
@@ -43,7 +43,7 @@ impl Equal for QuotaSeen {
     }
 }
 
-/// What tells most snapshots apart is compared first, and the nodes last.
+/// The parts in which most snapshots differ are compared first, and the nodes last.
 impl Equal for Snapshot {
     fn equal(&self, other: &Snapshot) -> bool {
         self.number.equal(&other.number)

@@ -1,4 +1,4 @@
-//! Steps of any kind, and what they answer.
+//! Steps of any kind, and their answers.
 
 ghost use Rattle.std.specs.Prelude.{◌≡◌, ◌↔◌, IsTrue};
 
@@ -7,7 +7,7 @@ use ns_types::reply::Rendered;
 use ns_types::step::Step;
 use ns_types::text::Text;
 
-/// Whether the worker and the namespace that it works for are the same.
+/// Whether both have the same worker, and the same namespace that it works for.
 fn same_worker(worker: u64, namespace: &Text, other: u64, second: &Text) -> bool
     ensures { IsTrue result ↔ ((worker ≡ other) × (namespace.now ≡ second.now)) }
 {
@@ -39,7 +39,7 @@ impl Equal for Step {
     }
 }
 
-/// The bytes of an answer: its status, its index and its body.
+/// The parts of an answer: its status, its index and its body.
 impl Equal for Rendered {
     fn equal(&self, other: &Rendered) -> bool {
         self.status == other.status

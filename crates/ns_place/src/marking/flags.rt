@@ -21,14 +21,14 @@ impl Flags {
     ghost use Rattle.ns_types.specs.State.Names.{has_number};
     ghost use Rattle.ns_place.specs.Marks.{AreFlags};
 
-    /// Of no number.
+    /// Flags of an empty list.
     pub fn new() -> Flags
         ensures { AreFlags result [] }
     {
         Flags { set: [false; 1000] }
     }
 
-    /// The number stands there too.
+    /// Flags the number, as if it were added to the end of the list.
     pub fn flag(&mut self, number: u64)
         requires { number < 1000 }
         ensures { (numbers : List ℕ) → AreFlags self.old numbers →
@@ -37,7 +37,7 @@ impl Flags {
         self.set[number as usize] = true;
     }
 
-    /// Whether the number stands there.
+    /// Whether the number stands in the list.
     pub fn has(&self, number: u64) -> bool
         requires { number < 1000 }
         ensures { (numbers : List ℕ) → AreFlags self.now numbers →

@@ -1,4 +1,4 @@
-//! A list of numbers in which one is looked up without a walk, where they rise.
+//! A list of numbers, in which a number is looked up without a walk if they rise.
 
 ghost use Rattle.std.specs.Prelude.{◌≡◌, ◌<◌, IsTrue, ℕ, length, slice_index_or, take};
 ghost use Rattle.std.specs.List.Sorted.{IsNonDecreasing};
@@ -20,7 +20,7 @@ fn rises(numbers: &[u64]) -> bool
     numbers.is_sorted()
 }
 
-/// The same of numbers that rise.
+/// Whether the number is among numbers that rise, by a binary search.
 fn is_in_rising(numbers: &[u64], number: u64) -> bool
     requires { IsNonDecreasing numbers.now }
     ensures { result ≡ has_number numbers.now number }
@@ -28,7 +28,7 @@ fn is_in_rising(numbers: &[u64], number: u64) -> bool
     numbers.binary_search(&number).is_ok()
 }
 
-/// Whether the number at the place is the one before it too.
+/// Whether the number at the place equals the number before it, in numbers that rise.
 fn is_repeated(numbers: &[u64], place: usize) -> bool
     requires rises { IsNonDecreasing numbers.now }
     requires inside { place < length numbers.now }
@@ -60,7 +60,7 @@ impl<'a> Marked<'a> {
     ghost use Rattle.std.specs.Prelude.{◌≡◌, ◌<◌, ℕ, length, slice_index_or, take};
     ghost use Rattle.ns_types.specs.State.Names.{has_number};
 
-    /// It costs a walk over the numbers.
+    /// The list of these numbers. It costs a walk over them.
     pub fn new(numbers: &'a [u64]) -> Marked<'a>
         ensures { result ≡ numbers.now }
     {

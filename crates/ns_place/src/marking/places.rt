@@ -1,4 +1,4 @@
-//! Places below 1,000, as those of a pool's nodes, in which one is looked up at once.
+//! A list of places, as those of a pool's nodes, in which a place below 1,000 is looked up at once.
 
 ghost use Rattle.std.specs.Prelude.{◌≡◌};
 ghost use Rattle.ns_types.specs.State.Names.{has_number};
@@ -7,7 +7,7 @@ ghost use Rattle.ns_place.specs.Marks.{AreFlags};
 use crate::marking::flags::Flags;
 use std::marker::Model;
 
-/// Flags of those among the places that are below 1,000.
+/// The flags of the places that are below 1,000.
 fn flags_of(places: &[u16]) -> Flags
     ensures { AreFlags result places.now }
 {
@@ -49,7 +49,7 @@ impl<'a> Places<'a> {
     ghost use Rattle.std.specs.Prelude.{◌≡◌};
     ghost use Rattle.ns_types.specs.State.Names.{has_number};
 
-    /// It costs a walk over the places.
+    /// The list of these places. It costs a walk over them.
     pub fn new(places: &'a [u16]) -> Places<'a>
         ensures { result ≡ places.now }
     {
@@ -65,7 +65,7 @@ impl<'a> Places<'a> {
         self.places
     }
 
-    /// Whether the number is among them. One from 1,000 on costs a walk.
+    /// Whether the number is among the places. A number of 1,000 or more costs a walk.
     pub fn has(&self, number: u64) -> bool
         ensures { result ≡ has_number self.now number }
     {

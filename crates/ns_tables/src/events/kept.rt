@@ -37,7 +37,7 @@ impl Model for Events {
     ghost invariant = { λ e. e.ring.capacity ≡ 100 };
 }
 
-/// The event is the newest. Where the ring is full, the oldest one goes.
+/// Puts the event at the end. If the ring is full, the oldest event goes.
 fn push(ring: &mut HeapCircularBuffer<Event>, event: Event)
     ensures { let capacity = ring.old.capacity in
         ring.new ≡ buffer (keep_last capacity (ring.old.items ++ event ∷ [])) capacity }
@@ -45,7 +45,7 @@ fn push(ring: &mut HeapCircularBuffer<Event>, event: Event)
     ring.push_back(event);
 }
 
-/// Puts the events at the end. The last ones stay that there is room for.
+/// Puts the events at the end. As many of the last ones stay as there is room for.
 fn push_all(ring: &mut HeapCircularBuffer<Event>, events: Rows<Event>)
     ensures items { ring.new.items ≡ last ring.old.capacity (ring.old.items ++ events) }
     ensures capacity { ring.new.capacity ≡ ring.old.capacity }
@@ -57,7 +57,7 @@ fn push_all(ring: &mut HeapCircularBuffer<Event>, events: Rows<Event>)
 }
 
 impl Events {
-    /// No events, with room for a hundred.
+    /// No events, with room for a hundred. Want of memory is the only error.
     pub fn new(alloc: Global) -> Result<Events, AllocError>
         ensures { IfOk result (λ events. events ≡ []) }
     {
@@ -65,14 +65,14 @@ impl Events {
         Ok(Events { ring })
     }
 
-    /// Those events are the newest. The last hundred stay. It takes no memory.
+    /// Puts the events at the end. The last hundred stay. It takes no memory.
     pub fn append(&mut self, events: Rows<Event>)
         ensures { self.new ≡ last 100 (self.old ++ events) }
     {
         push_all(&mut self.ring, events);
     }
 
-    /// Those whose index is at least that one, the newest last. Want of memory is the only error.
+    /// The events whose index is at least that one, the newest last. Want of memory is the only error.
     pub fn from_index(&self, alloc: Global, index: u64) -> Result<Rows<Event>, AllocError>
         ensures { IfOk result (λ kept.
             kept ≡ filter (λ event. nat_le index event.index) self.now) }

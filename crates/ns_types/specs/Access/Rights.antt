@@ -1,4 +1,4 @@
--- Who may do what: the rules of a secret's policies, merged by pattern.
+-- Which rights a secret has: the rules of its token's policies, merged by pattern.
 -- Nomad's page on the ACL policy specification.
 use Rattle.std.specs.Prelude.{ℕ, max, Bool, true, false, not, ◌&&◌, ◌||◌, if◌then◌else◌, List, [], ◌∷◌, Option, Some}
 use Rattle.std.specs.Prelude.{None, filter, flat_map, fold, length, codes}
@@ -14,30 +14,30 @@ use Rattle.ns_types.specs.State.Lists.{is_empty}
 use Rattle.ns_types.specs.State.Names.{Name, same_name, same_number, begins_with}
 use Rattle.ns_types.specs.State.Rows.{Acl}
 
--- ---- whom a secret stands for
+-- ---- the bearer of a secret
 
 pub data Bearer : Type 0 where
   Unknown Manager : Bearer
-  -- of the policies with these names
+  -- has what the policies with these names grant
   Holder : List Name → Bearer
 
 abbrev pub bearer_with : TokenKind → List Name → Bearer
 bearer_with TokenKind.Client policies = Holder policies
 bearer_with TokenKind.Management policies = Manager
 
--- without a secret it is the policy `anonymous`
+-- a request without a secret has the policy `anonymous`; a secret that no token has is unknown
 abbrev pub bearer : Acl → Option Name → Bearer
 bearer acl None = Holder (codes "anonymous" ∷ [])
 bearer acl (Some secret) =
     option_map_or (λ token. bearer_with token.kind token.policies) (get acl.tokens secret) Unknown
 
--- ---- what rules give
+-- ---- what rules grant
 
 abbrev pub is_of_kind : RuleKind → Rule → Bool
 is_of_kind RuleKind.Namespace rule = elim rule.kind [ RuleKind.Namespace ↦ true | RuleKind.Pool ↦ false ]
 is_of_kind RuleKind.Pool rule = elim rule.kind [ RuleKind.Namespace ↦ false | RuleKind.Pool ↦ true ]
 
--- the rules of the policies that exist
+-- the rules of that kind in the named policies; a policy that does not exist has none
 abbrev pub rules_of : Acl → RuleKind → List Name → List Rule
 rules_of acl kind policies = filter (is_of_kind kind)
     (flat_map (λ name. option_map_or (λ policy. policy.rules) (get acl.policies name) []) policies)
@@ -51,13 +51,13 @@ is_match target rule = rule.pattern.is_prefix && begins_with rule.pattern.text t
 abbrev pub longest : List Rule → ℕ
 longest rules = fold (λ most rule. max most (length rule.pattern.text)) 0 rules
 
--- the rules of the longest pattern with a star that matches: of one length at most one pattern does
+-- the rules of the longest pattern with a star that matches; matching patterns of one length are the same pattern
 abbrev pub longest_match : Name → List Rule → List Rule
 longest_match target rules =
     let matching = filter (is_match target) rules in
     filter (λ rule. same_number (length rule.pattern.text) (longest matching)) matching
 
--- the rules that count: of the exact name, else of the longest match
+-- the rules that count: those of the exact name, if there are any, else those of the longest match
 abbrev pub counting : Name → List Rule → List Rule
 counting target rules =
     let exact = filter (is_exact target) rules in
@@ -88,7 +88,7 @@ both a b = record {
 abbrev pub merged : List Rule → Grants
 merged rules = fold (λ grants rule. both grants rule.grants) no_grants rules
 
--- what denies gives nothing
+-- with `deny` nothing is granted
 abbrev pub unless_denied : Grants → Grants
 unless_denied grants = if grants.deny then no_grants else grants
 
@@ -111,7 +111,7 @@ no_rights = record { list_jobs = false; read_job = false; submit_job = false; al
 abbrev pub all_rights : Rights
 all_rights = record { list_jobs = true; read_job = true; submit_job = true; alloc_lifecycle = true }
 
--- in a namespace
+-- the rights that a bearer has in a namespace
 abbrev pub rights_for : Acl → Name → Bearer → Rights
 rights_for acl ns Unknown = no_rights
 rights_for acl ns Manager = all_rights
@@ -123,7 +123,7 @@ rights_of acl secret ns = rights_for acl ns (bearer acl secret)
 abbrev pub has_any : Rights → Bool
 has_any r = r.list_jobs || r.read_job || r.submit_job || r.alloc_lifecycle
 
--- in a pool
+-- the rights that a bearer has in a pool
 abbrev pub pool_rights_for : Acl → Name → Bearer → PoolRights
 pool_rights_for acl pool Unknown = record { read = false; write = false }
 pool_rights_for acl pool Manager = record { read = true; write = true }
@@ -134,6 +134,7 @@ pool_rights_for acl pool (Holder policies) =
 unfoldable pub pool_rights_of : Acl → Option Name → Name → PoolRights
 pool_rights_of acl secret pool = pool_rights_for acl pool (bearer acl secret)
 
+-- the secret is that of a management token
 abbrev pub is_manager : Acl → Option Name → Bool
 is_manager acl secret = by (bearer acl secret)
   where
@@ -142,7 +143,7 @@ is_manager acl secret = by (bearer acl secret)
     by Manager = true
     by (Holder policies) = false
 
--- the secret is absent, or a token's
+-- there is no secret, or a token has it
 abbrev pub is_known : Acl → Option Name → Bool
 is_known acl secret = by (bearer acl secret)
   where

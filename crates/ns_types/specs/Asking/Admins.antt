@@ -1,4 +1,4 @@
--- What administrators ask of namespaces, quotas and pools.
+-- The requests of administrators about namespaces, quotas and pools.
 -- Nomad's pages on the namespaces, quotas and node pools HTTP API.
 use Rattle.std.specs.Prelude.{ℕ, Bool, true, false, not, ◌&&◌, ◌||◌, [], Option, Some, None, filter, map, nat_le}
 use Rattle.std.specs.Option.{option_map_or, option_eq}
@@ -22,11 +22,11 @@ use Rattle.ns_types.specs.State.Tables.{any_row}
 abbrev pub most_rows : ℕ
 most_rows = 10000
 
--- a table has no room for a new row
+-- the name is new, and the table has as many rows as it may have
 abbrev pub is_full : {X : Type 0} → ByName X → Name → Bool
 is_full table name = not (contains_key table name) && nat_le most_rows (len table)
 
--- ---- what a namespace has
+-- ---- what a namespace uses
 
 abbrev pub has_open : Tenant → Bool
 has_open t = any_row (λ _ e. is_open e.status) t.evaluations
@@ -34,13 +34,13 @@ has_open t = any_row (λ _ e. is_open e.status) t.evaluations
 abbrev pub has_live : Tenant → Bool
 has_live t = any_row (λ _ a. is_live a) t.allocations
 
--- a job, an open evaluation or a kept snapshot of the namespace names a pool that passes
+-- a job, an open evaluation or a worker's snapshot of the namespace names a pool that passes
 abbrev pub looks_to_pool : (Name → Bool) → Tenant → Bool
 looks_to_pool passes t = any_row (λ _ job. passes job.document.pool) t.jobs
     || any_row (λ _ e. is_open e.status && passes e.pool) t.evaluations
     || any_row (λ _ worker. option_map_or (λ kept. passes kept.pool) worker.kept false) t.workers
 
--- or a live allocation does
+-- a job, an open evaluation, a worker's snapshot or a live allocation of the namespace names a pool that passes
 abbrev pub uses_pool : (Name → Bool) → Tenant → Bool
 uses_pool passes t = looks_to_pool passes t || any_row (λ _ a. is_live a && passes a.pool) t.allocations
 
@@ -63,14 +63,14 @@ abbrev pub with_namespace : Namespace → Option Tenant → Tenant
 with_namespace namespace None = new_tenant namespace
 with_namespace namespace (Some t) = record t { namespace = namespace }
 
--- permitted until now, and not any more
+-- the namespace may use the pool with its old record, and not with the new one
 abbrev pub is_withdrawn : Namespace → Namespace → Name → Bool
 is_withdrawn old namespace pool = permits old pool && not (permits namespace pool)
 
 abbrev pub same_quota : Namespace → Namespace → Bool
 same_quota a b = option_eq same_name a.quota b.quota
 
--- what the namespace has forbids the put
+-- the put takes away a pool that the namespace uses, or changes its quota while it has open evaluations or live allocations
 abbrev pub forbids_put : Namespace → Tenant → Bool
 forbids_put namespace t = uses_pool (is_withdrawn t.namespace namespace) t
     || not (same_quota t.namespace namespace) && (has_open t || has_live t)
@@ -94,7 +94,7 @@ put_namespace name namespace w =
     unless (is_full w.tenants name) Refusal.Full (
     Done Content.Written (put_tenant name (with_namespace namespace (get w.tenants name)) w))))))
 
--- its counters, rows and events go with it
+-- a namespace is deleted only without jobs, open evaluations and live allocations; its counters, rows and events go with it
 unfoldable pub delete_namespace : Name → World → Outcome World
 delete_namespace name w = in_tenant w name (λ t.
     unless (same_name name default_name) Refusal.InUse (
@@ -107,7 +107,7 @@ abbrev pub with_quota : Quota → Option QuotaRows → QuotaRows
 with_quota quota old = record { quota = quota; release = option_map_or (λ q. q.release) old 0 }
 
 -- Neither the headline nor the wire rests on this: the code that puts a quota is specified by it.
--- the put changes the limits of a quota that is there
+-- the quota exists, and the put changes its limits
 abbrev pub is_relimited : Name → Quota → World → Bool
 is_relimited name quota w = option_map_or (λ old. changes_limits old (with_quota quota (Some old)))
     (get w.quotas name) false
@@ -143,7 +143,7 @@ abbrev pub names_pool : Name → Namespace → Bool
 names_pool pool namespace = same_name pool namespace.default_pool
     || option_map_or (λ allowed. has_name allowed pool) namespace.allowed false
 
--- a job, an open evaluation or a kept snapshot of any namespace names it, or a namespace does
+-- a namespace names the pool as its default or as allowed, or a job, an open evaluation or a worker's snapshot of it does
 abbrev pub is_pool_in_use : Name → World → Bool
 is_pool_in_use name w = any_row (λ _ t. names_pool name t.namespace || looks_to_pool (same_name name) t) w.tenants
 
@@ -153,7 +153,7 @@ delete_pool name w = in_pool w name (λ pool.
     unless (any_row (λ _ node. true) pool.nodes || is_pool_in_use name w) Refusal.InUse (
     Done Content.Written (record w { pools = remove w.pools name }))))
 
--- ---- lists of those that a secret may see
+-- ---- lists of the namespaces and pools that a secret may see
 
 abbrev pub list_namespaces : (Name → Bool) → World → Content
 list_namespaces shows w = Content.Namespaces

@@ -1,4 +1,4 @@
--- What is asked in one namespace.
+-- The requests in one namespace.
 -- Nomad's page on the jobs HTTP API.
 use Rattle.std.specs.Prelude.{ℕ, ◌+◌, Bool, true, false, not, ◌&&◌, if◌then◌else◌, Option, Some, None, nat_eq, nat_le}
 use Rattle.std.specs.Prelude.{unwrap_or}
@@ -27,7 +27,7 @@ use Rattle.ns_types.specs.Access.Sharing.{permits}
 
 -- ---- registration
 
--- the job's pool, or the namespace's default
+-- the pool that the registration names, or the namespace's default
 abbrev pub pool_of : Tenant → Registration → Name
 pool_of t r = unwrap_or r.pool t.namespace.default_pool
 
@@ -40,12 +40,12 @@ document_of t r = record {
   groups = r.groups;
 }
 
--- the stored job has the demanded index; zero demands that there is none, stopped or not
+-- the job has the `JobModifyIndex` that the registration demands; 0 demands that there is no such job, not even a stopped one
 abbrev pub meets : Option Job → ℕ → Bool
 meets None index = nat_eq index 0
 meets (Some job) index = same_number job.modify_index index && not (nat_eq index 0)
 
--- the job as a registration leaves it. One that says the same of an unstopped job changes nothing
+-- the job after a registration; a registration that equals a job that is not stopped leaves it as it is
 abbrev pub registered_job : ℕ → Document → Option Job → Job
 registered_job index document None =
     record { document = document; stop = false; version = 0; create_index = index; modify_index = index }
@@ -59,18 +59,18 @@ registered_job index document (Some job) =
       modify_index = index;
     }
 
--- the demanded index is not the job's
+-- the registration demands an index, and the job does not meet it
 abbrev pub is_outdated : Registration → Tenant → Bool
 is_outdated r t = option_map_or (λ index. not (meets (get t.jobs r.id) index)) r.enforced false
 
 abbrev pub most_jobs : ℕ
 most_jobs = 1000
 
--- the job is new, and the namespace has as many as it may
+-- the job is new, and the namespace has as many jobs as it may have
 abbrev pub has_no_room : Registration → Tenant → Bool
 has_no_room r t = not (contains_key t.jobs r.id) && nat_le most_jobs (len t.jobs)
 
--- what refuses a registration first, if anything does. That a counter would pass its bound comes after all of it
+-- the first refusal of a registration, if there is one. The refusal of a counter that would pass its bound comes after these
 abbrev pub first_refusal : World → Tenant → Registration → Option Refusal
 first_refusal w t r =
     if not (permits t.namespace (pool_of t r)) then Some Refusal.PoolNotPermitted
@@ -79,7 +79,7 @@ first_refusal w t r =
     else if has_no_room r t then Some Refusal.Full
     else None
 
--- the evaluation is the namespace's next, and so is the index
+-- the reply has the namespace's next evaluation number, its next index, and the job's modify index
 abbrev pub registered_with : Name → Registration → World → Tenant → Job → Outcome World
 registered_with ns r w t job =
     Done (Content.Registered (t.evaluation_number + 1) (t.index + 1) job.modify_index)
@@ -94,11 +94,12 @@ register ns r w t = refused_by (first_refusal w t r)
 abbrev pub stopped_job : ℕ → Job → Job
 stopped_job index job = if job.stop then job else record job { stop = true; modify_index = index }
 
--- the job is stopped, or with purge removed; then the index told is the step's
+-- the job is stopped, or with purge removed
 abbrev pub deregistered : Bool → Name → Job → Tenant → Tenant
 deregistered true id job t = record t { jobs = remove t.jobs id }
 deregistered false id job t = with_job id (stopped_job (t.index + 1) job) t
 
+-- the modify index in the reply: that of the stopped job or, with purge, the step's index
 abbrev pub index_told : Bool → ℕ → Job → ℕ
 index_told true index job = index
 index_told false index job = (stopped_job index job).modify_index
@@ -119,7 +120,7 @@ stop_allocation ns n w t = found (get t.allocations n) (λ a.
     Done (Content.Stopped (t.evaluation_number + 1) (t.index + 1))
     (make_in ns (evaluation_for t a Trigger.AllocStop) w (with_desired n DesiredStatus.Stop t))))
 
--- ---- all that is asked
+-- ---- all requests
 
 abbrev pub asked_in : Name → AskCommand → World → Tenant → Outcome World
 asked_in ns (AskCommand.ListJobs prefix) w t = Done (list_jobs ns prefix t) w
@@ -140,7 +141,7 @@ asked_in ns (AskCommand.Events index) w t = Done (events_from ns index t) w
 unfoldable pub ask : Name → AskCommand → World → Outcome World
 ask ns command w = in_tenant w ns (asked_in ns command w)
 
--- the right that each needs
+-- the right that each request needs
 abbrev pub right_of : AskCommand → Rights → Bool
 right_of (AskCommand.ListJobs prefix) rights = rights.list_jobs
 right_of (AskCommand.Register r) rights = rights.submit_job

@@ -1,4 +1,4 @@
--- Commands whose names, members and lists are within the limits, as each is that a request asks for.
+-- Commands whose names, members and lists are within the limits, as every command of a request is.
 use Rattle.std.specs.Prelude.{Bool, true, ◌&&◌, IsTrue}
 use Rattle.ns_types.specs.declared.name.NameKind.TheVariants as NameKind
 use Rattle.ns_types.specs.declared.step.AdminCommand.{AdminCommand}
@@ -9,7 +9,7 @@ use Rattle.ns_types.specs.State.Limits.{is_text, is_pool_name, is_good_registrat
 use Rattle.ns_types.specs.State.Limits.{is_good_quota, is_good_policy, is_good_token, IsInOrder}
 use Rattle.ns_types.specs.State.Name.{is_name}
 
--- only what a step writes is bounded: what it looks for need not be there
+-- only what a step writes has limits: a name that it looks up may be any text
 abbrev pub is_good_ask : AskCommand → Bool
 is_good_ask (AskCommand.Register r) = is_good_registration r
 is_good_ask _ = true

@@ -1,4 +1,4 @@
--- What is asked of one pool and its nodes.
+-- The requests about one pool and its nodes.
 -- Nomad's page on the nodes HTTP API.
 use Rattle.std.specs.Prelude.{ℕ, Bool, true, false, not, ◌&&◌, if◌then◌else◌, List, Option, Some, None, filter, map}
 use Rattle.std.specs.Prelude.{flat_map, fold, nat_le}
@@ -39,7 +39,7 @@ list_nodes name w pool = Content.Nodes
 abbrev pub most_nodes : ℕ
 most_nodes = 1000
 
--- a new node is ready and eligible
+-- a new node is ready and eligible; a node that exists keeps its status and eligibility
 abbrev pub with_offer : Offer → Option Node → Node
 with_offer offer None = record { offer = offer; status = NodeStatus.Ready; eligible = true; places = 0 }
 with_offer offer (Some node) = record node { offer = offer }
@@ -50,7 +50,7 @@ put_node pool name offer w p =
     unless (not (contains_key p.nodes name) && nat_le most_nodes (len p.nodes)) Refusal.Full (
     Done Content.Written (put_pool pool (with_node name (with_offer offer (get p.nodes name)) p) w)))
 
--- only while it is down
+-- a node can be deleted only while it is down
 abbrev pub delete_node : Name → Name → World → PoolRows → Outcome World
 delete_node pool name w p = found (get p.nodes name) (λ node.
     unless (is_ready node.status) Refusal.InUse (
@@ -58,16 +58,16 @@ delete_node pool name w p = found (get p.nodes name) (λ node.
 
 -- ---- status and eligibility
 
--- of each job that has live allocations on the node the one with the least number, by job id
+-- for each job with live allocations on the node, the one of them with the least number, by job id
 abbrev pub losing_jobs : Name → Name → Tenant → List Allocation
 losing_jobs pool node t = values (from_entries {R = name_cmp}
     (map (λ a. (a.1.job, a.1)) (filter (λ a. is_live_on pool node a.1) (entries t.allocations))))
 
--- by namespace, then job id
+-- for each job of any namespace with live allocations on the node, one of them, by namespace and then by job id
 abbrev pub losses : Name → Name → World → List (Name × Allocation)
 losses pool node w = flat_map (λ t. map (λ a. (t.0, a)) (losing_jobs pool node t.1)) (entries w.tenants)
 
--- the live allocations on the node are lost
+-- an allocation that is live on the node becomes `lost`
 abbrev pub lost : Name → Name → Allocation → Allocation
 lost pool node a = if is_live_on pool node a then record a { client = ClientStatus.Lost } else a
 
@@ -76,7 +76,7 @@ lose pool node w = record w {
   tenants = map_rows (λ _ t. record t { allocations = map_rows (λ _ a. lost pool node a) t.allocations }) w.tenants;
 }
 
--- and each job that had one gets an evaluation
+-- the live allocations on the node are lost, and each job that had one there gets an evaluation
 unfoldable pub go_down : Name → Name → World → World
 go_down pool node w = fold (λ x loss. make loss.0 (λ t. evaluation_for t loss.1 Trigger.NodeUpdate) x)
     (lose pool node w) (losses pool node w)
@@ -92,7 +92,7 @@ set_eligible pool name eligible w p = found (get p.nodes name) (λ node.
 
 -- ---- reports
 
--- `pending` may become `running`, `complete` or `failed`, and `running` the last two
+-- `pending` may become `running`, `complete` or `failed`, and `running` may become `complete` or `failed`
 abbrev pub may_become : ClientStatus → ClientStatus → Bool
 may_become ClientStatus.Pending ClientStatus.Running = true
 may_become ClientStatus.Pending ClientStatus.Complete = true
@@ -104,17 +104,17 @@ may_become _ _ = false
 abbrev pub same_client : ClientStatus → ClientStatus → Bool
 same_client a b = same_name (client_text a) (client_text b)
 
--- a job that is gone counts as a service
+-- the allocation is of a batch job; a job that is gone counts as a service job
 abbrev pub is_of_batch : Tenant → Allocation → Bool
 is_of_batch t a = option_map_or (λ job. is_batch job.document.kind) (get t.jobs a.job) false
 
--- whether an end asks for an evaluation
+-- a report makes an evaluation if the allocation was to run, and it failed, or completed and is not of a batch job
 abbrev pub calls_for_one : Tenant → Allocation → ClientStatus → Bool
 calls_for_one t a ClientStatus.Failed = is_run a.desired
 calls_for_one t a ClientStatus.Complete = is_run a.desired && not (is_of_batch t a)
 calls_for_one t a _ = false
 
--- with the client's new status, and an evaluation where it calls for one
+-- the allocation gets the reported status, and its job an evaluation if the status calls for one
 abbrev pub reported : Report → Allocation → World → World
 reported r a w =
     let w' = change_tenant r.namespace (with_client r.number r.client) w in
@@ -133,7 +133,7 @@ abbrev pub report : Name → Name → Report → World → PoolRows → Outcome 
 report pool name r w p = found (get p.nodes name) (λ node. found (allocation_at w (r.namespace, r.number)) (λ a.
     unless (not (is_on pool name a)) Refusal.NotFound (report_of r w a)))
 
--- ---- all that is asked of a pool
+-- ---- all requests about a pool
 
 abbrev pub asked_in_pool : Name → NodeCommand → World → PoolRows → Outcome World
 asked_in_pool pool NodeCommand.ReadPool w p = Done (read_pool pool p) w
@@ -147,7 +147,7 @@ asked_in_pool pool (NodeCommand.Report name r) w p = report pool name r w p
 unfoldable pub ask_pool : Name → NodeCommand → World → Outcome World
 ask_pool pool command w = in_pool w pool (asked_in_pool pool command w)
 
--- the right that each needs
+-- the right that each request needs
 abbrev pub pool_right_of : NodeCommand → PoolRights → Bool
 pool_right_of NodeCommand.ReadPool rights = rights.read
 pool_right_of NodeCommand.ListNodes rights = rights.read

@@ -1,4 +1,4 @@
--- What administrators ask of policies and tokens, and all that they ask.
+-- The requests of administrators about policies and tokens, and all requests of administrators.
 -- Nomad's pages on the ACL policies and ACL tokens HTTP API.
 use Rattle.std.specs.Prelude.{Bool, ◌||◌, Option, find, option_map, codes, nat_le}
 use Rattle.std.specs.FinMap.{get, insert, remove, contains_key, entries, len}
@@ -35,7 +35,7 @@ delete_policy name acl = found (get acl.policies name)
 
 -- ---- tokens
 
--- number 0
+-- the accessor of the bootstrap token
 abbrev pub bootstrap_accessor : Name
 bootstrap_accessor = codes "00000000-0000-0000-0000-000000000000"
 
@@ -45,7 +45,7 @@ has_accessor acl accessor = any_row (λ _ token. same_name accessor token.access
 abbrev pub token_of : NewToken → Token
 token_of new = record { accessor = new.accessor; name = new.name; kind = new.kind; policies = new.policies }
 
--- all of a new token, with its secret
+-- a new token as the reply shows it, with its secret
 abbrev pub made_token : NewToken → TokenShown
 made_token new = record {
   accessor = new.accessor;
@@ -55,7 +55,7 @@ made_token new = record {
   policies = new.policies;
 }
 
--- a drawn text that is taken is a conflict
+-- if a token has the drawn secret or the drawn accessor already, that is a conflict
 abbrev pub create_token : NewToken → Acl → Outcome Acl
 create_token new acl =
     unless (contains_key acl.tokens new.secret || has_accessor acl new.accessor) Refusal.Conflict (
@@ -70,7 +70,7 @@ delete_token accessor acl = found (secret_of acl accessor) (λ secret.
     unless (same_name accessor bootstrap_accessor) Refusal.InUse (
     Done Content.Written (record acl { tokens = remove acl.tokens secret })))
 
--- ---- all that administrators ask
+-- ---- all requests of administrators
 
 abbrev pub with_world : Acl → World → State
 with_world acl w = record { acl = acl; world = w }
@@ -103,7 +103,7 @@ administer secret (AdminCommand.DeletePolicy name) s = in_acl s (delete_policy n
 administer secret (AdminCommand.CreateToken new) s = in_acl s (create_token new)
 administer secret (AdminCommand.DeleteToken accessor) s = in_acl s (delete_token accessor)
 
--- lists of what a secret may see are for each that is known; all else is for managers
+-- a request without a secret, or with that of any token, may list namespaces and pools; all else needs a management token
 abbrev pub may_administer : Acl → Option Name → AdminCommand → Bool
 may_administer acl secret AdminCommand.ListNamespaces = is_known acl secret
 may_administer acl secret AdminCommand.ListPools = is_known acl secret

@@ -1,4 +1,4 @@
--- What is read in one namespace.
+-- The requests that read in one namespace.
 -- Nomad's pages on the jobs, evaluations and allocations HTTP API.
 use Rattle.std.specs.Prelude.{ℕ, Bool, ◌&&◌, if◌then◌else◌, filter, map, nat_le}
 use Rattle.std.specs.FinMap.{get, entries}
@@ -19,7 +19,7 @@ use Rattle.ns_types.specs.State.Tables.{any_row}
 
 -- ---- jobs
 
--- dead if it is stopped, running if it has a live allocation
+-- a job is dead if it is stopped, else running if it has a live allocation, else pending
 abbrev pub job_status : Tenant → Name → Job → JobStatus
 job_status t id job =
     if job.stop then JobStatus.Dead
@@ -73,7 +73,7 @@ read_allocation ns n w t = found (get t.allocations n)
 abbrev pub read_namespace : Name → Tenant → Content
 read_namespace ns t = Content.Namespace (record { name = ns; row = t.namespace })
 
--- only of the quota that the namespace names
+-- the quota's use, if the namespace names the quota
 abbrev pub quota_usage : Name → World → Tenant → Outcome World
 quota_usage quota w t =
     if names_quota quota t.namespace then Done (Content.Usage quota (quota_use w quota)) w

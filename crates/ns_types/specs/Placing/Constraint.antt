@@ -1,4 +1,4 @@
--- Which nodes a job's constraints admit, and what they tell of classes.
+-- Which nodes meet a job's constraints, and which node classes the constraints rule out.
 -- Nomad's page on the constraint block of a job specification.
 use Rattle.std.specs.Prelude.{Bool, true, false, not, ◌&&◌, List, Option, Some, None, find, option_map}
 use Rattle.std.specs.List.{list_all, list_any}
@@ -26,7 +26,7 @@ compares Operand.Equal None text = false
 compares Operand.NotEqual (Some value) text = not (bytes_eq value text)
 compares Operand.NotEqual None text = true
 
--- at the node of that name
+-- the constraint holds on this node, which has that name
 abbrev pub holds : Name → Node → Constraint → Bool
 holds name n c = compares c.operand (target_value c.target name n) c.value
 
@@ -34,7 +34,7 @@ holds name n c = compares c.operand (target_value c.target name n) c.value
 abbrev pub is_feasible : List Constraint → Name → Node → Bool
 is_feasible constraints name n = is_free n && list_all (holds name n) constraints
 
--- it looks at what is not part of a class
+-- the target is not part of a node's class, so a constraint on it escapes classes
 abbrev pub target_escapes : Target → Bool
 target_escapes Target.NodeClass = false
 target_escapes Target.NodeName = true

@@ -9,18 +9,19 @@ use Rattle.ns_types.specs.declared.resources.Resources.{Resources}
 use Rattle.ns_types.specs.Placing.Choice.{best}
 use Rattle.ns_types.specs.State.Resources.{by_each, is_within, quantity}
 
--- a node as a plan sees it: whether the job may use it, what is left of it, and whom the job may evict there,
--- the first to go first
+-- a node as a plan sees it: whether it is feasible for the job, what is left of it, and the allocations that the job may evict
+-- there, in the order in which they are evicted
 pub record Candidate : Type 0 where
   pub name : List ℕ
   pub feasible : Bool
   pub left : Resources
   pub evictable : List LiveAllocation
 
+-- the node is feasible, and has room for the size
 abbrev pub fits : Resources → Candidate → Bool
 fits size c = c.feasible && is_within size c.left
 
--- least CPU left afterwards, then least memory, then least disk, then least name
+-- nodes are compared by the CPU left afterwards, then the memory left, then the disk left, then the name; the least is best
 abbrev pub compare_left : Resources → Candidate → Candidate → Ordering
 compare_left size =
     then_cmp (by_each (λ r c. quantity r c.left - quantity r size)) (on (λ c. c.name) (slice_cmp nat_cmp))
@@ -28,6 +29,6 @@ compare_left size =
 abbrev pub better : Resources → Candidate → Candidate → Bool
 better size a b = is_lt (compare_left size a b)
 
--- the place of the node that fits and that none that fits betters
+-- the place of the best of the nodes that fit
 abbrev pub best_fit : Resources → List Candidate → Option ℕ
 best_fit size = best (fits size) (better size)

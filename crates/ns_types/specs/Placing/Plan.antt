@@ -1,4 +1,4 @@
--- The plan of a snapshot: the stops, and then the missing allocations placed in what the stops leave.
+-- The plan of a snapshot: the stops, and then the missing allocations, placed in the room that the stops leave.
 -- Nomad's page "Scheduling in Nomad".
 use Rattle.std.specs.Prelude.{ℕ, ◌==◌, Bool, not, ◌&&◌, ◌||◌, List, [], Option, Some, None, filter, map}
 use Rattle.std.specs.List.{list_any}
@@ -28,7 +28,7 @@ use Rattle.ns_types.specs.Placing.Wanted.{stopping, demands}
 abbrev pub is_among : List OwnAllocation → ℕ → Bool
 is_among stops number = list_any (λ s. s.number == number) stops
 
--- not of this namespace, or none of the stops
+-- the allocation is of another namespace, or is none of the stops
 abbrev pub stays : List ℕ → List OwnAllocation → LiveAllocation → Bool
 stays namespace stops a = not (bytes_eq a.namespace namespace && is_among stops a.number)
 
@@ -44,14 +44,14 @@ candidate_of j namespace stops p = record {
   evictable = staying namespace stops (evictable j.document.priority p.live);
 }
 
--- a namespace without a quota is as one whose quota limits nothing
+-- a namespace without a quota is planned for as if its quota limited nothing
 abbrev pub no_quota : QuotaSeen
 no_quota = record { name = []; limits = unlimited; used = none; release = 0; namespaces = [] }
 
 abbrev pub quota_of : Snapshot → QuotaSeen
 quota_of s = unwrap_or s.quota no_quota
 
--- the snapshot without the stops, as the job sees it
+-- where placing begins: the snapshot's nodes and quota use, without the stops
 abbrev pub opening : Snapshot → Job → List OwnAllocation → Site
 opening s j stops = record {
   candidates = map (candidate_of j s.namespace stops) s.nodes;
@@ -66,11 +66,11 @@ unfoldable pub plan : Snapshot → Plan
 plan s = let stops = stopping s.job s.own in
     record { stops = map (λ a. a.number) stops; placing = placing_of s s.job stops }
 
--- it neither stops nor places
+-- the plan neither stops nor places anything
 abbrev pub does_nothing : Plan → Bool
 does_nothing p = is_empty p.stops && is_empty p.placing.placements
 
--- something was missing and not placed
+-- a missing allocation was not placed
 abbrev pub is_short : Plan → Bool
 is_short p = p.placing.quota_limited || p.placing.class_limited
 

@@ -16,16 +16,17 @@ use Rattle.ns_types.specs.Placing.Placement.{Candidate, best_fit}
 use Rattle.ns_types.specs.Placing.Preemption.{victims, best_victims}
 use Rattle.ns_types.specs.State.Resources.{plus, minus, total, limits_allow}
 
--- what changes while a plan is made
+-- what changes while a plan is made: the nodes, and the quota's use
 pub record Site : Type 0 where
   pub candidates : List Candidate
   pub used : Resources
 
--- a node, and who gives way there
+-- the node of a placement, and the allocations that it evicts there
 pub record Choice : Type 0 where
   pub node : ℕ
   pub victims : List LiveAllocation
 
+-- the node whose victims are cheapest, with these victims
 abbrev pub preempt : Resources → List Candidate → Option Choice
 preempt size cs =
     option_and_then (λ k. option_map (λ v. record { node = k; victims = v })
@@ -35,10 +36,11 @@ preempt size cs =
 abbrev pub choice : Resources → List Candidate → Option Choice
 choice size cs = option_map_or (λ k. Some (record { node = k; victims = [] })) (best_fit size cs) (preempt size cs)
 
+-- the allocation counts for the quota: its namespace names it
 abbrev pub counts_for : QuotaSeen → LiveAllocation → Bool
 counts_for q a = list_any (λ n. bytes_eq n a.namespace) q.namespaces
 
--- the node with its victims gone and the size taken
+-- the node once the victims are gone and the size is taken
 abbrev pub placed_on : Resources → List LiveAllocation → Candidate → Candidate
 placed_on size gone c =
     record c { left = minus (plus c.left (total (λ a. a.size) gone)) size; evictable = drop (length gone) c.evictable }
@@ -67,19 +69,20 @@ ended_by_quota = record { placements = []; quota_limited = true; class_limited =
 abbrev pub all_placed : Placing
 all_placed = record { placements = []; quota_limited = false; class_limited = false }
 
--- one more stands before the rest
+-- one more placement, before the rest
 abbrev pub then_rest : Placement → Placing → Placing
 then_rest p rest = record rest { placements = p ∷ rest.placements }
 
--- one is left; that the quota ended placing is said alone
+-- a missing allocation is left out; if the quota ended placing, the plan names the quota alone as the limit
 abbrev pub without_one : Placing → Placing
 without_one rest = record rest { class_limited = not rest.quota_limited }
 
--- one is placed, and what it leaves; none where there is no choice
+-- the placement of one missing allocation, and what it leaves; none if no node can take it
 abbrev pub placed_one : QuotaSeen → Demand → Site → Option (Placement × Site)
 placed_one q d w = option_map (λ ch. (placement_of d ch, after q d.size ch w)) (choice d.size w.candidates)
 
--- the quota first, then the choice; one without a place is left, and the next follows
+-- for each missing allocation the quota is checked first, and ends placing if it does not allow it; then a node is chosen. If
+-- no node can take it, it is left out, and the next one follows
 abbrev pub place : QuotaSeen → List Demand → Site → Placing
 place q [] w = all_placed
 place q (d ∷ ds) w =

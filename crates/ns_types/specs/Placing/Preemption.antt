@@ -16,18 +16,18 @@ use Rattle.ns_types.specs.State.Resources.{plus, is_within, total}
 abbrev pub evictable : ℕ → List LiveAllocation → List LiveAllocation
 evictable priority live = flat_map (λ p. filter (λ a. a.priority == p) (reverse live)) (range_with_len 0 (priority - 9))
 
--- with these gone, the size has room
+-- there is room for the size once these victims are gone
 abbrev pub makes_room : Resources → Candidate → List LiveAllocation → Bool
 makes_room size c victims = is_within size (plus c.left (total (λ a. a.size) victims))
 
--- the fewest that make room, if they can
+-- the first of the evictable allocations, as few as make room; none if they can't, or if the node is not feasible
 abbrev pub victims : Resources → Candidate → Option (List LiveAllocation)
 victims size c = if c.feasible then shortest_prefix (makes_room size c) c.evictable else None
 
 abbrev pub highest_priority : List LiveAllocation → ℕ
 highest_priority xs = fold (λ m a. max m a.priority) 0 xs
 
--- least by highest priority of a victim, then by number of victims, then by name
+-- nodes are compared by the highest priority of a victim, then by the number of victims, then by name
 abbrev pub compare_victims : Resources → Candidate → Candidate → Ordering
 compare_victims size =
     let lost = λ (c : Candidate). unwrap_or (victims size c) [] in
@@ -37,6 +37,6 @@ compare_victims size =
 abbrev pub cheaper : Resources → Candidate → Candidate → Bool
 cheaper size a b = is_lt (compare_victims size a b)
 
--- the place of the node with victims than which no other's are cheaper
+-- the place of the node whose victims are cheapest
 abbrev pub best_victims : Resources → List Candidate → Option ℕ
 best_victims size = best (λ c. is_some (victims size c)) (cheaper size)

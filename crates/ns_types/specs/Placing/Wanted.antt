@@ -17,36 +17,37 @@ abbrev pub is_batch : JobKind → Bool
 is_batch JobKind.Service = false
 is_batch JobKind.Batch = true
 
--- made for the job as it is
+-- the allocation was made for the present version of the job
 abbrev pub is_current : Job → OwnAllocation → Bool
 is_current j a = a.row.job_modify_index == j.modify_index
 
 abbrev pub is_of : Job → Group → OwnAllocation → Bool
 is_of j g a = is_current j a && bytes_eq a.row.group g.name
 
--- the live ones of a group that may stay, in the order of their numbers
+-- the live allocations of a group that were made for the present version of the job, in the order of their numbers
 abbrev pub kept : Job → List OwnAllocation → Group → List OwnAllocation
 kept j own g = filter (λ a. is_live a.row && is_of j g a) own
 
--- those of a batch job's group that completed
+-- how many allocations of a batch job's group completed; a service job counts none
 abbrev pub done : Job → List OwnAllocation → Group → ℕ
 done j own g = if is_batch j.document.kind then count_by (λ a. is_done a.row && is_of j g a) own else 0
 
--- the newest of those kept, as many as are too many
+-- the newest of the kept allocations, as many as the kept and the completed ones together are over the group's count
 abbrev pub surplus : Job → List OwnAllocation → Group → List OwnAllocation
 surplus j own g = let ks = kept j own g in drop (length ks - (length ks + done j own g - g.count)) ks
 
+-- how many allocations the group lacks
 abbrev pub missing : Job → List OwnAllocation → Group → ℕ
 missing j own g = g.count - (length (kept j own g) + done j own g)
 
 abbrev pub live_ones : List OwnAllocation → List OwnAllocation
 live_ones own = filter (λ a. is_live a.row) own
 
--- the live ones made for the job as it was before
+-- the live allocations that were made for an earlier version of the job
 abbrev pub outdated : Job → List OwnAllocation → List OwnAllocation
 outdated j own = filter (λ a. is_live a.row && not (is_current j a)) own
 
--- what stops: all of a job that is gone or stopped; else the outdated ones, and each group's surplus
+-- the allocations to stop: all live ones of a job that is gone or stopped; else the outdated ones, and each group's surplus
 abbrev pub stopping : Option Job → List OwnAllocation → List OwnAllocation
 stopping None own = live_ones own
 stopping (Some j) own =

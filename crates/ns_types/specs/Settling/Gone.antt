@@ -1,4 +1,4 @@
--- Allocations that a step ends: the same change of a row at each of some keys.
+-- The allocations that a step ends: one change, made to the row at each of a list of keys.
 -- Neither the headline nor the wire rests on this: code that changes many rows, and laws of what that frees, are specified by it.
 use Rattle.std.specs.Prelude.{ℕ, cond, List, fold}
 use Rattle.std.specs.FinMap.{get, insert}
@@ -9,7 +9,7 @@ use Rattle.ns_types.specs.State.Names.{Name, Key, has_key}
 use Rattle.ns_types.specs.State.Rows.{World, Tenant}
 use Rattle.ns_types.specs.State.Tables.{map_rows}
 
--- the row under that number, if it is there
+-- the allocation with that number, if there is one, is changed by g
 abbrev pub with_row : ℕ → (Allocation → Allocation) → Tenant → Tenant
 with_row n g t = option_map_or (λ a. record t { allocations = insert t.allocations n (g a) }) (get t.allocations n) t
 
@@ -19,7 +19,7 @@ row_gone g w key = change_tenant key.0 (with_row key.1 g) w
 abbrev pub rows_gone : (Allocation → Allocation) → World → List Key → World
 rows_gone g w keys = fold (row_gone g) w keys
 
--- the same, seen from the rows
+-- the same change, row by row: an allocation is changed if its key is in the list
 abbrev pub gone_row : (Allocation → Allocation) → List Key → Name → ℕ → Allocation → Allocation
 gone_row g keys ns n a = cond (has_key keys (ns, n)) (g a) a
 

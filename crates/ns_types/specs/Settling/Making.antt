@@ -1,4 +1,4 @@
--- New evaluations, and rows put back. New rows have the index 0 until the step settles.
+-- Changes of single rows, and new evaluations. New rows have the index 0 until the step settles.
 -- Nomad's page on the evaluations HTTP API.
 use Rattle.std.specs.Prelude.{ℕ, ◌+◌, false, true, List, [], Option, None, option_map, find}
 use Rattle.std.specs.Option.{option_map_or}
@@ -18,7 +18,7 @@ use Rattle.ns_types.specs.State.Names.{Name}
 use Rattle.ns_types.specs.State.Rows.{World, Tenant, PoolRows}
 use Rattle.ns_types.specs.Working.Queue.{queue}
 
--- ---- rows put back
+-- ---- changes of single rows
 
 abbrev pub put_tenant : Name → Tenant → World → World
 put_tenant ns t w = record w { tenants = insert w.tenants ns t }
@@ -67,31 +67,32 @@ new_evaluation job kind priority pool trigger = record {
   modify_index = 0;
 }
 
--- with the job's type, priority and pool
+-- a new evaluation for a job, with the job's type, priority and pool
 abbrev pub evaluation_of : Name → Document → Trigger → Evaluation
 evaluation_of job document trigger = new_evaluation job document.kind document.priority document.pool trigger
 
--- of a job that may be gone: then with the priority and pool of its allocation that ended, and of type `service`
+-- a new evaluation for the job of an allocation that ended; if the job is gone, it has the allocation's priority and pool,
+-- and the type `service`
 abbrev pub evaluation_for : Tenant → Allocation → Trigger → Evaluation
 evaluation_for t ended trigger =
     option_map_or (λ job. evaluation_of ended.job job.document trigger)
     (get t.jobs ended.job)
     (new_evaluation ended.job JobKind.Service ended.priority ended.pool trigger)
 
--- the evaluation gets the namespace's next number
+-- the namespace with a new evaluation, which gets its next evaluation number
 abbrev pub with_evaluation : Evaluation → Tenant → Tenant
 with_evaluation e t = record t {
   evaluation_number = t.evaluation_number + 1;
   evaluations = insert t.evaluations (t.evaluation_number + 1) e;
 }
 
--- and is ready, or waits for another of its job
+-- the world with the new evaluation, which is ready or waits for another evaluation of its job
 abbrev pub make_in : Name → Evaluation → World → Tenant → World
 make_in ns e w t = queue (put_tenant ns (with_evaluation e t) w) (ns, t.evaluation_number + 1)
 
 abbrev pub make : Name → (Tenant → Evaluation) → World → World
 make ns evaluation w = option_map_or (λ t. make_in ns (evaluation t) w t) (get w.tenants ns) w
 
--- of several allocations the one with the least number
+-- of these allocations, the one with the least number
 abbrev pub least : List (ℕ × Allocation) → Option Allocation
 least allocations = option_map (λ e. e.1) (find (λ e. true) (entries (from_entries {R = nat_cmp} allocations)))

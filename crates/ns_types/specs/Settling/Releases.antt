@@ -1,4 +1,4 @@
--- What a step releases, found by comparing the rows before and after it, and whom that wakes.
+-- What a step releases, found by comparing the rows before and after it, and which blocked evaluations that wakes.
 -- Nomad's page "Scheduling in Nomad", of blocked evaluations.
 use Rattle.std.specs.Prelude.{Bool, true, false, not, ◌&&◌, ◌||◌, List, [], Option, Some, None, filter, map, nat_lt}
 use Rattle.std.specs.Option.{option_map_or}
@@ -20,7 +20,7 @@ use Rattle.ns_types.specs.State.Rows.{evaluation_at}
 use Rattle.ns_types.specs.State.Sums.{names_quota}
 use Rattle.ns_types.specs.State.Tables.{any_row}
 
--- equal class, attributes and capacity
+-- the offers have the same class, attributes and capacity
 abbrev pub same_offer : Offer → Offer → Bool
 same_offer a b = same_name a.class b.class && pointwise (eq_by_cmp attribute_cmp) a.attributes b.attributes
     && same_resources a.capacity b.capacity
@@ -36,13 +36,13 @@ is_on pool node _ a = same_name pool a.pool && same_name node a.node
 abbrev pub counts_in : Name → Namespace → Allocation → Bool
 counts_in quota namespace _ = names_quota quota namespace
 
--- a node, ready and eligible after the step, that became so, changed what it offers, or lost a live allocation
+-- a node gives room if it is ready and eligible after the step, and became so, changed its offer, or lost a live allocation
 abbrev pub gives_room : World → World → Name → Name → Node → Bool
 gives_room w w' pool name node = is_free node
     && (option_map_or (λ old. not (is_free old) || not (same_offer old.offer node.offer)) (node_at w pool name) true
     || ends w w' (is_on pool name))
 
--- the released classes of a pool; a pool without one is not released
+-- the classes that the step releases in a pool: those of the nodes that give room; without one the pool is not released
 unfoldable pub released_classes : World → World → Name → PoolRows → List Class
 released_classes w w' name pool = map (λ e. class_of e.1)
     (filter (λ e. gives_room w w' name e.0 e.1) (entries pool.nodes))
@@ -53,7 +53,7 @@ classes_of w w' pool = option_map_or (released_classes w w' pool) (get w'.pools 
 abbrev pub changes_limits : QuotaRows → QuotaRows → Bool
 changes_limits old new = not (same_limits (limits_in old.quota.limits) (limits_in new.quota.limits))
 
--- the quota's limits change, or a live allocation of a namespace that names it ends
+-- the step releases a quota: its limits change, or a live allocation of a namespace that names it ends
 unfoldable pub releases_quota : World → World → Name → QuotaRows → Bool
 releases_quota w w' name quota = option_map_or (λ old. changes_limits old quota) (get w.quotas name) false
     || ends w w' (counts_in name)
@@ -63,11 +63,12 @@ is_released_quota w w' name = option_map_or (releases_quota w w' name) (get w'.q
 
 -- ---- wakes
 
--- it escapes classes, or did not find this one infeasible
+-- the evaluation escapes classes, or did not find this class infeasible
 abbrev pub can_use : Evaluation → Class → Bool
 can_use e class = e.escapes || not (has_class e.infeasible class)
 
--- whether those releases wake a blocked evaluation, by the quota that limits it
+-- the step wakes a blocked evaluation: it releases the quota that limits it or, if none does, a class of its pool that it can
+-- use
 abbrev pub wakes_by : World → World → Evaluation → Option Name → Bool
 wakes_by w w' e (Some quota) = is_released_quota w w' quota
 wakes_by w w' e None = list_any (can_use e) (classes_of w w' e.pool)
@@ -75,13 +76,14 @@ wakes_by w w' e None = list_any (can_use e) (classes_of w w' e.pool)
 unfoldable pub wakes : World → World → Evaluation → Bool
 wakes w w' e = wakes_by w w' e e.quota
 
--- the entries of `blocked`, before the step and after its own change, that it wakes, in their order
+-- the evaluations that the step wakes, in the order of `blocked`, which has them before the step and after its own change
 unfoldable pub woken : World → World → List Key
 woken w w' = filter (λ key. has_key w'.blocked key && option_map_or (wakes w w') (evaluation_at w key) false) w.blocked
 
 -- ---- releases that a follower missed
 
--- by the quota that limits the follower: a release after the snapshot would have woken it
+-- a release after the snapshot would have woken the follower: of the quota that limits it or, if none does, of a class of
+-- its pool that it can use
 abbrev pub missed_by : World → Snapshot → Evaluation → Option Name → Bool
 missed_by w kept e (Some quota) = nat_lt (option_map_or (λ q. q.release) kept.quota 0)
     (option_map_or (λ q. q.release) (get w.quotas quota) 0)

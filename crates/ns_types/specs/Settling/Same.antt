@@ -1,4 +1,5 @@
--- Whether rows are alike in all that replies show, their indexes apart.
+-- Whether two rows are the same in all that replies show. The indexes of evaluations and allocations, which are given when the
+-- step settles, are not compared.
 use Rattle.std.specs.Prelude.{Bool, ◌&&◌}
 use Rattle.std.specs.Option.{option_eq}
 use Rattle.std.specs.Ordering.{bool_cmp, eq_by_cmp}
@@ -35,13 +36,13 @@ same_document a b =
     same_name (kind_text a.kind) (kind_text b.kind) && same_number a.priority b.priority && same_name a.pool b.pool
     && pointwise same_constraint a.constraints b.constraints && pointwise same_group a.groups b.groups
 
--- a job's status is no part of its row
+-- a job's status is not part of its row, so it is not compared
 unfoldable pub same_job : Job → Job → Bool
 same_job a b =
     same_document a.document b.document && same_flag a.stop b.stop && same_number a.version b.version
     && same_number a.create_index b.create_index && same_number a.modify_index b.modify_index
 
--- its count of nacks and the classes it remembers are not shown
+-- the count of nacks and the infeasible classes are not compared: no reply shows them
 unfoldable pub same_evaluation : Evaluation → Evaluation → Bool
 same_evaluation a b =
     same_name a.job b.job && same_name (kind_text a.kind) (kind_text b.kind) && same_number a.priority b.priority
@@ -51,7 +52,7 @@ same_evaluation a b =
     && option_eq same_number a.previous b.previous && option_eq same_number a.follower b.follower
     && option_eq same_name a.quota b.quota && same_flag a.escapes b.escapes
 
--- its number in the node's order is not shown
+-- an allocation's place on its node is not compared: no reply shows it
 unfoldable pub same_allocation : Allocation → Allocation → Bool
 same_allocation a b =
     same_name a.job b.job && same_name a.group b.group && same_number a.evaluation b.evaluation

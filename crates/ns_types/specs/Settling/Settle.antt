@@ -30,7 +30,7 @@ woken_row keys ns n e = if has_key keys (ns, n) then pending e else e
 abbrev pub unblocked_in : List Key → Name → Tenant → Tenant
 unblocked_in keys ns t = record t { evaluations = map_rows (woken_row keys ns) t.evaluations }
 
--- the evaluations are no longer blocked, and each is ready or waits
+-- the woken evaluations leave `blocked` and become pending; each is ready, or waits for another of its job
 unfoldable pub wake : List Key → World → World
 wake keys w = fold queue (record w {
   tenants = map_rows (unblocked_in keys) w.tenants;
@@ -39,7 +39,7 @@ wake keys w = fold queue (record w {
 
 -- ---- release numbers
 
--- a pool with released classes has one more release, and each of them keeps its number
+-- if classes of a pool are released, its release number goes up by one, and each of these classes gets that number
 abbrev pub after_release : List Class → PoolRows → PoolRows
 after_release [] pool = pool
 after_release (class ∷ classes) pool = record pool {
@@ -58,7 +58,7 @@ number_releases w w' x = record x {
 
 -- ---- changed rows
 
--- a row is new, or it is shown otherwise than before
+-- a row is changed if it is new, or not the same as before
 abbrev pub is_changed : {X : Type 0} → (X → X → Bool) → Option X → X → Bool
 is_changed same old x = option_map_or (λ y. not (same y x)) old true
 
@@ -78,16 +78,16 @@ is_touched old t = any_row (λ id _. changes_job old t id) t.jobs || any_row (λ
 
 -- ---- events
 
--- a job that is stopped or gone after the step was deregistered
+-- a changed job was deregistered if it is stopped or gone after the step, and registered if not
 abbrev pub job_topic : Tenant → Name → Topic
 job_topic t id =
     if option_map_or (λ job. job.stop) (get t.jobs id) true then Topic.JobDeregistered id else Topic.JobRegistered id
 
--- the ids of jobs before or after the step
+-- the ids of the jobs that exist before or after the step
 abbrev pub job_ids : Tenant → Tenant → List Name
 job_ids old t = keys (from_entries {R = name_cmp} (entries old.jobs ++ entries t.jobs))
 
--- one for each changed row: jobs, then evaluations, then allocations, each by key
+-- one topic for each changed row: jobs, then evaluations, then allocations, each in the order of their keys
 abbrev pub topics_of : Tenant → Tenant → List Topic
 topics_of old t =
     map (job_topic t) (filter (changes_job old t) (job_ids old t))
@@ -99,7 +99,7 @@ events_of index old t = map (λ topic. record { index = index; topic = topic }) 
 
 -- ---- indexes
 
--- the index at which a row was made
+-- a row's create index: the one that it had, or the step's index if the row is new
 abbrev pub created_at : {X : Type 0} → ℕ → Option X → (X → ℕ) → ℕ
 created_at index old created = option_map_or created old index
 
@@ -121,7 +121,7 @@ stamped_allocation index old n a =
     }
     else a
 
--- a changed job has the index already
+-- the changed rows get the index, and their events are added; a changed job has the index already
 abbrev pub stamped : ℕ → Tenant → Tenant → Tenant
 stamped index old t = record t {
   index = index;
@@ -130,7 +130,7 @@ stamped index old t = record t {
   events = last 100 (t.events ++ events_of index old t);
 }
 
--- the namespace's index goes up by one where a row changed
+-- the namespace's index goes up by one if one of its rows changed
 unfoldable pub stamp_tenant : Option Tenant → Tenant → Tenant
 stamp_tenant old t = option_map_or (λ o. if is_touched o t then stamped (o.index + 1) o t else t) old t
 

@@ -29,27 +29,27 @@ use Rattle.ns_types.specs.Wire.Words.{target_text}
 abbrev pub is_between : ℕ → ℕ → ℕ → Bool
 is_between low high n = nat_le low n && nat_le n high
 
--- none stands twice
+-- no two elements of the list are the same
 abbrev pub is_distinct : {X : Type 0} → (X → X → Bool) → List X → Bool
 is_distinct same xs = length (first_each same xs) == length xs
 
 abbrev pub is_text : Name → Bool
 is_text text = nat_le (length text) 256
 
--- no pool is called `all`
+-- a pool may not be called `all`
 abbrev pub is_pool_name : Name → Bool
 is_pool_name name = is_name NameKind.Pool name && not (bytes_eq name (codes "all"))
 
 -- ---- jobs
 
--- of a task, a group or a node
+-- how much of one resource a task, a group or a node may state: 1 to 2147483647
 abbrev pub is_quantity : ℕ → Bool
 is_quantity n = is_between 1 2147483647 n
 
 abbrev pub is_amount : Resources → Bool
 is_amount a = in_each (λ r. is_quantity (quantity r a))
 
--- as it is written
+-- the target of a constraint, as it is written, is at most 256 bytes long
 abbrev pub is_target : Target → Bool
 is_target target = is_text (target_text target)
 
@@ -72,7 +72,7 @@ is_good_document d = is_between 1 100 d.priority && is_pool_name d.pool
     && is_between 1 16 (length d.groups) && list_all is_good_group d.groups
     && is_distinct same_name (map (λ g. g.name) d.groups)
 
--- a pool need not be named
+-- a registration need not name a pool
 abbrev pub is_good_registration : Registration → Bool
 is_good_registration r = is_name NameKind.Job r.id && is_between 1 100 r.priority
     && option_map_or is_pool_name r.pool true
@@ -86,7 +86,7 @@ abbrev pub is_good_offer : Offer → Bool
 is_good_offer o = is_text o.class && nat_le (length o.attributes) 64
     && list_all (λ a. is_text a.key && is_text a.value) o.attributes && is_amount o.capacity
 
--- attributes stand by key, each key once
+-- the attributes are in the order of their keys, and no key occurs twice
 abbrev pub IsInOrder : Offer → Type 0
 IsInOrder offer =
     let pairs = map (λ a. (a.key, a.value)) offer.attributes in
@@ -97,7 +97,7 @@ IsInOrder offer =
 abbrev pub is_pool_list : List Name → Bool
 is_pool_list pools = nat_le (length pools) 1000 && list_all is_pool_name pools && is_distinct same_name pools
 
--- not both lists, and what is denied is not the default
+-- a namespace has a list of allowed pools or a list of denied ones, not both, and does not deny its default pool
 abbrev pub is_good_namespace : Namespace → Bool
 is_good_namespace n = is_text n.description && option_map_or (is_name NameKind.Quota) n.quota true
     && is_pool_name n.default_pool

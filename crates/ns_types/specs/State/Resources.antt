@@ -12,31 +12,31 @@ use Rattle.ns_types.specs.declared.resources.Limit.TheVariants.{Unlimited, AtMos
 use Rattle.ns_types.specs.declared.resources.Limits.{Limits}
 use Rattle.ns_types.specs.State.Names.{same_number}
 
--- ---- the resources: one more is one line more in each of these
+-- ---- the resources: to add one, add a line to each of these definitions
 
 pub data Resource : Type 0 where
   Cpu : Resource
   Memory : Resource
   Disk : Resource
 
--- how much of it
+-- how much of one resource an amount has
 abbrev pub quantity : Resource → Resources → ℕ
 quantity Cpu = λ r. r.cpu
 quantity Memory = λ r. r.memory
 quantity Disk = λ r. r.disk
 
--- so much of each
+-- the amount that has f r of each resource r
 abbrev pub each_resource : (Resource → ℕ) → Resources
 each_resource f = record { cpu = f Cpu; memory = f Memory; disk = f Disk }
 
--- it is so of each
+-- p holds of each resource
 abbrev pub in_each : (Resource → Bool) → Bool
 in_each p = p Cpu && p Memory && p Disk
 
 abbrev pub InEach : (Resource → Type 0) → Type 0
 InEach P = P Cpu × P Memory × P Disk
 
--- by the first of them, then by the next
+-- the order by CPU, then by memory, then by disk
 abbrev pub by_each : {C : Type 0} → (Resource → C → ℕ) → C → C → Ordering
 by_each f = then_cmp (on (f Cpu) nat_cmp) (then_cmp (on (f Memory) nat_cmp) (on (f Disk) nat_cmp))
 
@@ -51,7 +51,7 @@ plus a b = each_resource (λ r. quantity r a + quantity r b)
 abbrev pub minus : Resources → Resources → Resources
 minus a b = each_resource (λ r. quantity r a - quantity r b)
 
--- no resource of `a` is over that of `b`
+-- of each resource, `a` has at most as much as `b`
 abbrev pub is_within : Resources → Resources → Bool
 is_within a b = in_each (λ r. nat_le (quantity r a) (quantity r b))
 
@@ -62,7 +62,7 @@ same_resources a b = in_each (λ r. same_number (quantity r a) (quantity r b))
 abbrev pub total : {X : Type 0} → (X → Resources) → List X → Resources
 total size xs = each_resource (λ r. sum_by (λ x. quantity r (size x)) xs)
 
--- so many of a size
+-- n times the size
 abbrev pub times : ℕ → Resources → Resources
 times n size = each_resource (λ r. n * quantity r size)
 
@@ -87,7 +87,7 @@ limits_allow l used = in_each (λ r. limit_allows (limit_on r l) (quantity r use
 abbrev pub unlimited : Limits
 unlimited = each_limit (λ r. Unlimited)
 
--- a quota without an entry limits nothing
+-- the limits of a quota; a quota without an entry has no limits
 abbrev pub limits_in : Option Limits → Limits
 limits_in limits = unwrap_or limits unlimited
 
@@ -109,20 +109,20 @@ IsCounted a = InEach (λ r. quantity r a < 2 ^ 64)
 abbrev pub is_counted : Resources → Bool
 is_counted a = in_each (λ r. nat_lt (quantity r a) (2 ^ 64))
 
--- equal in 64 bits
+-- the numbers are equal modulo 2 ^ 64
 abbrev pub IsAlike : ℕ → ℕ → Type 0
 IsAlike a b = a % 2 ^ 64 ≡ b % 2 ^ 64
 
--- each sum in 64 bits
+-- of each resource, the total is the sum modulo 2 ^ 64
 abbrev pub IsTotal : Resources → Resources → Type 0
 IsTotal total sums = InEach (λ r. quantity r total ≡ quantity r sums % 2 ^ 64)
 
--- the total has one part in the place of another
+-- a total goes from `old` to `new` as one of its parts goes from `before` to `after`, modulo 2 ^ 64
 abbrev pub Moves : Resources → Resources → Resources → Resources → Type 0
 Moves before after old new =
     InEach (λ r. IsAlike (quantity r new + quantity r before) (quantity r old + quantity r after))
 
--- past 128 bits a sum stays at the greatest number, which no limit of 64 bits reaches
+-- a sum that does not fit 128 bits counts as the greatest number that does, which is over every limit of 64 bits
 abbrev pub capped : ℕ → ℕ
 capped n = min n (2 ^ 128 - 1)
 

@@ -1,4 +1,4 @@
--- The state: rows by owner, which is a namespace, a pool, a quota or the access lists, and three lists.
+-- The state: the rows of each namespace, node pool and quota, the access lists, and three lists of evaluations.
 -- Nomad's pages on namespaces, node pools and resource quotas.
 use Rattle.std.specs.Prelude.{ℕ, Bool, true, false, not, ◌&&◌, List, Option, filter}
 use Rattle.std.specs.FinMap.{get}
@@ -27,15 +27,15 @@ use Rattle.ns_types.specs.State.Names.{Name, Key, ByName, ByNumber, ByClass, sam
 pub record Tenant : Type 0 where
   pub namespace : Namespace
   pub index : ℕ
-  -- the last numbers given
+  -- the last numbers that were given to an evaluation and to an allocation
   pub evaluation_number : ℕ
   pub allocation_number : ℕ
   pub jobs : ByName Job
   pub evaluations : ByNumber Evaluation
   pub allocations : ByNumber Allocation
-  -- those that are busy for it
+  -- the workers that have one of its evaluations
   pub workers : ByNumber Worker
-  -- the last hundred, the newest last
+  -- its last 100 events, the newest last
   pub events : List Event
 
 -- what a pool owns
@@ -43,7 +43,7 @@ pub record PoolRows : Type 0 where
   pub pool : Pool
   -- the number of its last release
   pub release : ℕ
-  -- the number of each class's last release
+  -- the number of the last release of each class
   pub classes : ByClass ℕ
   pub nodes : ByName Node
 
@@ -52,25 +52,28 @@ pub record QuotaRows : Type 0 where
   pub quota : Quota
   pub release : ℕ
 
--- all but the access lists
+-- the state without the access lists
 pub record World : Type 0 where
   pub tenants : ByName Tenant
   pub pools : ByName PoolRows
   pub quotas : ByName QuotaRows
+  -- the evaluations that are ready, in the order in which they became ready
   pub ready : List Key
+  -- the evaluations whose plans wait to be applied, in the order in which these were submitted
   pub plans : List Key
+  -- the blocked evaluations, in the order in which they were blocked
   pub blocked : List Key
 
 pub record Acl : Type 0 where
   pub policies : ByName Policy
-  -- by secret
+  -- the tokens by their secrets
   pub tokens : ByName Token
 
 pub record State : Type 0 where
   pub acl : Acl
   pub world : World
 
--- ---- what rows say
+-- ---- statuses, and classes of nodes
 
 abbrev pub is_run : DesiredStatus → Bool
 is_run DesiredStatus.Run = true
@@ -85,11 +88,11 @@ abbrev pub is_complete : ClientStatus → Bool
 is_complete ClientStatus.Complete = true
 is_complete _ = false
 
--- the desired status is `run`, and the client's `pending` or `running`
+-- an allocation is live if its desired status is `run`, and its client status is `pending` or `running`
 abbrev pub is_live : Allocation → Bool
 is_live a = is_run a.desired && is_held a.client
 
--- the desired status is `run`, and the client's `complete`
+-- an allocation is done if its desired status is `run`, and its client status is `complete`
 abbrev pub is_done : Allocation → Bool
 is_done a = is_run a.desired && is_complete a.client
 
@@ -104,6 +107,7 @@ abbrev pub is_blocked : Status → Bool
 is_blocked Status.Blocked = true
 is_blocked _ = false
 
+-- an evaluation is open if it is pending or blocked
 abbrev pub is_open : Status → Bool
 is_open Status.Pending = true
 is_open Status.Blocked = true
@@ -113,14 +117,14 @@ abbrev pub is_ready : NodeStatus → Bool
 is_ready NodeStatus.Ready = true
 is_ready NodeStatus.Down = false
 
--- a node that may take allocations
+-- the node is ready and eligible, so it may take new allocations
 abbrev pub is_free : Node → Bool
 is_free node = is_ready node.status && node.eligible
 
 abbrev pub is_unique : Name → Bool
 is_unique key = begins_with (codes "unique.") key
 
--- the class that a node of such an offer has, with all attributes that are not unique
+-- the class of a node with that offer: its class name, and all of its attributes but the unique ones
 abbrev pub offered_class : Offer → Class
 offered_class offer = record {
   name = offer.class;

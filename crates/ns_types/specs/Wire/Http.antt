@@ -40,17 +40,17 @@ abbrev pub first_value : List (List ℕ) → Option (List ℕ)
 first_value [] = None
 first_value (v ∷ values) = Some v
 
--- 1*20DIGIT
+-- the value is 1 to 20 digits
 abbrev pub is_length : List ℕ → Bool
 is_length v = nat_lt 0 (length v) && (nat_le (length v) 20 && list_all is_ascii_digit v)
 
--- the number that the value writes, where it is no more than a body may have
+-- the length that the value states, if it is a length and a body may be that long
 unfoldable pub length_of : List ℕ → Result ℕ HeadFault
 length_of v =
     if is_length v then (if nat_le (digits_value 10 v) max_body_len then Ok (digits_value 10 v) else Err TooLarge)
     else Err BadHead
 
--- by the values of `Content-Length` and of `Transfer-Encoding`
+-- the length of the body, by the values of `Content-Length` and of `Transfer-Encoding`
 abbrev pub body_len_of : List (List ℕ) → List (List ℕ) → Result ℕ HeadFault
 body_len_of [] [] = Ok 0
 body_len_of [] (coding ∷ codings) = Err NeedLength
@@ -63,17 +63,17 @@ unfoldable pub body_len : List Header → Result ℕ HeadFault
 body_len headers =
     body_len_of (values_named (codes "content-length") headers) (values_named (codes "transfer-encoding") headers)
 
--- the value lists `close`, in any case
+-- the value lists `close`, in upper or lower case
 unfoldable pub lists_close : List ℕ → Bool
 lists_close value = list_any (λ piece. eq_ignore_case (trim_ows piece) (codes "close"))
     (slice_split (λ b. b == comma) value)
 
--- HTTP/1.0, or a `Connection` header that lists `close`
+-- the request is of HTTP/1.0, or a `Connection` header lists `close`
 unfoldable pub asks_close : ℕ → List Header → Bool
 asks_close minor headers = (minor == 0)
     || list_any (λ h. eq_ignore_case h.0 (codes "connection") && lists_close h.1) headers
 
--- the first `X-Nomad-Token`
+-- the value of the first `X-Nomad-Token`
 unfoldable pub token_of : List Header → Option (List ℕ)
 token_of headers = first_value (values_named (codes "x-nomad-token") headers)
 
@@ -107,7 +107,7 @@ pub record IsHead (h : RequestHead) : Type 0 where
   pub len : length (print_request h) ≤ max_head_len
   pub headers : length h.fields ≤ max_headers
 
--- and the body has the length that the head states
+-- a message has such a head, and a body of the length that the head states
 pub record IsMessage (m : Message) : Type 0 where
   pub head : IsHead m.head
   pub framed : body_len (headers_of m) ≡ Ok (length m.body)
@@ -137,8 +137,8 @@ abbrev pub is_last : Received → Bool
 is_last (Whole m) = closes m
 is_last (Refused fault) = true
 
--- The bytes begin with these requests, and then the rest. Where the connection is closed, the last one closes it, and
--- no other does.
+-- The bytes are these requests, in order, and then the rest. If the connection is closed, the last request closes it, and no
+-- other does.
 abbrev pub Takes : List ℕ → List Received → Bool → List ℕ → Type 0
 Takes bytes [] closed rest = (closed ≡ false) × (bytes ≡ rest)
 Takes bytes (Refused fault ∷ received) closed rest =
@@ -156,7 +156,7 @@ is_closed Clean = false
 is_closed Partial = false
 is_closed Closed = true
 
--- what stands after the requests
+-- what follows the requests at each end: nothing, a part of a request, or, after the connection is closed, any bytes
 abbrev pub IsRest : End → List ℕ → Type 0
 IsRest Clean rest = rest ≡ []
 IsRest Partial rest = IsPartial rest × (0 < length rest)
@@ -173,8 +173,8 @@ pub data IsFaultyAndOver (bytes : List ℕ) : Type 0 where
       IsFaultyAndOver bytes
   faulty_many : NeverHasRequest bytes → RequestExceeds max_headers bytes → IsFaultyAndOver bytes
 
--- Two readings of the same bytes agree, but for two freedoms: a head that is both faulty and over a limit may be
--- refused as either, and a head without its end, where the bytes end, may be refused or not.
+-- Two readings of the same bytes agree, except in two cases: a head that is both faulty and over a limit may be refused as
+-- either, and a head whose end the bytes do not have may be refused or not.
 abbrev pub ReadAlike : List ℕ → List Received → End → List Received → End → Type 0
 ReadAlike bytes [] e [] f = e ≡ f
 ReadAlike bytes [] e (Refused b ∷ ys) f = HasNoRequest bytes × (is_closed e ≡ false)

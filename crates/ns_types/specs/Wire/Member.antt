@@ -1,4 +1,4 @@
--- The members of documents, and parameters, by their names.
+-- The names of the members of documents, and of parameters.
 use Rattle.std.specs.Prelude.{ℕ, List, codes}
 use Rattle.ns_types.specs.declared.refusal.Member.{Member}
 

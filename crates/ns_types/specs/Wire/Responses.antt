@@ -11,7 +11,7 @@ use Rattle.ns_types.specs.Wire.Refused.{refused}
 use Rattle.ns_types.specs.Wire.Http.{Asked, asked_by, Received, Whole, Refused, is_last}
 
 -- Neither the headline nor the wire rests on this: contracts of the code that renders use it.
--- a response as bytes show it
+-- the status, the index and the body with which a response is sent
 abbrev pub rendered_of : {A : Type 0} → Response A → Rendered
 rendered_of (Response.Done index body) = record { status = 200; index = index; body = string_bytes body }
 rendered_of (Response.Refused refusal) = refused refusal
@@ -71,7 +71,7 @@ abbrev pub wires : List Exchange → List ℕ
 wires [] = []
 wires (x ∷ exchanges) = wire x.1 (is_last x.0) ++ wires exchanges
 
--- the handler answers the requests one after the other, and the engine those refused by their head
+-- the handler answers the whole requests one after the other, and the engine answers those that are refused by their head
 abbrev pub Answers : {S : Type 0} → (S → Asked → Rendered → S → Type 0) → S → List Exchange → S → Type 0
 Answers answers old [] new = new ≡ old
 Answers {S} answers old ((Whole m, reply) ∷ exchanges) new =

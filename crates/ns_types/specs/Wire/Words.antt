@@ -1,4 +1,4 @@
--- The words by which replies and documents call things.
+-- The words that replies and documents have for statuses, types and targets.
 use Rattle.std.specs.Prelude.{◌++◌, codes, Bool, true, false}
 use Rattle.ns_types.specs.declared.job.JobKind.{JobKind}
 use Rattle.ns_types.specs.declared.job.Operand.{Operand}

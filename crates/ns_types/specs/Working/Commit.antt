@@ -1,4 +1,4 @@
--- Apply: what of a plan is done in the present state. Each node does its whole part or none of it.
+-- Apply: which parts of a plan are done in the present state. For each node, its whole part is done, or none of it.
 -- Nomad's page "Scheduling in Nomad", of the plan queue.
 use Rattle.std.specs.Prelude.{ℕ, ◌+◌, ◌-◌, Bool, true, false, not, ◌&&◌, ◌||◌, if◌then◌else◌, List, [], ◌∷◌, ◌++◌}
 use Rattle.std.specs.Prelude.{Option, Some, None, filter, filter_map, flat_map, fold, map, slice_get, option_map}
@@ -34,6 +34,7 @@ use Rattle.ns_types.specs.Working.Work.{at_work, with_worker, without_key, is_su
 
 -- ---- whether the plan still stands
 
+-- the job is gone or stopped
 abbrev pub has_ended : Option Job → Bool
 has_ended None = true
 has_ended (Some job) = job.stop
@@ -42,8 +43,8 @@ abbrev pub same_version : Option Job → Option Job → Bool
 same_version (Some a) (Some b) = same_number a.modify_index b.modify_index
 same_version _ _ = false
 
--- one for an unstopped job wants it unstopped, with the same index; one for a job that was gone or stopped wants it so
--- still
+-- a plan for a job that was not stopped stands if the job is still not stopped and has the same modify index; a plan for a job
+-- that was gone or stopped stands if it still is
 abbrev pub still_stands : Option Job → Option Job → Bool
 still_stands planned present =
     if has_ended planned then has_ended present
@@ -51,6 +52,7 @@ still_stands planned present =
 
 -- ---- stops
 
+-- the stops of allocations that are still live
 abbrev pub live_stops : Tenant → List ℕ → List ℕ
 live_stops t stops = filter (λ n. option_map_or is_live (get t.allocations n) false) stops
 
@@ -59,7 +61,7 @@ stop_all ns stops w = change_tenant ns (λ t. fold (λ x n. with_desired n Desir
 
 -- ---- a node's part of the plan
 
--- the name of the node at a place of the snapshot
+-- the name of the node at place k of the snapshot
 abbrev pub node_name : Snapshot → ℕ → Name
 node_name kept k = option_map_or (λ n. n.name) (slice_get kept.nodes k) []
 
@@ -67,13 +69,14 @@ node_name kept k = option_map_or (λ n. n.name) (slice_get kept.nodes k) []
 abbrev pub nodes_in : List Placement → List ℕ
 nodes_in placements = first_each same_number (map (λ p. p.node) placements)
 
+-- the node's part: the placements on it, in the order of the plan
 abbrev pub part_of : ℕ → List Placement → List Placement
 part_of k placements = filter (λ p. same_number p.node k) placements
 
 abbrev pub size_of : List Placement → Resources
 size_of part = total (λ p. p.size) part
 
--- an eviction counts where its allocation is live on that node with the priority that the snapshot had
+-- an eviction counts if its allocation is live on that node, with the priority that it had in the snapshot
 unfoldable pub counts : World → Name → Name → Eviction → Bool
 counts w pool node e = option_map_or (λ a. is_live_on pool node a && same_number a.priority e.priority)
     (allocation_at w (e.namespace, e.number)) false
@@ -90,11 +93,11 @@ evict w e = change_tenant e.namespace (with_desired e.number DesiredStatus.Evict
 abbrev pub evict_all : World → List Eviction → World
 evict_all w victims = fold evict w victims
 
--- the namespace's quota, or none that limits
+-- the quota that the namespace names, if it names one
 abbrev pub quota_named : World → Name → Option Name
 quota_named w ns = option_and_then (λ t. t.namespace.quota) (get w.tenants ns)
 
--- with what is placed already, the quota allows the amount
+-- the namespace's quota, if it has one, allows the amount on top of the quota's use
 abbrev pub quota_allows : World → Name → Resources → Bool
 quota_allows w ns amount = option_map_or (λ q.
     limits_allow (option_map_or (λ rows. limits_in rows.quota.limits) (get w.quotas q) unlimited)
@@ -102,10 +105,10 @@ quota_allows w ns amount = option_map_or (λ q.
 
 -- ---- node by node
 
--- what is decided so far: the state without the stops and the victims of the nodes that do their part
+-- what is decided so far: the state in which the plan's stops are stopped, and the victims of committed nodes evicted
 pub record Commit : Type 0 where
   pub world : World
-  -- what these nodes place
+  -- what the placements on committed nodes take together
   pub placed : Resources
   pub committed : List ℕ
   pub dropped : List ℕ
@@ -113,7 +116,8 @@ pub record Commit : Type 0 where
 abbrev pub begun : World → Commit
 begun w = record { world = w; placed = none; committed = []; dropped = [] }
 
--- ready and eligible, all constraints met; without its own victims it has room, and the quota allows all its placements
+-- a node accepts its part if it is ready and eligible and meets all constraints, has room for the part once its own victims
+-- are gone, and the quota allows the part on top of what is placed so far
 abbrev pub accepts : Snapshot → World → Name → List Placement → Resources → Node → Bool
 accepts kept w name part placed node =
     is_feasible (constraints_of kept.job) name node
@@ -123,6 +127,7 @@ accepts kept w name part placed node =
 abbrev pub accepts_at : Snapshot → World → Name → List Placement → Resources → Bool
 accepts_at kept w name part placed = option_map_or (accepts kept w name part placed) (node_at w kept.pool name) false
 
+-- the next node: if it accepts its part, its victims are evicted and it is committed; if not, it is dropped
 unfoldable pub decide : Snapshot → List Placement → Commit → ℕ → Commit
 decide kept placements c k =
     let part = part_of k placements in
@@ -141,7 +146,7 @@ decide kept placements c k =
 abbrev pub group_name : Job → ℕ → Name
 group_name job group = option_map_or (λ g. g.name) (slice_get job.document.groups group) []
 
--- a committed placement is pending on its node, with the next number of its namespace and of the node
+-- the allocation of a committed placement: it is pending on its node, and has the node's next place
 abbrev pub new_allocation : Snapshot → Job → Placement → Node → Allocation
 new_allocation kept job p node = record {
   job = kept.evaluation.job;
@@ -159,6 +164,7 @@ new_allocation kept job p node = record {
   modify_index = 0;
 }
 
+-- the allocation gets the namespace's next allocation number
 abbrev pub with_allocation : Allocation → Tenant → Tenant
 with_allocation a t = record t {
   allocation_number = t.allocation_number + 1;
@@ -175,7 +181,7 @@ abbrev pub place_with : Snapshot → Placement → World → Job → Node → Wo
 place_with kept p w job node = counted kept.pool (node_name kept p.node) node
     (change_tenant kept.namespace (with_allocation (new_allocation kept job p node)) w)
 
--- a plan that places something is for a job
+-- one placement becomes an allocation; a plan places something only if its snapshot has the job
 unfoldable pub place_one : Snapshot → World → Placement → World
 place_one kept w p =
     option_map_or (λ job. option_map_or (place_with kept p w job) (node_at w kept.pool (node_name kept p.node)) w)
@@ -187,27 +193,27 @@ committed_placements c placements = filter (λ p. has_number c.committed p.node)
 abbrev pub place_all : Snapshot → World → List Placement → World
 place_all kept w placements = fold (place_one kept) w placements
 
--- ---- evaluations of those that lost an allocation
+-- ---- evaluations for the jobs that lost an allocation
 
--- a victim with its row before it went
+-- an evicted allocation: its namespace, its number, and its row before the eviction
 abbrev pub Victim : Type 0
 Victim = Name × (ℕ × Allocation)
 
 abbrev pub victim_at : World → Eviction → Option Victim
 victim_at w e = option_map (λ a. (e.namespace, (e.number, a))) (allocation_at w (e.namespace, e.number))
 
--- the evictions of committed nodes that counted, in the order of the plan
+-- the allocations that these placements evict, in the order of the plan
 abbrev pub evicted_rows : World → Snapshot → List Placement → List Victim
 evicted_rows w kept placements = filter_map (victim_at w) (victims_of w kept placements)
 
 abbrev pub same_victim_job : Victim → Victim → Bool
 same_victim_job a b = same_name a.0 b.0 && same_name a.1.1.job b.1.1.job
 
--- of the victims of a job the one with the least number
+-- of the victims of the same job, the one with the least number
 abbrev pub least_of_job : List Victim → Victim → Allocation
 least_of_job victims v = option_map_or (λ a. a) (least (map (λ x. x.1) (filter (same_victim_job v) victims))) v.1.1
 
--- each job that lost one gets an evaluation, in the order of first victim
+-- each job that lost an allocation gets one evaluation, in the order of the jobs' first victims
 unfoldable pub make_up : List Victim → World → World
 make_up victims w =
     fold (λ x v. make v.0 (λ t. evaluation_for t (least_of_job victims v) Trigger.Preemption) x) w
@@ -217,17 +223,19 @@ make_up victims w =
 
 -- which parts of a plan are done in the present state
 pub record Checked : Type 0 where
-  -- it no longer stands: nothing of it is done
+  -- the plan no longer stands, and nothing of it is done
   pub is_refused : Bool
-  -- of the allocations that are live still, in the order of the plan
+  -- the stops of allocations that are still live, in the order of the plan
   pub stops : List ℕ
-  -- places of the nodes that do their part, and of those that do not, each in the order of first placement
+  -- the places in the snapshot of the nodes whose part is done, and of those whose part is dropped, in the order of first
+  -- placement
   pub committed : List ℕ
   pub dropped : List ℕ
-  -- the allocations that committed nodes evict, each once, in the order of the plan
+  -- the allocations that the committed parts evict, each once, in the order of the plan
   pub victims : List Key
 
--- what an Apply does: which parts, the state, the numbers of the placements, the dropped nodes, what it did and what not
+-- what an Apply does: the parts that are done, the state after it, the numbers of the new allocations, the names of the
+-- dropped nodes, and whether anything was dropped or committed
 pub record Applied : Type 0 where
   pub checked : Checked
   pub world : World
@@ -239,7 +247,7 @@ pub record Applied : Type 0 where
 abbrev pub names_in : Snapshot → List ℕ → List Name
 names_in kept nodes = sorted_names (map (node_name kept) nodes)
 
--- a plan that no longer stands commits nothing and drops all
+-- a plan that no longer stands commits nothing and drops the part of every node
 abbrev pub no_part : Plan → Checked
 no_part p = record {
   is_refused = true;
@@ -259,7 +267,7 @@ refused_whole kept p w = record {
   has_committed = false;
 }
 
--- the numbers of as many new allocations
+-- the numbers of new allocations, one for each element of the list: n + 1, n + 2 and so on
 abbrev pub numbers_after : {X : Type 0} → ℕ → List X → List ℕ
 numbers_after n [] = []
 numbers_after n (x ∷ xs) = (n + 1) ∷ numbers_after (n + 1) xs
@@ -267,7 +275,7 @@ numbers_after n (x ∷ xs) = (n + 1) ∷ numbers_after (n + 1) xs
 abbrev pub victim_key : Eviction → Key
 victim_key e = (e.namespace, e.number)
 
--- each once
+-- the keys of the victims, each once
 abbrev pub victim_keys : List Eviction → List Key
 victim_keys victims = first_each same_key (map victim_key victims)
 
@@ -292,7 +300,7 @@ done_with kept t stops placements stopped c =
       has_committed = not (is_empty stops) || not (is_empty placed);
     }
 
--- the stops of those that are live still, then node by node
+-- first the stops of allocations that are still live, then the placements, node by node
 abbrev pub done : Snapshot → Plan → World → Tenant → Applied
 done kept p w t =
     let stops = live_stops t p.stops in
@@ -305,7 +313,7 @@ commit kept p w t =
     if still_stands kept.job (get t.jobs kept.evaluation.job) then done kept p w t
     else refused_whole kept p w
 
--- a commit resets the tries, and a drop without one uses a try
+-- if something was committed, the tries start again; if something was dropped and nothing committed, a try is used
 abbrev pub tries_after : Applied → Worker → Evaluation → ℕ
 tries_after a worker e =
     if a.has_committed then tries_for e.kind
@@ -324,7 +332,7 @@ applied number ns worker e a =
     (record (change_tenant ns (with_worker number (applied_worker a worker e)) a.world)
     { plans = without_key (ns, worker.evaluation) a.world.plans })
 
--- the worker's plan is the one served
+-- the worker has submitted its plan, and that plan is the next to apply
 abbrev pub apply_for : ℕ → Name → World → Tenant → Worker → Evaluation → Snapshot → Outcome World
 apply_for number ns w t worker e kept =
     if is_submitted worker.phase && is_served w w.plans (ns, worker.evaluation)

@@ -1,4 +1,4 @@
--- What a worker looks at: one evaluation's part of the state.
+-- A worker's snapshot: the part of the state that one evaluation is planned from.
 -- Nomad's page "Scheduling in Nomad".
 use Rattle.std.specs.Prelude.{ℕ, Bool, false, ◌&&◌, ◌||◌, List, [], Option, Some, None, filter, map, flat_map}
 use Rattle.std.specs.Prelude.{option_map}
@@ -19,12 +19,12 @@ use Rattle.ns_types.specs.State.Resources.{limits_in}
 use Rattle.ns_types.specs.State.Rows.{World, Tenant, is_live, is_done, is_live_on}
 use Rattle.ns_types.specs.State.Sums.{names_quota, quota_use}
 
--- of a batch job, an allocation made for it as it is that completed
+-- the job is a batch job, and the allocation was made for its present version and completed
 abbrev pub is_done_for : Option Job → Allocation → Bool
 is_done_for None a = false
 is_done_for (Some job) a = is_batch job.document.kind && same_number a.job_modify_index job.modify_index && is_done a
 
--- the job's live and done allocations, by number
+-- the job's live allocations, and those of a batch job that completed, by number
 abbrev pub own_allocations : Tenant → Name → Option Job → List OwnAllocation
 own_allocations t id job = map (λ a. record { number = a.0; row = a.1 })
     (filter (λ a. same_name id a.1.job && (is_live a.1 || is_done_for job a.1)) (entries t.allocations))
@@ -37,7 +37,7 @@ allocations_on w pool node = flat_map
 abbrev pub seen_live : Name × (ℕ × Allocation) → LiveAllocation
 seen_live a = record { namespace = a.0; number = a.1.0; priority = a.1.1.priority; size = a.1.1.size }
 
--- in the order in which they were placed
+-- the live allocations on a node, in the order in which they were placed
 unfoldable pub live_on : World → Name → Name → List LiveAllocation
 live_on w pool node = map seen_live (by_number (λ a. a.1.1.place) (allocations_on w pool node))
 
@@ -46,6 +46,7 @@ abbrev pub nodes_of : World → Name → List PoolNode
 nodes_of w pool = option_map_or (λ p. map (λ n. record { name = n.0; row = n.1; live = live_on w pool n.0 })
     (entries p.nodes)) (get w.pools pool) []
 
+-- the namespaces that name the quota
 unfoldable pub namespaces_naming : World → Name → List Name
 namespaces_naming w quota = map (λ t. t.0) (filter (λ t. names_quota quota t.1.namespace) (entries w.tenants))
 
@@ -58,7 +59,7 @@ quota_seen w name = option_map (λ q. record {
   namespaces = namespaces_naming w name;
 }) (get w.quotas name)
 
--- the job's pool, or its evaluation's where the job is gone
+-- the job's pool, or the evaluation's pool if the job is gone
 abbrev pub pool_for : Evaluation → Option Job → Name
 pool_for e job = option_map_or (λ j. j.document.pool) job e.pool
 

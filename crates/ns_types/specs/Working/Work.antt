@@ -1,4 +1,4 @@
--- A worker's steps, but for Apply: it takes an evaluation, looks, hands in its plan, and finishes or gives up.
+-- A worker's steps except Apply: it dequeues an evaluation, takes a snapshot, submits its plan, and finishes or nacks.
 -- Nomad's page "Scheduling in Nomad", of workers.
 use Rattle.std.specs.Prelude.{ℕ, ◌+◌, Bool, true, false, not, ◌&&◌, ◌||◌, if◌then◌else◌, List, [], ◌∷◌, ◌++◌, Option}
 use Rattle.std.specs.Prelude.{Some, None, nat_eq, nat_lt, nat_le, filter, option_map, find}
@@ -33,7 +33,7 @@ without_worker number t = record t { workers = remove t.workers number }
 abbrev pub without_key : Key → List Key → List Key
 without_key key keys = filter (λ other. not (same_key key other)) keys
 
--- what a worker that is busy for the namespace does with its evaluation
+-- what a worker does with its evaluation; the step is not enabled if the worker has none in this namespace
 abbrev pub at_work : ℕ → Name → World → (Tenant → Worker → Evaluation → Outcome World) → Outcome World
 at_work number ns w act =
     option_map_or (λ t. option_map_or
@@ -42,12 +42,15 @@ at_work number ns w act =
 
 -- ---- Dequeue
 
+-- the numbers of workers are below 64
 abbrev pub workers_end : ℕ
 workers_end = 64
 
+-- the worker has no evaluation, in any namespace
 abbrev pub is_idle : World → ℕ → Bool
 is_idle w number = not (any_row (λ _ t. contains_key t.workers number) w.tenants)
 
+-- the tries that an evaluation has at first, by the type of its job
 abbrev pub tries_for : JobKind → ℕ
 tries_for JobKind.Service = 5
 tries_for JobKind.Batch = 2
@@ -63,6 +66,7 @@ abbrev pub dequeue_in : ℕ → Key → World → Tenant → Outcome World
 dequeue_in number key w t = option_map_or (λ e. Done (Content.Took key.1) (taken number key w t e))
     (get t.evaluations key.1) NotEnabled
 
+-- an idle worker takes the evaluation that is the next in `ready`
 unfoldable pub dequeue : ℕ → Key → World → Outcome World
 dequeue number key w =
     if nat_lt number workers_end && is_idle w number && is_served w w.ready key
@@ -71,7 +75,7 @@ dequeue number key w =
 
 -- ---- Snap
 
--- at first, or after a plan of which something was dropped while tries remain
+-- a worker may take a snapshot after it has dequeued, or after something of its plan was dropped while tries remain
 abbrev pub may_snap : ℕ → Phase → Bool
 may_snap tries Phase.Took = true
 may_snap tries Phase.Snapped = false
@@ -95,7 +99,7 @@ snap number ns w = at_work number ns w (snap_for number ns w)
 -- ---- Submit
 
 -- Neither the headline nor the wire rests on this and the next: the type of a worker's row keeps it.
--- from Submit on a row has the plan of its snapshot, until it looks again
+-- the snapshot whose plan a worker's row has: the kept one from Submit on, until the worker takes another snapshot
 abbrev pub planned_in : Phase → Option Snapshot → Option Snapshot
 planned_in Phase.Took kept = None
 planned_in Phase.Snapped kept = None
@@ -110,7 +114,7 @@ abbrev pub is_snapped : Phase → Bool
 is_snapped Phase.Snapped = true
 is_snapped _ = false
 
--- the plan of the kept snapshot stops or places something
+-- the worker has taken its snapshot and not submitted since, and the plan stops or places something
 abbrev pub may_submit : Worker → Snapshot → Bool
 may_submit worker kept = is_snapped worker.phase && not (does_nothing (plan kept))
 
@@ -130,7 +134,7 @@ submit number ns w = at_work number ns w
 
 -- ---- Finish
 
--- after a snapshot whose plan is empty, after a plan of which nothing was dropped, or when the tries are used up
+-- a worker may finish after a snapshot whose plan does nothing, after a plan with nothing dropped, or without tries left
 abbrev pub may_finish_in : Phase → ℕ → Snapshot → Bool
 may_finish_in Phase.Took tries kept = false
 may_finish_in Phase.Snapped tries kept = does_nothing (plan kept)
@@ -147,15 +151,15 @@ has_failed worker = nat_eq worker.tries 0
 abbrev pub end_of : Worker → Status
 end_of worker = if has_failed worker then Status.Failed else Status.Complete
 
--- something was missing and not placed, or the tries are used up
+-- the evaluation needs a follower: a missing allocation was not placed, or the tries are used up
 abbrev pub needs_follower : Worker → Snapshot → Bool
 needs_follower worker kept = has_failed worker || is_short (plan kept)
 
--- the quota that ended placing
+-- the quota that ended placing, if a quota did
 abbrev pub limiting_quota : Snapshot → Option Name
 limiting_quota kept = if (plan kept).placing.quota_limited then option_map (λ q. q.name) kept.quota else None
 
--- the follower as it would be blocked. After a failure it escapes, and is not quota-limited
+-- the follower as it would be blocked. After a failure it escapes classes, and no quota limits it
 abbrev pub follower_of : Evaluation → Worker → Snapshot → Evaluation
 follower_of e worker kept = record {
   job = e.job;
@@ -186,10 +190,11 @@ without_blocked ns job t w = option_map_or (λ n. record w { blocked = without_k
 abbrev pub cancel_blocked : Name → Tenant → Tenant
 cancel_blocked job t = option_map_or (λ n. with_status n Status.Canceled t) (blocked_of t job) t
 
--- the evaluation has ended, the job's blocked one is canceled, and the worker is idle
+-- the evaluation has ended with that status, the job's blocked evaluation is canceled, and the worker is idle
 abbrev pub ended : ℕ → Worker → Evaluation → Status → Tenant → Tenant
 ended number worker e status t = cancel_blocked e.job (with_status worker.evaluation status (without_worker number t))
 
+-- evaluation n names its follower
 abbrev pub tied_to : ℕ → ℕ → Tenant → Tenant
 tied_to n follower t = option_map_or (λ e. record t
     { evaluations = insert t.evaluations n (record e { follower = Some follower }) }) (get t.evaluations n) t
@@ -203,7 +208,7 @@ with_follower n follower t =
       evaluations = insert (tied_to n number t).evaluations number follower;
     }
 
--- a follower that missed a release is pending and waits; else it is blocked
+-- a follower that missed a release is pending, and waits until `promote` makes it ready; any other is blocked
 abbrev pub followed : Name → Worker → Evaluation → Tenant → Bool → World → World
 followed ns worker follower t true w =
     put_tenant ns (with_follower worker.evaluation (record follower { status = Status.Pending }) t) w
@@ -236,19 +241,20 @@ abbrev pub is_submitted : Phase → Bool
 is_submitted Phase.Submitted = true
 is_submitted _ = false
 
+-- an evaluation fails at its third nack
 abbrev pub most_nacks : ℕ
 most_nacks = 3
 
 abbrev pub with_nack : ℕ → Evaluation → Tenant → Tenant
 with_nack n e t = record t { evaluations = insert t.evaluations n (record e { nacks = e.nacks + 1 }) }
 
--- it is ready again, behind the others
+-- the worker is idle, and the evaluation is ready again, at the end of the queue
 abbrev pub given_back : ℕ → Name → World → Tenant → Worker → Outcome World
 given_back number ns w t worker =
     Done (Content.Nacked Status.Pending)
     (record (put_tenant ns (without_worker number t) w) { ready = w.ready ++ (ns, worker.evaluation) ∷ [] })
 
--- it ends, without a follower, and the next one of its job is ready
+-- the worker is idle, the evaluation fails without a follower, and the next one of its job becomes ready
 abbrev pub given_up : ℕ → Name → World → Tenant → Worker → Evaluation → Outcome World
 given_up number ns w t worker e =
     Done (Content.Nacked Status.Failed)

@@ -7,6 +7,7 @@ pub record Worker : Type 0 where
   -- the number of its evaluation in the namespace
   pub evaluation : ℕ
   pub phase : Phase
+  -- how many tries remain
   pub tries : ℕ
   -- the snapshot that it took last
   pub kept : Option Snapshot
