@@ -1,5 +1,5 @@
 -- Room for entries at places, and the loops over entries and keys.
-use Rattle.std.specs.Prelude.{◌≡◌, ℕ, ◌+◌, ◌<◌, ◌≤◌, ◌^◌, Bool, true, false, cond, not, ◌||◌, IsTrue, List, [], ◌∷◌, ◌++◌, map, filter, length}
+use Rattle.std.specs.Prelude.{◌≡◌, ℕ, ◌+◌, ◌<◌, ◌≤◌, ◌^◌, Bool, true, false, cond, not, ◌&&◌, ◌||◌, IsTrue, List, [], ◌∷◌, ◌++◌, map, filter, length}
 use Rattle.std.proofs.Common.{refl, sym, ap, subst, ◌∙◌, arith, add-one, append_assoc, drop, get_or, take}
 use Rattle.std.proofs.Math.ListN.{drop_of_length-le}
 use Rattle.std.proofs.Math.Seq.{take-suc}
@@ -56,6 +56,11 @@ reserved_next old new n i m es x lt is at bound keeps r h =
 abbrev pub IsFilling : BlockedList → List BlockedEvaluation → List BlockedEvaluation → Type 0
 IsFilling b rest all = (entries_of b ++ rest ≡ all) × CanAdd rest b
 
+-- and the rest is as new to the list as all of them were to the one that there was first
+abbrev pub IsChecking : BlockedList → BlockedList → List BlockedEvaluation → List BlockedEvaluation → Type 0
+IsChecking first b rest entries =
+    IsFilling b rest (entries_of first ++ entries) × (are_new (keys_of first) entries ≡ are_new (keys_of b) rest)
+
 -- and the rest is new
 abbrev pub IsAppending : BlockedList → List BlockedEvaluation → List BlockedEvaluation → Type 0
 IsAppending b rest all = IsFilling b rest all × IsTrue (are_new (keys_of b) rest)
@@ -75,6 +80,36 @@ module _ (old new : BlockedList) (e : BlockedEvaluation) (rest left all : List B
     ap (λ l. l ++ left) entries ∙ append_assoc (entries_of old) (e ∷ []) left ∙ ap (λ l. entries_of old ++ l) (sym steps) ∙ h.0,
     subst (λ n. HasRoomFrom n left new.index) (sym next) (room_from old.index new.index keeps (old.next + 1) left can_next.2),
   )
+
+module _ (first old new : BlockedList) (e : BlockedEvaluation) (rest left entries : List BlockedEvaluation) (steps : rest ≡ e ∷ left)
+    (h : IsChecking first old rest entries) where
+  left_with : Bool → Bool
+  left_with there = not there && are_new (keys_of old ++ e.key ∷ []) left
+
+  now_new : are_new (keys_of first) entries ≡ left_with (has_key (keys_of old) e.key)
+  unfolding left_with
+  now_new = h.1 ∙ ap (are_new (keys_of old)) steps
+
+  -- an entry that is in the list already is not new
+  pub not_new : has_key (keys_of old) e.key ≡ true → are_new (keys_of first) entries ≡ false
+  unfolding left_with
+  not_new there = now_new ∙ ap left_with there
+
+  pub checked : has_key (keys_of old) e.key ≡ false → entries_of new ≡ entries_of old ++ e ∷ [] → new.next ≡ old.next + 1 →
+      KeepsIndexRoom old.index new.index → IsChecking first new left entries
+  unfolding left_with
+  checked fresh put next keeps = (
+    filled old new e rest left (entries_of first ++ entries) steps h.0 put next keeps,
+    now_new ∙ ap left_with fresh ∙ ap (λ keys. are_new keys left) (sym (keys_with put)),
+  )
+    where
+      keys_with : entries_of new ≡ entries_of old ++ e ∷ [] → keys_of new ≡ keys_of old ++ e.key ∷ []
+      keys_with put = ap (map (λ (e : BlockedEvaluation). e.key)) put ∙ map-append (λ (e : BlockedEvaluation). e.key) (entries_of old) (e ∷ [])
+
+-- when none is left, all were new
+pub all_new : (first b : BlockedList) (rest entries : List BlockedEvaluation) → IsChecking first b rest entries → rest ≡ [] →
+    are_new (keys_of first) entries ≡ true
+all_new first b rest entries h none = h.1 ∙ ap (are_new (keys_of b)) none
 
 module _ (old new : BlockedList) (e : BlockedEvaluation) (rest left all : List BlockedEvaluation) (steps : rest ≡ e ∷ left) (h : IsAppending old rest all) where
   new_next : IsTrue (are_new (keys_of old) (e ∷ left))

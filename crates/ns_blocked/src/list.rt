@@ -162,7 +162,8 @@ impl BlockedList {
     /// returns false, some of them may be in the list. It takes no memory.
     pub fn append_new(&mut self, entries: Rows<BlockedEvaluation>) -> bool
         requires { CanAdd entries self.old }
-        ensures { result ≡ true → entries_of self.new ≡ entries_of self.old ++ entries }
+        ensures new { result ≡ are_new (keys_of self.old) entries }
+        ensures entries { result ≡ true → entries_of self.new ≡ entries_of self.old ++ entries }
     {
         for entry in entries.into_vec() {
             if self.has(entry.key.namespace(), entry.key.number()) {

@@ -1,6 +1,6 @@
 //! The three indexes together, and whether they are known to be right.
 
-ghost use Rattle.std.specs.Prelude.{◌≡◌, IfOk, false, option_copied, option_map};
+ghost use Rattle.std.specs.Prelude.{◌≡◌, IfOk, false, option_copied, option_map, true};
 ghost use Rattle.ns_change.specs.Settled.{settled_world};
 ghost use Rattle.ns_queues.specs.Turns.{AreRight, BringsComing, IsNew, IsRight};
 ghost use Rattle.ns_types.specs.State.Rows.{World};
@@ -64,7 +64,8 @@ impl Turns {
     /// The indexes of a server that has just started: no worker is busy, and no evaluation is ready or blocked. It takes no
     /// memory.
     pub fn new(alloc: Global) -> Turns
-        ensures { IsNew result }
+        ensures new { IsNew result }
+        ensures known { result.is_known ≡ true }
     {
         Turns::all_idle(alloc, true)
     }
@@ -107,6 +108,7 @@ impl Turns {
     /// Makes room for what a step adds to the indexes, and returns it. Want of memory is the only error.
     pub fn reserve(&mut self, tables: &Tables, settled: &Settled) -> Result<Coming, AllocError>
         ensures same { (w : World) → IsRight w self.old → IsRight w self.new }
+        ensures known { self.new.is_known ≡ self.old.is_known }
         ensures ok { IfOk result (λ coming.
             BringsComing (world_of tables.now) settled.now coming self.new) }
     {

@@ -11,4 +11,4 @@ returns c = λ _. followed (world_of c.args.tables.now) c.args.settled.now c.arg
     (c.take_out.ensures.entries ∙ ap (λ (keys : List Key). filter (λ e. not (has_key keys e.key)) (entries_of c.args.list.now)) c.as_slice-taken.ensures)
     (c.any_moved.ensures c.if-any_moved.false (still_unmoved c.take_out.new.self)) c.requires.added
     (omega (arith, ap length c.as_slice.ensures, ap length c.as_slice-2.ensures, c.if-as_slice.false))
-    (c.clear_keys.ensures ∙ c.append_new.ensures c.if-not-append_new.false)
+    (c.clear_keys.ensures ∙ c.append_new.ensures.entries c.if-not-append_new.false)
