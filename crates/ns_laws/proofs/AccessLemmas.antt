@@ -27,10 +27,10 @@ use Rattle.ns_types.proofs.Named.{names, one_name, same_name_is, same_name_refl}
 use Rattle.ns_types.proofs.TableRows.{some_row}
 use Rattle.ns_types.proofs.Tables.{each_row}
 use Rattle.ns_laws.proofs.SecretsLemmas.{only_managers_administer}
-use Rattle.ns_laws.proofs.TokenLemmas.{made, same_done}
+use Rattle.ns_laws.proofs.TokenLemmas.{same_done}
 use Rattle.ns_laws.specs.Secrets as law
 use Rattle.ns_laws.proofs.RightsLemmas.{unknown_is_denied}
-use Rattle.ns_laws.proofs.StepLemmas.{same_state, not_said}
+use Rattle.ns_laws.proofs.StepLemmas.{made, same_state, not_said}
 
 -- ---- who changes the access lists
 
@@ -176,7 +176,7 @@ content_made : (step : Step) (s t : State) (reply : Reply) (content : Content) �
     reply.content ≡ content
 content_made step s t reply content acts e =
     let m = made step s t reply e in
-    sym (ap (λ (r : Reply). r.content) m.says) ∙ (same_done _ _ _ _ (sym m.acts ∙ acts)).0
+    sym (ap (λ (r : Reply). r.content) m.replied) ∙ (same_done _ _ _ _ (sym m.acts ∙ acts)).0
 
 pub list_shows_readable : law.ListShowsReadable
 unfolding act administer

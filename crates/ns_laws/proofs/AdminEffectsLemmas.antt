@@ -1,7 +1,7 @@
 -- What administrators ask does what it says.
-use Rattle.std.specs.Prelude.{◌≡◌, ◌≢◌, Bool, true, false, cond, List, [], ◌∷◌, find, Option, Some, None, Ok, option_map, is_some}
+use Rattle.std.specs.Prelude.{◌≡◌, Bool, true, false, Option, Some, None, Ok, option_map}
 use Rattle.std.proofs.Common.{refl, sym, ap, subst, ◌∙◌}
-use Rattle.std.specs.FinMap.{get, insert, remove, contains_key, entries, same_map, get-empty}
+use Rattle.std.specs.FinMap.{get, insert, remove, same_map, get-empty}
 use Rattle.std.specs.Option.{option_and_then}
 use Rattle.ns_types.specs.declared.records.Namespace.{Namespace}
 use Rattle.ns_types.specs.declared.records.Pool.{Pool}
@@ -13,15 +13,11 @@ use Rattle.ns_types.specs.Asking.Admins.{delete_pool}
 use Rattle.ns_types.specs.Asking.Policies.{administer, with_world}
 use Rattle.ns_types.specs.Settling.Making.{put_tenant, put_pool}
 use Rattle.ns_types.specs.Settling.Settle.{settle}
-use Rattle.ns_types.specs.State.Lists.{Each}
 use Rattle.ns_types.specs.State.Names.{Name, same_name, name_cmp}
-use Rattle.ns_types.specs.State.Rows.{State, World, Tenant, PoolRows, QuotaRows, Acl, node_at}
+use Rattle.ns_types.specs.State.Rows.{State, World, Tenant, PoolRows, QuotaRows, node_at}
 use Rattle.ns_types.specs.Steps.{after, act, said, settled}
-use Rattle.ns_types.proofs.Lists.{not_both, left_none}
 use Rattle.ns_types.proofs.Named.{names, one_name, numbers, one_number, same_name_is}
 use Rattle.ns_types.proofs.TableRows.{get_other}
-use Rattle.ns_types.proofs.Tables.{each_row}
-use Rattle.ns_types.proofs.Tests.{not_Some, same_Some}
 use Rattle.ns_laws.specs.Effects as law
 use Rattle.ns_laws.specs.Effects.{HasNamespace, KeepsOtherNamespaces, quota_at, KeepsOtherQuotas, pool_at, KeepsOtherPools, KeepsNodes}
 use Rattle.ns_laws.proofs.EffectRows.{Does, does_unless, does_found, does_lift, after_does, put_there, put_elsewhere, removed, removed_elsewhere}

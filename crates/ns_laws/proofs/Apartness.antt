@@ -150,7 +150,7 @@ row_of w k namespace is = by (get w.tenants k) refl is
     by None at is = absurd (not_Some _ is)
     by (Some t) at is = record { tenant = t; is_row = at; same = same_Some _ _ is }
 
-inside : (test home : Bool) → (test ≡ true → home ≡ true) → (test && not home) ≡ false
+pub inside : (test home : Bool) → (test ≡ true → home ≡ true) → (test && not home) ≡ false
 inside true home h = ap not (h refl)
 inside false home h = refl
 

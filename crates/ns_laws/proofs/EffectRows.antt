@@ -22,14 +22,15 @@ use Rattle.ns_types.specs.Settling.Settle.{stamp, settle, is_changed, changes_jo
 use Rattle.ns_types.specs.State.Names.{Name, Key, ByName, ByNumber, name_cmp, has_key}
 use Rattle.ns_types.specs.State.Rows.{State, World, Tenant, PoolRows, QuotaRows, node_at}
 use Rattle.ns_types.specs.State.Tables.{any_row}
-use Rattle.ns_types.specs.Steps.{Answer, after, act, said, concluded, is_allowed, is_past_bound, reply_of, settled}
+use Rattle.ns_types.specs.Steps.{after, act, said, concluded, is_allowed, is_past_bound, reply_of, settled}
 use Rattle.ns_types.proofs.Named.{names, one_name, numbers, one_number, same_name_refl, same_name_is}
 use Rattle.ns_types.proofs.Queue.{queue_keeps, queues_keep}
 use Rattle.ns_types.proofs.Settling.{kept_allocation}
 use Rattle.ns_types.proofs.TableRows.{get_put, get_other, some_row}
 use Rattle.ns_types.proofs.Tables.{get-map_rows}
 use Rattle.ns_types.proofs.Tests.{third_of_four}
-use Rattle.ns_laws.proofs.StepLemmas.{same_answer, same_state, not_said, not_refused}
+use Rattle.ns_laws.proofs.StepLemmas.{same_answer, same_reply, same_state, not_said, not_refused}
+use Rattle.ns_laws.proofs.WakingLemmas.{release_nodes}
 
 -- ---- where the step is made, this holds of what it says and of what it leaves
 
@@ -68,14 +69,6 @@ pub does_lift : {A B : Type 0} (Q : Content → B → Type 0) (whole : A → B) 
 does_lift Q whole NotEnabled h = tt
 does_lift Q whole (Refused refusal) h = tt
 does_lift Q whole (Done content a) h = h
-
-reply_or : Reply → Answer → Reply
-reply_or other (Ok reply) = reply
-reply_or other (Err refusal) = other
-
-same_reply : (a b : Reply) → ◌≡◌ {A = Answer} (Ok a) (Ok b) → a ≡ b
-unfolding reply_or
-same_reply a b e = ap (reply_or a) e
 
 module _ (step : Step) (s s' : State) (reply : Reply) (Q : Reply → State → Type 0) where
   abbrev pub AtEnd : Content → State → Type 0
@@ -344,10 +337,6 @@ module _ {A : Type 0} (w w' : World) (name : Name) where
       by None = refl
       by (Some t) = ap Some (stamp_keeps part same (get w.tenants name) (unblocked_in (woken w w') name t) ∙ woke (woken w w') t)
 
-same_nodes : (classes : List Class) (p : PoolRows) → (after_release classes p).nodes ≡ p.nodes
-same_nodes [] p = refl
-same_nodes (class ∷ classes) p = refl
-
 pub same_record : (classes : List Class) (p : PoolRows) → (after_release classes p).pool ≡ p.pool
 same_record [] p = refl
 same_record (class ∷ classes) p = refl
@@ -366,4 +355,4 @@ node_of_parts w pool name = by (get w.pools pool)
 
 pub settled_node : (w w' : World) (pool name : Name) → node_at (settle w w') pool name ≡ node_at w' pool name
 settled_node w w' pool name = node_of_parts (settle w w') pool name
-    ∙ ap (option_and_then (λ nodes. get nodes name)) (settled_pool w w' pool (λ p. p.nodes) same_nodes) ∙ sym (node_of_parts w' pool name)
+    ∙ ap (option_and_then (λ nodes. get nodes name)) (settled_pool w w' pool (λ p. p.nodes) release_nodes) ∙ sym (node_of_parts w' pool name)

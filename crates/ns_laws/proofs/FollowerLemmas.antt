@@ -33,7 +33,8 @@ use Rattle.ns_types.proofs.TableRows.{get_put}
 use Rattle.ns_types.proofs.Tables.{get-map_rows, none_of_any}
 use Rattle.ns_types.proofs.Tests.{and_yes, not_Some, same_Some}
 use Rattle.ns_laws.specs.Waking.{MissedNothing, FollowerMissedNothing}
-use Rattle.ns_laws.proofs.WakingLemmas.{can_use_of, closed_tenant, made_by, settled_tenants}
+use Rattle.ns_laws.proofs.StepLemmas.{made}
+use Rattle.ns_laws.proofs.WakingLemmas.{can_use_of, closed_tenant, settled_tenants}
 
 -- ---- what no release after the snapshot says
 
@@ -282,8 +283,8 @@ finish_row number ns w x worker kept content n e has keeps is some later blocked
 pub follower_missed_nothing : FollowerMissedNothing
 unfolding act follower_in
 follower_missed_nothing s t number ns worker kept reply status n e has keeps is replied later blocked =
-    let made = made_by (Step.Finish number ns) s t reply is in
-    let own = lifted s.acl (finish number ns s.world) made.content made.own made.acts in
-    let some = ap follower_in (ap (λ (r : Reply). r.content) made.replied ∙ replied) in
-    let there = (λ i. evaluation_at (settle s.world (own.leads i)) (ns, n)) ∙ ap (λ (t : State). evaluation_at t.world (ns, n)) made.leads ∙ later in
-    finish_row number ns s.world own.world worker kept made.content n e has keeps own.done some there blocked
+    let m = made (Step.Finish number ns) s t reply is in
+    let own = lifted s.acl (finish number ns s.world) m.content m.own m.acts in
+    let some = ap follower_in (ap (λ (r : Reply). r.content) m.replied ∙ replied) in
+    let there = (λ i. evaluation_at (settle s.world (own.leads i)) (ns, n)) ∙ ap (λ (t : State). evaluation_at t.world (ns, n)) m.leads ∙ later in
+    finish_row number ns s.world own.world worker kept m.content n e has keeps own.done some there blocked

@@ -42,7 +42,7 @@ use Rattle.ns_types.specs.State.Rows.{State, World, Tenant, PoolRows, QuotaRows,
 use Rattle.ns_types.specs.State.Sums.{names_quota, quota_use}
 use Rattle.ns_types.specs.Steps.{Answer, said, act, after, is_allowed, concluded, reply_of, settled, is_past_bound}
 use Rattle.ns_types.proofs.Leads.{Leads, leads_unless, leads_refused, leads_found, leads_if, leads_lift}
-use Rattle.ns_types.proofs.Named.{names, one_name, numbers, one_number, same_name_is, first_of_both}
+use Rattle.ns_types.proofs.Named.{names, one_name, numbers, one_number, first_of_both}
 use Rattle.ns_types.proofs.Queue.{queue_keeps, queues_keep}
 use Rattle.ns_types.proofs.Settling.{kept_evaluation, kept_allocation}
 use Rattle.ns_types.proofs.TableRows.{get_put, get_other}
@@ -51,6 +51,7 @@ use Rattle.ns_types.proofs.Tests.{not_Some, same_Some}
 use Rattle.ns_audit.proofs.Alone.Recording.{record_kept}
 use Rattle.ns_audit.proofs.Alone.Records.{plain_keeps}
 use Rattle.ns_laws.proofs.QueueLemmas.{woken_are_called}
+use Rattle.ns_laws.proofs.SharingLemmas.{other_name}
 use Rattle.ns_laws.proofs.StepLemmas.{same_answer, same_state, not_said, not_refused}
 use Rattle.ns_laws.specs.Reach as law
 
@@ -330,13 +331,6 @@ same_left w ns t = record {
   told = inl (refl, refl);
 }
 
-other_name : (a b : Name) → b ≢ a → same_name b a ≡ false
-other_name a b ne = by (same_name b a) refl
-  where
-    by : (c : Bool) → same_name b a ≡ c → same_name b a ≡ false
-    by true e = absurd (ne (same_name_is b a e))
-    by false e = e
-
 pub ask_stays_inside : law.AskStaysInside
 ask_stays_inside ns other secret command s s' answer old another e is = by (led s s' (Step.Ask ns secret command) answer e)
   where
@@ -344,7 +338,7 @@ ask_stays_inside ns other secret command s s' answer old another e is = by (led 
         (t : Tenant) × (get s'.world.tenants other ≡ Some t) × law.IsLeft s.world other old t
     by (inl refused) = (old, ap (λ (y : State). get y.world.tenants other) (sym refused.0) ∙ is, same_left s.world other old)
     by (inr l) =
-        let own = (own_stays s s' ns secret command answer l).elsewhere other (other_name ns other another) ∙ is in (
+        let own = (own_stays s s' ns secret command answer l).elsewhere other (other_name other ns (λ same. another (sym same))) ∙ is in (
           stamp_tenant (Some old) (unblocked_in (woken s.world l.own.world) other old),
           ap (λ (y : State). get y.world.tenants other) (sym l.is) ∙ there_settled s.world l.own.world other old own ∙
               ap (λ o. Some (stamp_tenant o (unblocked_in (woken s.world l.own.world) other old))) is,

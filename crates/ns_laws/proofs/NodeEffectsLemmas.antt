@@ -44,10 +44,10 @@ use Rattle.ns_laws.proofs.EffectRows.{settled_rows, settled_there, settled_jobs,
 use Rattle.ns_laws.proofs.EffectRows.{made_there, number_there}
 
 module _ (s : State) (pool : Name) (secret : Option Name) (command : NodeCommand) (Q : State → Type 0) where
-  abbrev AtWorld : Content → World → Type 0
+  abbrev pub AtWorld : Content → World → Type 0
   AtWorld content x = Q (with_world s.acl (settle s.world x))
 
-  pool_does : ((p : PoolRows) → get s.world.pools pool ≡ Some p → Does AtWorld (asked_in_pool pool command s.world p)) → (s' : State) (reply : Reply) →
+  pub pool_does : ((p : PoolRows) → get s.world.pools pool ≡ Some p → Does AtWorld (asked_in_pool pool command s.world p)) → (s' : State) (reply : Reply) →
       after (Step.Node pool secret command) s ≡ said (Ok reply) s' → Q s'
   unfolding act ask_pool
   pool_does h s' reply e = after_does (Step.Node pool secret command) s s' reply (λ r y. Q y) e

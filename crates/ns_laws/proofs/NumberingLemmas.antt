@@ -66,7 +66,7 @@ pub room_is_numbered : RoomIsNumbered
 room_is_numbered w x pool name own later row is after at opens =
     let same = same_Some (after_release (released_classes w x pool own) own) later
     (sym (settled_pools w x pool ∙ ap (option_map (λ p. after_release (released_classes w x pool p) p)) is) ∙ after) in
-    let there = ap (λ m. get m name) (sym (release_nodes w x (released_classes w x pool own) own)) ∙ ap (λ (p : PoolRows). get p.nodes name) same ∙ at in
+    let there = ap (λ m. get m name) (sym (release_nodes (released_classes w x pool own) own)) ∙ ap (λ (p : PoolRows). get p.nodes name) same ∙ at in
     by same there (gives_room w x pool name row) refl
   where
     by : after_release (released_classes w x pool own) own ≡ later → get own.nodes name ≡ Some row → (b : Bool) → gives_room w x pool name row ≡ b →

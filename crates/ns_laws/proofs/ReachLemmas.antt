@@ -3,8 +3,6 @@ use Rattle.std.specs.Prelude.{◌≡◌, ◌≢◌, ℕ, suc, Bool, true, false,
 use Rattle.std.specs.Prelude.{is_some}
 use Rattle.std.proofs.Common.{refl, sym, ap, subst, ◌∙◌, arith}
 use Rattle.std.proofs.lemmas.Bool.{leb-true, le-leb}
-use Rattle.std.proofs.lemmas.Map.Views.{list_any-from_Contains, Contains-from_any}
-use Rattle.std.specs.Cmp.{eq_by_cmp_equiv}
 use Rattle.std.specs.FinMap.{get, len, contains_key}
 use Rattle.std.specs.List.{Contains, list_any, list_all}
 use Rattle.std.specs.Option.{option_map_or}
@@ -30,17 +28,12 @@ use Rattle.ns_types.proofs.Named.{names, one_name, numbers, one_number, same_nam
 use Rattle.ns_types.proofs.Tables.{any_row-none}
 use Rattle.ns_types.proofs.Tests.{is_no}
 use Rattle.ns_audit.proofs.Alone.Bordering.{among, foreign, one_of_all, within}
-use Rattle.ns_laws.proofs.SharingLemmas.{apart_is_confined, apart_keeps_to_its_pools}
+use Rattle.ns_laws.proofs.Apartness.{inside}
+use Rattle.ns_laws.proofs.SharingLemmas.{apart_is_confined, apart_keeps_to_its_pools, found_in, has_contained, other_name}
 use Rattle.ns_laws.specs.Sharing.{KeepsToPools}
 use Rattle.ns_laws.specs.Reach as law
 
 -- ---- names in lists
-
-found_in : (xs : List Name) (name : Name) → has_name xs name ≡ true → Contains xs name
-found_in xs name e = Contains-from_any same_name_is name xs e
-
-has_contained : (xs : List Name) (name : Name) → Contains xs name → has_name xs name ≡ true
-has_contained xs name h = list_any-from_Contains (eq_by_cmp_equiv names) name xs h
 
 lacks : (xs : List Name) (name : Name) → (Contains xs name → ⊥) → has_name xs name ≡ false
 lacks xs name none = by (has_name xs name) refl
@@ -110,10 +103,6 @@ module _ (pools quotas : List Name) (namespace : Namespace) where
 
 -- ---- what it keeps
 
-inside : (test home : Bool) → (test ≡ true → home ≡ true) → (test && not home) ≡ false
-inside true home h = ap not (h refl)
-inside false home h = refl
-
 strays_not : (pools : List Name) (t : Tenant) → KeepsToPools pools t → strays_from pools t ≡ false
 strays_not pools t keeps = λ i.
     any_row-none numbers one_number (λ _ e. is_open e.status && not (has_name pools e.pool)) t.evaluations
@@ -132,13 +121,6 @@ stays : (pools quotas : List Name) (t : Tenant) → law.KeepsIn pools quotas t �
 stays pools quotas t h = λ i. ap is_some h.confined.1 i && names_are pools quotas t.namespace h.names i && not (strays_not pools t h.keeps i)
 
 -- ---- when it has them to itself
-
-other_name : (a b : Name) → b ≢ a → same_name a b ≡ false
-other_name a b ne = by (same_name a b) refl
-  where
-    by : (c : Bool) → same_name a b ≡ c → same_name a b ≡ false
-    by true e = absurd (ne (sym (same_name_is a b e)))
-    by false e = e
 
 abbrev IsSo : World → Name → List Name → List Name → Type 0
 IsSo w ns pools quotas = ((t : Tenant) → get w.tenants ns ≡ Some t → law.KeepsIn pools quotas t)

@@ -33,7 +33,7 @@ use Rattle.ns_laws.proofs.StepLemmas.{same_answer, not_said, not_refused}
 -- ---- outcomes
 
 -- whether an outcome is no refusal, or one that passes
-abbrev only : {S : Type 0} → (Refusal → Bool) → Outcome S → Bool
+abbrev pub only : {S : Type 0} → (Refusal → Bool) → Outcome S → Bool
 only passes NotEnabled = true
 only passes (Refused refusal) = passes refusal
 only passes (Done content s) = true
@@ -138,7 +138,7 @@ administered secret (AdminCommand.DeleteToken accessor) s =
 
 -- ---- workers
 
-abbrev never : Refusal → Bool
+abbrev pub never : Refusal → Bool
 never refusal = false
 
 by_at_work : (number : ℕ) (ns : Name) (w : World) (go : Tenant → Worker → Evaluation → Outcome World) →
@@ -181,7 +181,7 @@ nacked number ns w = by_at_work number ns w (nack_for number ns w) (λ t worker 
 
 -- ---- steps
 
-worker_acts : (step : Step) (s : State) → law.is_of_worker step ≡ true → only never (act step s) ≡ true
+pub worker_acts : (step : Step) (s : State) → law.is_of_worker step ≡ true → only never (act step s) ≡ true
 unfolding act
 worker_acts (Step.Ask ns secret command) s e = not_both e refl
 worker_acts (Step.Admin secret command) s e = not_both e refl

@@ -66,7 +66,7 @@ module _ (s : State) (secret : Option Name) (ns : Name) (r : Registration) where
   tested t is e f g h = acts_in t is ∙ (λ i. in_state (refused_by (by_tests (e i) (f i) (g i) (h i)) (done t)))
 
   -- what speaks against it where a test holds
-  other_against : (t : Tenant) → get s.world.tenants ns ≡ Some t → is_outdated r t ≡ true → SpeaksAgainst s secret ns r Refusal.Conflict
+  pub other_against : (t : Tenant) → get s.world.tenants ns ≡ Some t → is_outdated r t ≡ true → SpeaksAgainst s secret ns r Refusal.Conflict
   other_against t is e = by r.enforced refl e
     where
       by : (o : Option ℕ) → r.enforced ≡ o → option_map_or (λ index. not (meets (get t.jobs r.id) index)) o false ≡ true →
@@ -74,7 +74,7 @@ module _ (s : State) (secret : Option Name) (ns : Name) (r : Registration) where
       by None f e = not_both e refl
       by (Some index) f e = law.other_index t index is f (is_no (meets (get t.jobs r.id) index) e)
 
-  room_against : (t : Tenant) → get s.world.tenants ns ≡ Some t → has_no_room r t ≡ true → SpeaksAgainst s secret ns r Refusal.Full
+  pub room_against : (t : Tenant) → get s.world.tenants ns ≡ Some t → has_no_room r t ≡ true → SpeaksAgainst s secret ns r Refusal.Full
   room_against t is e = law.no_room t is (is_no (contains_key t.jobs r.id) (first_of_both (not (contains_key t.jobs r.id)) _ e))
       (leb-true most_jobs (len t.jobs) (second_of_both (not (contains_key t.jobs r.id)) _ e))
 

@@ -111,16 +111,16 @@ pool_rights_are_granted acl secret policies pool has =
 -- ---- the rules of policies
 
 module _ {X : Type 0} where
-  abbrev Has : List X → X → Type 0
+  abbrev pub Has : List X → X → Type 0
   Has [] x = ⊥
   Has (y ∷ ys) x = (y ≡ x) ⊎ Has ys x
 
-  has_from : (xs : List X) (x : X) (k : ℕ) → k < length xs → slice_index_or xs k x ≡ x → Has xs x
+  pub has_from : (xs : List X) (x : X) (k : ℕ) → k < length xs → slice_index_or xs k x ≡ x → Has xs x
   has_from [] x k lt e = absurd (omega (arith, lt))
   has_from (y ∷ ys) x zero lt e = inl e
   has_from (y ∷ ys) x (suc k) lt e = inr (has_from ys x k (omega (arith, lt)) e)
 
-  contains_from : (xs : List X) (x : X) → Has xs x → Contains xs x
+  pub contains_from : (xs : List X) (x : X) → Has xs x → Contains xs x
   contains_from [] x h = absurd h
   contains_from (y ∷ ys) x (inl e) = (0, omega arith, e)
   contains_from (y ∷ ys) x (inr h) = let rest = contains_from ys x h in (suc rest.0, omega (arith, rest.1), rest.2)
@@ -134,7 +134,7 @@ module _ {X : Type 0} where
       by (inl h) = inl (inr h)
       by (inr h) = inr h
 
-  append_has : (xs ys : List X) (x : X) → Has xs x ⊎ Has ys x → Has (xs ++ ys) x
+  pub append_has : (xs ys : List X) (x : X) → Has xs x ⊎ Has ys x → Has (xs ++ ys) x
   append_has [] ys x (inl h) = absurd h
   append_has [] ys x (inr h) = h
   append_has (y ∷ xs) ys x (inl (inl e)) = inl e
@@ -151,7 +151,7 @@ module _ {X : Type 0} where
       by later true is (inr h) = let rest = later h in (inr rest.0, rest.1)
       by later false is h = let rest = later h in (inr rest.0, rest.1)
 
-  filter_has : (p : X → Bool) (xs : List X) (x : X) → Has xs x → p x ≡ true → Has (filter p xs) x
+  pub filter_has : (p : X → Bool) (xs : List X) (x : X) → Has xs x → p x ≡ true → Has (filter p xs) x
   filter_has p [] x h t = absurd h
   filter_has p (y ∷ ys) x (inl e) t = subst (λ b. Has (cond b (y ∷ filter p ys) (filter p ys)) x) (sym (ap p e ∙ t)) (inl e)
   filter_has p (y ∷ ys) x (inr h) t = by (p y) (filter_has p ys x h t)

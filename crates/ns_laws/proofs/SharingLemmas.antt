@@ -1,7 +1,7 @@
 -- Names in lists, and what follows for a namespace that has its pools and its quotas to itself.
-use Rattle.std.specs.Prelude.{◌≡◌, ◌≢◌, ℕ, zero, suc, ◌<◌, Bool, true, false, not, ◌&&◌, ◌||◌, List, [], ◌∷◌, length, Option, Some, None, is_some}
-use Rattle.std.specs.Prelude.{slice_index_or}
-use Rattle.std.proofs.Common.{refl, sym, ap, ◌∙◌, arith, ◌⊎◌, inl, inr}
+use Rattle.std.specs.Prelude.{◌≡◌, ◌≢◌, Bool, true, false, not, ◌&&◌, ◌||◌, List, Option, Some, None, is_some}
+use Rattle.std.proofs.Common.{refl, sym, ap, ◌∙◌, ◌⊎◌, inl, inr}
+use Rattle.std.specs.Cmp.{eq_by_cmp_equiv}
 use Rattle.std.specs.List.{Contains}
 use Rattle.std.specs.Option.{option_map_or}
 use Rattle.ns_types.specs.declared.snapshot.Snapshot.{Snapshot}
@@ -10,30 +10,21 @@ use Rattle.ns_types.specs.State.Rows.{is_open, is_held}
 use Rattle.ns_types.specs.State.Tables.{any_row}
 use Rattle.ns_types.specs.Access.Sharing.{permits, permits_by}
 use Rattle.std.proofs.lemmas.Bool.{or_right}
+use Rattle.std.proofs.lemmas.Map.Views.{list_any-from_Contains, Contains-from_any}
 use Rattle.ns_types.proofs.Tests.{either_of, is_yes}
 use Rattle.ns_types.proofs.Lists.{not_both, left_none, right_none}
-use Rattle.ns_types.proofs.Named.{same_name_is, same_name_refl, one_number}
+use Rattle.ns_types.proofs.Named.{names, same_name_is, same_name_refl, one_number}
 use Rattle.ns_types.proofs.Tables.{none_of_any}
 use Rattle.ns_audit.proofs.Alone.Bordering.{confined, home, pool_side, foreign_permits, quota_side}
 use Rattle.ns_laws.specs.Sharing as law
 
 -- ---- names in lists
 
-found_in : (names : List Name) (name : Name) → has_name names name ≡ true → Contains names name
-found_in [] name e = not_both e refl
-found_in (x ∷ names) name e = by (same_name name x) refl e (found_in names name)
-  where
-    by : (b : Bool) → same_name name x ≡ b → (b || has_name names name) ≡ true → (has_name names name ≡ true → Contains names name) → Contains (x ∷ names) name
-    by true f e go = (0, omega arith, sym (same_name_is name x f))
-    by false f e go = let rest = go e in (suc rest.0, omega (arith, rest.1), rest.2)
+pub found_in : (xs : List Name) (name : Name) → has_name xs name ≡ true → Contains xs name
+found_in xs name e = Contains-from_any same_name_is name xs e
 
-has_at : (names : List Name) (name : Name) (k : ℕ) → k < length names → slice_index_or names k name ≡ name → has_name names name ≡ true
-has_at [] name k lt e = absurd (omega (arith, lt))
-has_at (x ∷ names) name zero lt e = ap (λ b. b || has_name names name) (ap (same_name name) e ∙ same_name_refl name)
-has_at (x ∷ names) name (suc k) lt e = or_right (same_name name x) (has_name names name) (has_at names name k (omega (arith, lt)) e)
-
-has_contained : (names : List Name) (name : Name) → Contains names name → has_name names name ≡ true
-has_contained names name h = has_at names name h.0 h.1 h.2
+pub has_contained : (xs : List Name) (name : Name) → Contains xs name → has_name xs name ≡ true
+has_contained xs name h = list_any-from_Contains (eq_by_cmp_equiv names) name xs h
 
 -- ---- permitted pools
 
@@ -72,7 +63,7 @@ else_all_but_denied namespace pool is = (to, from)
 
 -- ---- what a namespace has to itself
 
-other_name : (a b : Name) → b ≢ a → same_name a b ≡ false
+pub other_name : (a b : Name) → b ≢ a → same_name a b ≡ false
 other_name a b ne = by (same_name a b) refl
   where
     by : (c : Bool) → same_name a b ≡ c → same_name a b ≡ false

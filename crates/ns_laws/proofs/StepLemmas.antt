@@ -2,6 +2,7 @@
 use Rattle.std.specs.Prelude.{◌≡◌, suc, Bool, true, false, cond, T, [], ◌∷◌, Option, None, Ok, Err, unwrap_or, is_some}
 use Rattle.std.proofs.Common.{refl, sym, ap, subst, ◌∙◌}
 use Rattle.ns_types.specs.declared.refusal.Refusal.{Refusal}
+use Rattle.ns_types.specs.declared.reply.Content.{Content}
 use Rattle.ns_types.specs.declared.reply.Reply.{Reply}
 use Rattle.ns_types.specs.declared.step.Step.{Step}
 use Rattle.ns_types.specs.Settling.Outcome.{Outcome, NotEnabled, Refused, Done}
@@ -51,6 +52,47 @@ refusal_leaves_all step s t refusal e = by (is_allowed step s.acl) e
     by : (b : Bool) → cond b (concluded step s (act step s)) (said (Err Refusal.Denied) s) ≡ said (Err refusal) t → t ≡ s
     by true e = leaves_concluded step s t (act step s) refusal e
     by false e = sym (same_state _ _ s t e)
+
+-- ---- a step that is made
+
+reply_in : Answer → Reply → Reply
+reply_in (Ok reply) other = reply
+reply_in (Err refusal) other = other
+
+pub same_reply : (a b : Reply) → ◌≡◌ {A = Answer} (Ok a) (Ok b) → a ≡ b
+unfolding reply_in
+same_reply a b e = ap (λ answer. reply_in answer a) e
+
+pub record IsMade (step : Step) (s t : State) (reply : Reply) : Type 0 where
+  pub content : Content
+  pub own : State
+  pub acts : act step s ≡ Done content own
+  pub leads : settled s own ≡ t
+  pub replied : reply_of step content (settled s own).world ≡ reply
+
+pub made : (step : Step) (s t : State) (reply : Reply) → after step s ≡ said (Ok reply) t → IsMade step s t reply
+unfolding after
+made step s t reply e = by (is_allowed step s.acl) e
+  where
+    concludes : (o : Outcome State) → act step s ≡ o → concluded step s o ≡ said (Ok reply) t → IsMade step s t reply
+    concludes NotEnabled is e = not_said (Ok reply) t e
+    concludes (Refused refusal) is e = not_refused reply refusal (sym (same_answer _ _ s t e))
+    concludes (Done content own) is e = over (is_past_bound (settled s own).world) e
+      where
+        over : (b : Bool) → cond b (said (Err Refusal.Full) s) (said (Ok (reply_of step content (settled s own).world)) (settled s own)) ≡ said (Ok reply) t →
+            IsMade step s t reply
+        over true e = not_refused reply Refusal.Full (sym (same_answer _ _ s t e))
+        over false e = record {
+          content = content;
+          own = own;
+          acts = is;
+          leads = same_state _ _ (settled s own) t e;
+          replied = same_reply _ _ (same_answer _ _ (settled s own) t e);
+        }
+
+    by : (b : Bool) → cond b (concluded step s (act step s)) (said (Err Refusal.Denied) s) ≡ said (Ok reply) t → IsMade step s t reply
+    by true e = concludes (act step s) refl e
+    by false e = not_refused reply Refusal.Denied (sym (same_answer _ _ s t e))
 
 -- ---- runs
 

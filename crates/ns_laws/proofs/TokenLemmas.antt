@@ -41,12 +41,13 @@ use Rattle.ns_audit.proofs.ValidEvaluations.Pairs.{Pairs, pairs_of_distinct, pai
 use Rattle.ns_laws.specs.Secrets as law
 use Rattle.ns_laws.proofs.RefusalLemmas.{after_allowed}
 use Rattle.ns_laws.proofs.RightsLemmas.{manager_is_allowed}
-use Rattle.ns_laws.proofs.StepLemmas.{same_answer, same_state, not_said, not_refused}
+use Rattle.ns_laws.proofs.SharingLemmas.{other_name}
+use Rattle.ns_laws.proofs.StepLemmas.{made, same_state, not_said}
 
 -- ---- what changes nothing
 
 -- what an outcome leaves, if it is done, is this
-abbrev Leaves : {S : Type 0} → S → Outcome S → Type 0
+abbrev pub Leaves : {S : Type 0} → S → Outcome S → Type 0
 Leaves s NotEnabled = Unit {0}
 Leaves s (Refused refusal) = Unit {0}
 Leaves s (Done content s') = s' ≡ s
@@ -64,7 +65,7 @@ leaves_world s NotEnabled h = tt
 leaves_world s (Refused refusal) h = tt
 leaves_world s (Done content w) h = ap (with_world s.acl) h
 
-settled_idle : (s s' : State) → s' ≡ s → settled s s' ≡ s
+pub settled_idle : (s s' : State) → s' ≡ s → settled s s' ≡ s
 settled_idle s s' e = ap (settled s) e ∙ ap (with_world s.acl) (settle_same s.world)
 
 concluded_idle : (step : Step) (s t : State) (answer : Answer) (o : Outcome State) → Leaves s o → concluded step s o ≡ said answer t → t ≡ s
@@ -76,7 +77,7 @@ concluded_idle step s t answer (Done content s') h e = by (is_past_bound (settle
     by true e = sym (same_state _ _ s t e)
     by false e = sym (same_state _ _ (settled s s') t e) ∙ settled_idle s s' h
 
-idle : (step : Step) (s t : State) (answer : Answer) → (is_allowed step s.acl ≡ true → Leaves s (act step s)) → after step s ≡ said answer t → t ≡ s
+pub idle : (step : Step) (s t : State) (answer : Answer) → (is_allowed step s.acl ≡ true → Leaves s (act step s)) → after step s ≡ said answer t → t ≡ s
 unfolding after
 idle step s t answer h e = by (is_allowed step s.acl) refl e
   where
@@ -123,47 +124,6 @@ no_change_without_write s t secret pool command answer without e =
     by (NodeCommand.SetEligible name eligible) x allowed = not_both allowed without
     by (NodeCommand.Report name r) x allowed = not_both allowed without
 
--- ---- what is made
-
-pub record Made (step : Step) (s t : State) (reply : Reply) : Type 0 where
-  pub content : Content
-  pub changed : State
-  pub acts : act step s ≡ Done content changed
-  pub leaves : settled s changed ≡ t
-  pub says : reply_of step content (settled s changed).world ≡ reply
-
-reply_in : Reply → Answer → Reply
-reply_in default (Ok reply) = reply
-reply_in default (Err refusal) = default
-
-same_reply : (a b : Reply) → ◌≡◌ {A = Answer} (Ok a) (Ok b) → a ≡ b
-unfolding reply_in
-same_reply a b e = ap (reply_in a) e
-
-pub made : (step : Step) (s t : State) (reply : Reply) → after step s ≡ said (Ok reply) t → Made step s t reply
-unfolding after
-made step s t reply e = by (is_allowed step s.acl) e
-  where
-    concludes : (o : Outcome State) → act step s ≡ o → concluded step s o ≡ said (Ok reply) t → Made step s t reply
-    concludes NotEnabled is e = not_said (Ok reply) t e
-    concludes (Refused refusal) is e = not_refused reply refusal (sym (same_answer _ _ s t e))
-    concludes (Done content s') is e = over (is_past_bound (settled s s').world) e
-      where
-        over : (b : Bool) → cond b (said (Err Refusal.Full) s) (said (Ok (reply_of step content (settled s s').world)) (settled s s')) ≡ said (Ok reply) t →
-            Made step s t reply
-        over true e = not_refused reply Refusal.Full (sym (same_answer _ _ s t e))
-        over false e = record {
-          content = content;
-          changed = s';
-          acts = is;
-          leaves = same_state _ _ (settled s s') t e;
-          says = same_reply _ _ (same_answer _ _ (settled s s') t e);
-        }
-
-    by : (b : Bool) → cond b (concluded step s (act step s)) (said (Err Refusal.Denied) s) ≡ said (Ok reply) t → Made step s t reply
-    by true e = concludes (act step s) refl e
-    by false e = not_refused reply Refusal.Denied (sym (same_answer _ _ s t e))
-
 -- ---- outcomes that are done
 
 acl_of : Outcome State → Outcome Acl
@@ -184,7 +144,7 @@ unfolding acl_of
 acl_made step s t reply o acts e =
     let m = made step s t reply e in
     sym (acl_lifted s.world o) ∙ ap acl_of (sym acts ∙ m.acts)
-    ∙ (λ i. Done ((ap (λ (r : Reply). r.content) m.says) i) ((ap (λ (x : State). x.acl) m.leaves) i))
+    ∙ (λ i. Done ((ap (λ (r : Reply). r.content) m.replied) i) ((ap (λ (x : State). x.acl) m.leads) i))
 
 module _ {S : Type 0} where
   not_done : {A : Type 0} (refusal : Refusal) (content : Content) (s : S) → ◌≡◌ {A = Outcome S} (Refused refusal) (Done content s) → A
@@ -217,13 +177,6 @@ module _ {S : Type 0} where
 
 -- ---- tables
 
-other_name : (a b : Name) → a ≢ b → same_name a b ≡ false
-other_name a b differ = by (same_name a b) refl
-  where
-    by : (c : Bool) → same_name a b ≡ c → c ≡ false
-    by true e = absurd (differ (same_name_is a b e))
-    by false e = refl
-
 absent : {X : Type 0} (m : ByName X) (k : Name) → contains_key m k ≡ false → get m k ≡ None
 absent m k e = by (get m k) refl
   where
@@ -236,7 +189,7 @@ module _ {X : Type 0} (m : ByName X) (k : Name) where
   get_gone = get-remove names m k k ∙ ap (λ b. cond b None (get m k)) (same_name_refl k)
 
   get_left : (q : Name) → q ≢ k → get (remove m k) q ≡ get m q
-  get_left q other = get-remove names m k q ∙ ap (λ b. cond b None (get m q)) (other_name q k other)
+  get_left q other = get-remove names m k q ∙ ap (λ b. cond b None (get m q)) (other_name q k (λ same. other (sym same)))
 
 -- ---- tokens
 
@@ -260,7 +213,7 @@ token_is_as_asked s t secret new reply e =
       answered = sym is.0;
       shown_as_asked = record { accessor = refl; secret = refl; name = refl; kind = refl; policies = refl };
       others = λ other differ. ap (λ m. get m other) tokens
-          ∙ get_other names one_name old.tokens new.secret (token_of new) other (other_name other new.secret differ);
+          ∙ get_other names one_name old.tokens new.secret (token_of new) other (other_name other new.secret (λ same. differ (sym same)));
       same_policies = sym (ap (λ (acl : Acl). acl.policies) is.1);
     }
 
@@ -275,7 +228,7 @@ policy_is_as_put s t secret name policy reply e =
     let is = sym (same_done _ _ _ _ room.1).1 in
     let policies : t.acl.policies ≡ insert old.policies name policy = ap (λ (acl : Acl). acl.policies) is in (
       ap (λ m. get m name) policies ∙ get_put names one_name old.policies name policy,
-      (λ other differ. ap (λ m. get m other) policies ∙ get_other names one_name old.policies name policy other (other_name other name differ)),
+      (λ other differ. ap (λ m. get m other) policies ∙ get_other names one_name old.policies name policy other (other_name other name (λ same. differ (sym same)))),
       ap (λ (acl : Acl). acl.tokens) is,
     )
 
@@ -337,7 +290,7 @@ one_accessor tokens distinct a b x y at to same = one_each (entries tokens)
     (pairs_of_distinct same_name (map (λ x. x.accessor) (values tokens)) distinct)))
     a b x y (sym (get-entries tokens a) ∙ at) (sym (get-entries tokens b) ∙ to) same
 
-row_of_secret : (acl : Acl) (accessor k : Name) → secret_of acl accessor ≡ Some k →
+pub row_of_secret : (acl : Acl) (accessor k : Name) → secret_of acl accessor ≡ Some k →
     (x : Token) × (same_name accessor x.accessor ≡ true) × (get acl.tokens k ≡ Some x)
 row_of_secret acl accessor k e = row_found accessor k (λ row. get acl.tokens row.0 ≡ Some row.1) (entries acl.tokens)
     (each_row names one_name (λ q x. get acl.tokens q ≡ Some x) acl.tokens (λ q x at. at)) e
@@ -363,7 +316,7 @@ deleted_token_is_unknown s t secret accessor reply valid e =
       left = λ q x. (
         (λ found. by old accessor k row.0 row.2 its valid.acl.accessors q x (same_name q k) refl (sym (at q) ∙ found)),
         (λ kept. at q ∙ ap (λ b. cond b None (get old.tokens q)) (other_name q k
-            (λ same. kept.1 (ap (λ (z : Token). z.accessor) (same_Some x row.0 (sym kept.0 ∙ ap (get old.tokens) same ∙ row.2)) ∙ its))) ∙ kept.0),
+            (λ same. kept.1 (ap (λ (z : Token). z.accessor) (same_Some x row.0 (sym kept.0 ∙ ap (get old.tokens) (sym same) ∙ row.2)) ∙ its))) ∙ kept.0),
       );
       same_policies = ap (λ (acl : Acl). acl.policies) is;
     }
@@ -385,7 +338,7 @@ unfolding unless
 passes b refusal rest e = ap (λ b. cond b (Refused refusal) rest) e
 
 manager_makes : (s : State) (secret : Name) (command : AdminCommand) (content : Content) (acl : Acl) → IsValid s → law.IsManager s.acl secret →
-    act (Step.Admin (Some secret) command) s ≡ Done content (with_acl s.world acl) → law.IsMade (Step.Admin (Some secret) command) s
+    act (Step.Admin (Some secret) command) s ≡ Done content (with_acl s.world acl) → law.CanBeMade (Step.Admin (Some secret) command) s
 manager_makes s secret command content acl valid manager acts =
     let step = Step.Admin (Some secret) command in
     let s' = settled s (with_acl s.world acl) in (
@@ -408,7 +361,7 @@ unfolding act administer
 manager_creates_token s secret new valid manager fresh other room =
     let old = s.acl in
     let unused : has_accessor old new.accessor ≡ false = any_row-none names one_name (λ _ token. same_name new.accessor token.accessor) old.tokens
-    (λ k x at. other_name new.accessor x.accessor (λ same. other k x at (sym same))) in
+    (λ k x at. other_name new.accessor x.accessor (other k x at)) in
     manager_makes s secret (AdminCommand.CreateToken new) _ _ valid manager (ap (lift (with_acl s.world))
     (passes (contains_key old.tokens new.secret || has_accessor old new.accessor) Refusal.Conflict _ (λ i. is_some (fresh i) || unused i)
     ∙ passes (nat_le most_rows (len old.tokens)) Refusal.Full _ (has_room most_rows (len old.tokens) room)))
@@ -422,7 +375,7 @@ none_passes p (row ∷ es) e = by (none_passes p es) (p row) e
     by later true e = absurd (not_Some row.0 (sym e))
     by later false e = later e
 
-secret_is : (acl : Acl) (other : Name) (row : Token) → get acl.tokens other ≡ Some row → (k : Name) × (secret_of acl row.accessor ≡ Some k)
+pub secret_is : (acl : Acl) (other : Name) (row : Token) → get acl.tokens other ≡ Some row → (k : Name) × (secret_of acl row.accessor ≡ Some k)
 unfolding any_row
 secret_is acl other row at = by (secret_of acl row.accessor) refl
   where
@@ -438,7 +391,7 @@ manager_deletes_token s secret other row valid manager at differs =
     manager_makes s secret (AdminCommand.DeleteToken row.accessor) _ _ valid manager (ap (lift (with_acl s.world))
     (ap (λ o. found o (λ secret. unless (same_name row.accessor bootstrap_accessor) Refusal.InUse
     (Done Content.Written (record s.acl { tokens = remove s.acl.tokens secret })))) k.1
-    ∙ passes (same_name row.accessor bootstrap_accessor) Refusal.InUse _ (other_name row.accessor bootstrap_accessor differs)))
+    ∙ passes (same_name row.accessor bootstrap_accessor) Refusal.InUse _ (other_name row.accessor bootstrap_accessor (λ same. differs (sym same)))))
 
 leaves_first : (s : State) (o : Option Name) (go : Name → Outcome Acl) →
     Leaves s (lift (with_acl s.world) (found o (λ secret. unless (same_name bootstrap_accessor bootstrap_accessor) Refusal.InUse (go secret))))

@@ -1,6 +1,6 @@
 -- What a step that wakes nobody has left as it was, and what a follower that is blocked has not missed.
-use Rattle.std.specs.Prelude.{◌≡◌, ◌≢◌, ℕ, ◌+◌, Bool, true, false, cond, not, ◌&&◌, ◌||◌, T, List, [], ◌∷◌, Option, Some, None}
-use Rattle.std.specs.Prelude.{Ok, Err, filter, option_map}
+use Rattle.std.specs.Prelude.{◌≡◌, ◌≢◌, ℕ, ◌+◌, Bool, true, false, cond, not, ◌&&◌, ◌||◌, List, [], ◌∷◌, Option, Some, None}
+use Rattle.std.specs.Prelude.{filter, option_map}
 use Rattle.std.proofs.Common.{refl, sym, ap, subst, ◌∙◌, inl, inr}
 use Rattle.std.proofs.lemmas.Bool.{or_right}
 use Rattle.std.specs.Cmp.Lexicographic.{pointwise}
@@ -17,15 +17,10 @@ use Rattle.ns_types.specs.declared.node.NodeStatus.{NodeStatus}
 use Rattle.ns_types.specs.declared.node.Offer.{Offer}
 use Rattle.ns_types.specs.declared.records.Namespace.{Namespace}
 use Rattle.ns_types.specs.declared.records.Quota.{Quota}
-use Rattle.ns_types.specs.declared.refusal.Refusal.{Refusal}
-use Rattle.ns_types.specs.declared.reply.Content.{Content}
-use Rattle.ns_types.specs.declared.reply.Reply.{Reply}
 use Rattle.ns_types.specs.declared.resources.Limit.{Limit}
 use Rattle.ns_types.specs.declared.resources.Limit.TheVariants.{Unlimited, AtMost, Nothing}
 use Rattle.ns_types.specs.declared.resources.Limits.{Limits}
 use Rattle.ns_types.specs.declared.resources.Resources.{Resources}
-use Rattle.ns_types.specs.declared.step.Step.{Step}
-use Rattle.ns_types.specs.Settling.Outcome.{Outcome, NotEnabled, Refused, Done}
 use Rattle.ns_types.specs.Settling.Releases.{same_offer, ends, is_on, counts_in, changes_limits, gives_room, released_classes, releases_quota}
 use Rattle.ns_types.specs.Settling.Releases.{can_use, wakes, wakes_by, woken}
 use Rattle.ns_types.specs.Settling.Settle.{after_release, after_quota_release, number_releases, settle, stamp, stamp_tenant, stamped, stamped_allocation}
@@ -35,7 +30,6 @@ use Rattle.ns_types.specs.State.Names.{Key, Name, has_key, attribute_cmp, same_c
 use Rattle.ns_types.specs.State.Resources.{Resource, Cpu, Memory, Disk, limits_in, limit_on, quantity, same_limit, same_limits, same_resources}
 use Rattle.ns_types.specs.State.Rows.{State, World, Tenant, PoolRows, QuotaRows, is_live, is_free, is_ready, allocation_at, evaluation_at, node_at, class_of}
 use Rattle.ns_types.specs.State.Tables.{any_row}
-use Rattle.ns_types.specs.Steps.{Answer, after, act, said, concluded, is_allowed, is_past_bound, reply_of, settled}
 use Rattle.ns_types.proofs.Amounts.{same_amounts, true_at}
 use Rattle.ns_types.proofs.Classes.{one_attribute, one_class}
 use Rattle.ns_types.proofs.Elements.{any_map}
@@ -47,7 +41,7 @@ use Rattle.ns_types.proofs.Tests.{and_yes, is_no, is_yes, not_Some, same_Some}
 use Rattle.ns_audit.proofs.Steady.Keeping.{has_key_filter}
 use Rattle.ns_laws.specs.Waking.{SleepsThrough, MayUse, IsOpen, StillLives, GotNoRoom, NoneSleepsOverRoom, GotNoQuota, NoneSleepsOverQuota}
 use Rattle.ns_laws.proofs.QueueLemmas.{woken_are_called}
-use Rattle.ns_laws.proofs.StepLemmas.{same_answer, same_state, not_said}
+use Rattle.ns_laws.proofs.StepLemmas.{made}
 
 -- ---- what a test has found the same is the same
 
@@ -103,60 +97,18 @@ can_use_of e class (inr none) = or_right e.escapes (not (has_class e.infeasible 
 pub free_of : (node : Node) → IsOpen node → is_free node ≡ true
 free_of node opens = λ i. is_ready (opens.0 i) && opens.1 i
 
-open_of : (node : Node) → is_free node ≡ true → IsOpen node
+pub open_of : (node : Node) → is_free node ≡ true → IsOpen node
 open_of node free = (by node.status (first_of_both (is_ready node.status) node.eligible free), second_of_both (is_ready node.status) node.eligible free)
   where
     by : (status : NodeStatus) → is_ready status ≡ true → status ≡ NodeStatus.Ready
     by NodeStatus.Ready e = refl
     by NodeStatus.Down e = not_both e refl
 
--- ---- a step that is made
-
-pub record IsMade (step : Step) (s t : State) (reply : Reply) : Type 0 where
-  pub content : Content
-  pub own : State
-  pub acts : act step s ≡ Done content own
-  pub leads : settled s own ≡ t
-  pub replied : reply_of step content (settled s own).world ≡ reply
-
-reply_in : Answer → Reply → Reply
-reply_in (Ok reply) other = reply
-reply_in (Err refusal) other = other
-
-is_ok : Answer → Bool
-is_ok (Ok reply) = true
-is_ok (Err refusal) = false
-
-no_reply : {A : Type 0} (refusal : Refusal) (reply : Reply) (s t : State) → said (Err refusal) s ≡ said (Ok reply) t → A
-unfolding is_ok
-no_reply refusal reply s t e = absurd (subst T (sym (ap is_ok (same_answer (Err refusal) (Ok reply) s t e))) tt)
-
-made_concluded : (step : Step) (s t : State) (reply : Reply) (o : Outcome State) → act step s ≡ o → concluded step s o ≡ said (Ok reply) t → IsMade step s t reply
-unfolding reply_in
-made_concluded step s t reply NotEnabled is e = not_said (Ok reply) t e
-made_concluded step s t reply (Refused refusal) is e = no_reply refusal reply s t e
-made_concluded step s t reply (Done content own) is e = by (is_past_bound (settled s own).world) e
-  where
-    by : (b : Bool) → cond b (said (Err Refusal.Full) s) (said (Ok (reply_of step content (settled s own).world)) (settled s own)) ≡ said (Ok reply) t →
-        IsMade step s t reply
-    by true e = no_reply Refusal.Full reply s t e
-    by false e = record {
-      content = content;
-      own = own;
-      acts = is;
-      leads = same_state _ _ (settled s own) t e;
-      replied = ap (λ a. reply_in a reply) (same_answer (Ok (reply_of step content (settled s own).world)) (Ok reply) (settled s own) t e);
-    }
-
-pub made_by : (step : Step) (s t : State) (reply : Reply) → after step s ≡ said (Ok reply) t → IsMade step s t reply
-unfolding after
-made_by step s t reply e = by (is_allowed step s.acl) e
-  where
-    by : (b : Bool) → cond b (concluded step s (act step s)) (said (Err Refusal.Denied) s) ≡ said (Ok reply) t → IsMade step s t reply
-    by true e = made_concluded step s t reply (act step s) refl e
-    by false e = no_reply Refusal.Denied reply s t e
-
 -- ---- what the end of a step leaves
+
+pub release_nodes : (classes : List Class) (p : PoolRows) → (after_release classes p).nodes ≡ p.nodes
+release_nodes [] p = refl
+release_nodes (class ∷ classes) p = refl
 
 module _ (w x : World) where
   pub settled_blocked : (settle w x).blocked ≡ filter (λ key. not (has_key (woken w x) key)) x.blocked
@@ -169,10 +121,6 @@ module _ (w x : World) where
   sleeps_on key e was is at =
       let kept = has_key_filter (λ key. not (has_key (woken w x) key)) x.blocked key (ap (λ keys. has_key keys key) (sym settled_blocked) ∙ is) in
       sym (woken_are_called w x key ∙ (λ i. was i && (kept.0 i && option_map_or (wakes w x) (at i) false))) ∙ is_no _ kept.1
-
-  pub release_nodes : (classes : List Class) (p : PoolRows) → (after_release classes p).nodes ≡ p.nodes
-  release_nodes [] p = refl
-  release_nodes (class ∷ classes) p = refl
 
   pub settled_nodes : (pool name : Name) → node_at (settle w x) pool name ≡ node_at x pool name
   unfolding settle stamp number_releases wake
@@ -322,10 +270,10 @@ asleep_over w x key e name row was is at unlimited there opens usable =
 
 pub none_sleeps_over_room : NoneSleepsOverRoom
 none_sleeps_over_room step s t reply key e name row e' =
-    let made = made_by step s t reply e' in
+    let m = made step s t reply e' in
     subst (λ (t : State). SleepsThrough s.world t.world key → evaluation_at s.world key ≡ Some e → e.quota ≡ None → node_at t.world e.pool name ≡ Some row →
-    IsOpen row → MayUse e (class_of row) → GotNoRoom s.world t.world e.pool name row) made.leads
-    (λ sleeps at unlimited there opens usable. asleep_over s.world made.own.world key e name row sleeps.0 sleeps.1 at unlimited there opens usable)
+    IsOpen row → MayUse e (class_of row) → GotNoRoom s.world t.world e.pool name row) m.leads
+    (λ sleeps at unlimited there opens usable. asleep_over s.world m.own.world key e name row sleeps.0 sleeps.1 at unlimited there opens usable)
 
 -- ---- quotas
 
@@ -358,7 +306,7 @@ asleep_over_quota w x key e quota old new was is at limited before later =
 
 pub none_sleeps_over_quota : NoneSleepsOverQuota
 none_sleeps_over_quota step s t reply key e quota old new e' =
-    let made = made_by step s t reply e' in
+    let m = made step s t reply e' in
     subst (λ (t : State). SleepsThrough s.world t.world key → evaluation_at s.world key ≡ Some e → e.quota ≡ Some quota → get s.world.quotas quota ≡ Some old →
-    get t.world.quotas quota ≡ Some new → GotNoQuota s.world t.world quota old new) made.leads
-    (λ sleeps at limited before later. asleep_over_quota s.world made.own.world key e quota old new sleeps.0 sleeps.1 at limited before later)
+    get t.world.quotas quota ≡ Some new → GotNoQuota s.world t.world quota old new) m.leads
+    (λ sleeps at limited before later. asleep_over_quota s.world m.own.world key e quota old new sleeps.0 sleeps.1 at limited before later)

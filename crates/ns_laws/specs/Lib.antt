@@ -5,6 +5,7 @@ pub mod Placement
 pub mod Rights
 pub mod Sharing
 pub mod Refusals
+pub mod Reasons
 pub mod Sums
 pub mod Nodes
 pub mod Kinds
@@ -12,6 +13,11 @@ pub mod Staying
 pub mod Parted
 pub mod Reach
 pub mod Waking
+pub mod Woken
 pub mod Turns
 pub mod Secrets
+pub mod Planning
+pub mod Ending
+pub mod Reads
+pub mod Indexes
 pub mod Effects

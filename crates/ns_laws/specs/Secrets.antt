@@ -259,8 +259,8 @@ NoChangeWithoutWrite = (s t : State) (secret : Option Name) (pool : Name) (comma
 -- ---- tokens
 
 -- the step is answered by a reply, not by a refusal
-abbrev pub IsMade : Step → State → Type 0
-IsMade step s = (t : State) × (reply : Reply) × (after step s ≡ said (Ok reply) t)
+abbrev pub CanBeMade : Step → State → Type 0
+CanBeMade step s = (t : State) × (reply : Reply) × (after step s ≡ said (Ok reply) t)
 
 -- the token is what was asked for
 pub record IsAsAsked (new : NewToken) (token : Token) : Type 0 where
@@ -305,7 +305,7 @@ abbrev pub ManagerCreatesToken : Type 0
 ManagerCreatesToken = (s : State) (secret : Name) (new : NewToken) → IsValid s → IsManager s.acl secret →
     get s.acl.tokens new.secret ≡ None →
     ((other : Name) (row : Token) → get s.acl.tokens other ≡ Some row → row.accessor ≢ new.accessor) →
-    len s.acl.tokens < most_rows → IsMade (Step.Admin (Some secret) (AdminCommand.CreateToken new)) s
+    len s.acl.tokens < most_rows → CanBeMade (Step.Admin (Some secret) (AdminCommand.CreateToken new)) s
 
 -- the access lists before and after the token with that accessor is deleted
 pub record IsDeleted (accessor : Name) (old later : Acl) : Type 0 where
@@ -330,7 +330,7 @@ DeletedTokenIsUnknown = (s t : State) (secret : Option Name) (accessor : Name) (
 abbrev pub ManagerDeletesToken : Type 0
 ManagerDeletesToken = (s : State) (secret other : Name) (row : Token) → IsValid s → IsManager s.acl secret →
     get s.acl.tokens other ≡ Some row → row.accessor ≢ bootstrap_accessor →
-    IsMade (Step.Admin (Some secret) (AdminCommand.DeleteToken row.accessor)) s
+    CanBeMade (Step.Admin (Some secret) (AdminCommand.DeleteToken row.accessor)) s
 
 -- A request to delete the token that the server starts with, whose accessor is all zeros, changes nothing, whoever makes
 -- it.
@@ -363,10 +363,10 @@ DeletedPolicyIsGone = (s t : State) (secret : Option Name) (name : Name) (reply 
 abbrev pub ManagerPutsPolicy : Type 0
 ManagerPutsPolicy = (s : State) (secret name : Name) (policy : Policy) → IsValid s → IsManager s.acl secret →
     ((old : Policy) × (get s.acl.policies name ≡ Some old)) ⊎ (len s.acl.policies < most_rows) →
-    IsMade (Step.Admin (Some secret) (AdminCommand.PutPolicy name policy)) s
+    CanBeMade (Step.Admin (Some secret) (AdminCommand.PutPolicy name policy)) s
 
 -- In a valid state a request with the secret of a `management` token deletes a policy that is there.
 abbrev pub ManagerDeletesPolicy : Type 0
 ManagerDeletesPolicy = (s : State) (secret name : Name) (policy : Policy) → IsValid s → IsManager s.acl secret →
     get s.acl.policies name ≡ Some policy →
-    IsMade (Step.Admin (Some secret) (AdminCommand.DeletePolicy name)) s
+    CanBeMade (Step.Admin (Some secret) (AdminCommand.DeletePolicy name)) s

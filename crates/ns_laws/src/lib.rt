@@ -3,11 +3,16 @@
 #![tactic(auto)]
 
 pub mod effects;
+pub mod ending;
+pub mod indexes;
 pub mod isolation;
 pub mod nodes;
 pub mod placement;
+pub mod planning;
 pub mod queue;
 pub mod reach;
+pub mod reads;
+pub mod reasons;
 pub mod refusals;
 pub mod rights;
 pub mod secrets;
@@ -16,3 +21,4 @@ pub mod steps;
 pub mod sums;
 pub mod turns;
 pub mod waking;
+pub mod woken;

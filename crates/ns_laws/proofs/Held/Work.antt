@@ -44,7 +44,7 @@ ends_desired n d t = by (get t.allocations n) refl
     by None is = ends_still t
     by (Some a) is = ends_row t n a (record a { desired = d }) is refl (λ held. held)
 
-status_leaves : (n : ℕ) (status : Status) (t : Tenant) → (with_status n status t).allocations ≡ t.allocations
+pub status_leaves : (n : ℕ) (status : Status) (t : Tenant) → (with_status n status t).allocations ≡ t.allocations
 status_leaves n status t = elim (get t.evaluations n) as
     (λ (o : Option Evaluation). (option_map_or (λ e. record t { evaluations = insert t.evaluations n (record e { status = status }) })
     o t).allocations ≡ t.allocations) [ Some e ↦ refl | None ↦ refl ]
@@ -56,16 +56,16 @@ cancel_leaves job t = by (blocked_of t job)
     by None = refl
     by (Some n) = status_leaves n Status.Canceled t
 
-ended_leaves : (number : ℕ) (worker : Worker) (e : Evaluation) (status : Status) (t : Tenant) → (ended number worker e status t).allocations ≡ t.allocations
+pub ended_leaves : (number : ℕ) (worker : Worker) (e : Evaluation) (status : Status) (t : Tenant) → (ended number worker e status t).allocations ≡ t.allocations
 ended_leaves number worker e status t = cancel_leaves e.job (with_status worker.evaluation status (without_worker number t)) ∙
     status_leaves worker.evaluation status (without_worker number t)
 
-tied_leaves : (n follower : ℕ) (t : Tenant) → (tied_to n follower t).allocations ≡ t.allocations
+pub tied_leaves : (n follower : ℕ) (t : Tenant) → (tied_to n follower t).allocations ≡ t.allocations
 tied_leaves n follower t = elim (get t.evaluations n) as
     (λ (o : Option Evaluation). (option_map_or (λ e. record t { evaluations = insert t.evaluations n (record e { follower = Some follower }) })
     o t).allocations ≡ t.allocations) [ Some e ↦ refl | None ↦ refl ]
 
-deregistered_leaves : (purge : Bool) (id : Name) (job : Job) (t : Tenant) → (deregistered purge id job t).allocations ≡ t.allocations
+pub deregistered_leaves : (purge : Bool) (id : Name) (job : Job) (t : Tenant) → (deregistered purge id job t).allocations ≡ t.allocations
 deregistered_leaves true id job t = refl
 deregistered_leaves false id job t = refl
 

@@ -1,0 +1,5 @@
+use Rattle.ns_laws.proofs.EndingLemmas.{allocation_is_fixed}
+use Rattle.ns_laws.proofs.ending.allocation_is_fixed.Goals as goal
+
+pub returns : goal.returns
+returns c = allocation_is_fixed

@@ -1,0 +1,5 @@
+use Rattle.ns_laws.proofs.EndingLemmas.{ended_stays_ended}
+use Rattle.ns_laws.proofs.ending.ended_stays_ended.Goals as goal
+
+pub returns : goal.returns
+returns c = ended_stays_ended

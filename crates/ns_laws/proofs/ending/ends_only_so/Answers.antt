@@ -1,0 +1,5 @@
+use Rattle.ns_laws.proofs.EndingLemmas.{ends_only_so}
+use Rattle.ns_laws.proofs.ending.ends_only_so.Goals as goal
+
+pub returns : goal.returns
+returns c = ends_only_so

@@ -1,0 +1,5 @@
+use Rattle.ns_laws.proofs.EndingEvictions.{evicted_is_evaluated}
+use Rattle.ns_laws.proofs.ending.evicted_is_evaluated.Goals as goal
+
+pub returns : goal.returns
+returns c = evicted_is_evaluated

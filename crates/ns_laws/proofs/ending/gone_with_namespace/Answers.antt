@@ -1,0 +1,5 @@
+use Rattle.ns_laws.proofs.EndingLemmas.{gone_with_namespace}
+use Rattle.ns_laws.proofs.ending.gone_with_namespace.Goals as goal
+
+pub returns : goal.returns
+returns c = gone_with_namespace

@@ -1,0 +1,5 @@
+use Rattle.ns_laws.proofs.IndexesLemmas.{index_rises_by_one}
+use Rattle.ns_laws.proofs.indexes.index_rises_by_one.Goals as goal
+
+pub returns : goal.returns
+returns c = index_rises_by_one

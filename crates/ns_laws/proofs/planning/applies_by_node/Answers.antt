@@ -1,0 +1,5 @@
+use Rattle.ns_laws.proofs.ApplyRowsLemmas.{applies_by_node}
+use Rattle.ns_laws.proofs.planning.applies_by_node.Goals as goal
+
+pub returns : goal.returns
+returns c = applies_by_node

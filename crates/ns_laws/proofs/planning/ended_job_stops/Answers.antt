@@ -1,0 +1,5 @@
+use Rattle.ns_laws.proofs.PlanningLemmas.{ended_job_stops}
+use Rattle.ns_laws.proofs.planning.ended_job_stops.Goals as goal
+
+pub returns : goal.returns
+returns c = ended_job_stops

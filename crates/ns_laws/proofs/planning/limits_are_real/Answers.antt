@@ -1,0 +1,5 @@
+use Rattle.ns_laws.proofs.PlanRoomLemmas.{limits_are_real}
+use Rattle.ns_laws.proofs.planning.limits_are_real.Goals as goal
+
+pub returns : goal.returns
+returns c = limits_are_real

@@ -1,0 +1,5 @@
+use Rattle.ns_laws.proofs.PlanningLemmas.{places_on_fit_nodes}
+use Rattle.ns_laws.proofs.planning.places_on_fit_nodes.Goals as goal
+
+pub returns : goal.returns
+returns c = places_on_fit_nodes

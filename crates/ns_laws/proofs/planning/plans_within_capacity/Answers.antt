@@ -1,0 +1,5 @@
+use Rattle.ns_laws.proofs.PlanRoomLemmas.{plans_within_capacity}
+use Rattle.ns_laws.proofs.planning.plans_within_capacity.Goals as goal
+
+pub returns : goal.returns
+returns c = plans_within_capacity

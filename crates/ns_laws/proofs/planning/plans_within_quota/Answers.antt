@@ -1,0 +1,5 @@
+use Rattle.ns_laws.proofs.PlanRoomLemmas.{plans_within_quota}
+use Rattle.ns_laws.proofs.planning.plans_within_quota.Goals as goal
+
+pub returns : goal.returns
+returns c = plans_within_quota

@@ -1,0 +1,5 @@
+use Rattle.ns_laws.proofs.PlanningLemmas.{stops_not_wanted}
+use Rattle.ns_laws.proofs.planning.stops_not_wanted.Goals as goal
+
+pub returns : goal.returns
+returns c = stops_not_wanted

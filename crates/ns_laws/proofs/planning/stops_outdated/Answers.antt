@@ -1,0 +1,5 @@
+use Rattle.ns_laws.proofs.PlanningLemmas.{stops_outdated}
+use Rattle.ns_laws.proofs.planning.stops_outdated.Goals as goal
+
+pub returns : goal.returns
+returns c = stops_outdated

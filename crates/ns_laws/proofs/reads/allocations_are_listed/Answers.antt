@@ -1,0 +1,5 @@
+use Rattle.ns_laws.proofs.ReadsLemmas.{allocations_are_listed}
+use Rattle.ns_laws.proofs.reads.allocations_are_listed.Goals as goal
+
+pub returns : goal.returns
+returns c = allocations_are_listed

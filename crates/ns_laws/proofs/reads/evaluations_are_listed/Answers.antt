@@ -1,0 +1,5 @@
+use Rattle.ns_laws.proofs.ReadsLemmas.{evaluations_are_listed}
+use Rattle.ns_laws.proofs.reads.evaluations_are_listed.Goals as goal
+
+pub returns : goal.returns
+returns c = evaluations_are_listed

@@ -1,0 +1,5 @@
+use Rattle.ns_laws.proofs.ReadsLemmas.{job_is_shown}
+use Rattle.ns_laws.proofs.reads.job_is_shown.Goals as goal
+
+pub returns : goal.returns
+returns c = job_is_shown

@@ -1,0 +1,5 @@
+use Rattle.ns_laws.proofs.ReadsLemmas.{jobs_are_listed}
+use Rattle.ns_laws.proofs.reads.jobs_are_listed.Goals as goal
+
+pub returns : goal.returns
+returns c = jobs_are_listed

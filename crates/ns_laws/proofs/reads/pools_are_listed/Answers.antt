@@ -1,0 +1,5 @@
+use Rattle.ns_laws.proofs.ReadsLemmas.{pools_are_listed}
+use Rattle.ns_laws.proofs.reads.pools_are_listed.Goals as goal
+
+pub returns : goal.returns
+returns c = pools_are_listed

@@ -1,0 +1,5 @@
+use Rattle.ns_laws.proofs.ReadsLemmas.{quotas_are_listed}
+use Rattle.ns_laws.proofs.reads.quotas_are_listed.Goals as goal
+
+pub returns : goal.returns
+returns c = quotas_are_listed

@@ -1,0 +1,5 @@
+use Rattle.ns_laws.proofs.ReasonLemmas.{refuses_for_reason}
+use Rattle.ns_laws.proofs.reasons.refuses_for_reason.Goals as goal
+
+pub returns : goal.returns
+returns c = refuses_for_reason

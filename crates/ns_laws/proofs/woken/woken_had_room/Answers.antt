@@ -1,0 +1,5 @@
+use Rattle.ns_laws.proofs.WokenLemmas.{woken_had_room}
+use Rattle.ns_laws.proofs.woken.woken_had_room.Goals as goal
+
+pub returns : goal.returns
+returns c = woken_had_room

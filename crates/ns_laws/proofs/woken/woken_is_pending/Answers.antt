@@ -1,0 +1,5 @@
+use Rattle.ns_laws.proofs.WokenLemmas.{woken_is_pending}
+use Rattle.ns_laws.proofs.woken.woken_is_pending.Goals as goal
+
+pub returns : goal.returns
+returns c = woken_is_pending

@@ -1,0 +1,89 @@
+//! Laws of plans: what the plan of a snapshot stops, places and evicts, and what Apply does of it.
+
+ghost use Rattle.ns_laws.specs.Planning.{
+  PlacesGroups,
+  PlacesOnFitNodes,
+  FillsGroups,
+  LimitsAreReal,
+  StopsNotWanted,
+  StopsOutdated,
+  EndedJobStops,
+  EvictsLowerOnly,
+  PlansWithinCapacity,
+  PlansWithinQuota,
+  AppliesByNode,
+  KeepsToQuota,
+};
+
+/// Each placement of a plan is of a task group of the job, which is not stopped, and has that group's size.
+pub fn places_groups()
+    ensures { PlacesGroups }
+{}
+
+/// Each placement of a plan is on a node of the snapshot that is ready and eligible and meets every constraint of the
+/// job.
+pub fn places_on_fit_nodes()
+    ensures { PlacesOnFitNodes }
+{}
+
+/// A plan for a job that is not stopped brings no task group above its count. Unless the plan reports a limit, the
+/// quota or that no node could take an allocation, each group has its count: the allocations that run, those of a
+/// batch job that completed, and those that the plan places.
+pub fn fills_groups()
+    ensures { FillsGroups }
+{}
+
+/// A plan reports at most one limit: the quota, which the snapshot has then, or that no node could take an allocation.
+/// It reports a limit only if some task group of the job stays below its count.
+pub fn limits_are_real()
+    ensures { LimitsAreReal }
+{}
+
+/// A plan stops only live allocations of its job. If the job is not stopped, each of them was made for an earlier
+/// version of the job, or is of a task group that has more allocations than its count.
+pub fn stops_not_wanted()
+    ensures { StopsNotWanted }
+{}
+
+/// A plan for a job that is not stopped stops every live allocation that was made for an earlier version of the job.
+pub fn stops_outdated()
+    ensures { StopsOutdated }
+{}
+
+/// A plan for a job that is gone or stopped places nothing, and stops all live allocations of the job.
+pub fn ended_job_stops()
+    ensures { EndedJobStops }
+{}
+
+/// Each allocation that a plan evicts is live on the node of the placement that evicts it, and its priority is lower
+/// than the job's by 10 or more. The plan does not stop it as well.
+pub fn evicts_lower_only()
+    ensures { EvictsLowerOnly }
+{}
+
+/// Take a node of the snapshot that has room for its live allocations, and from which the plan evicts nothing. It has
+/// room for those that the plan does not stop together with those that the plan places there, in each resource.
+pub fn plans_within_capacity()
+    ensures { PlansWithinCapacity }
+{}
+
+/// A plan places something, and stops and evicts nothing. Then the limits of the quota that the snapshot has allow what
+/// was in use together with what the plan places, in each resource.
+pub fn plans_within_quota()
+    ensures { PlansWithinQuota }
+{}
+
+/// In a valid state, Apply does, for each node of the snapshot, all placements of the plan there or none of them. It
+/// does them only if the node is still ready and eligible and meets every constraint of the job. The placements that it
+/// does become new allocations, in the order of the plan. The reply tells the numbers of these, and no other number is
+/// given out. It also tells the names of the nodes whose placements are not done.
+pub fn applies_by_node()
+    ensures { AppliesByNode }
+{}
+
+/// In a valid state, Apply places an allocation for a namespace that names a quota. After the step, the limits of the
+/// quota allow what it has in use, in each resource: what the live allocations of all namespaces that name it take
+/// together.
+pub fn keeps_to_quota()
+    ensures { KeepsToQuota }
+{}
