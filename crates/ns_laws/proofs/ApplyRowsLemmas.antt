@@ -444,7 +444,7 @@ none_done s kept made dropped before now empty same told = record {
   fit = each _ (λ _ no. not_both no refl) (plan kept).placing.placements;
   count = ap length empty ∙ sym (ap length nothing);
   each_made = λ i p e. absurd (not_Some p (ap (λ xs. slice_get xs i) (sym nothing) ∙ e));
-  others_told = each_map (λ p has no seen is. told seen p.node has is) (plan kept).placing.placements (nodes_has (plan kept).placing.placements);
+  others_named = each_map (λ p has no seen is. told seen p.node has is) (plan kept).placing.placements (nodes_has (plan kept).placing.placements);
   last = let l = ap length empty in omega (arith, l, same);
 }
   where
@@ -606,7 +606,7 @@ module _ (s : State) (valid : IsValid s) (number : ℕ) (ns : Name) (before : Te
     done_for_job = record {
       does = λ k. has_number decided.committed k;
       fit = each_map fit_now ps (places_on_fit_nodes kept);
-      others_told = each_map told ps (nodes_has ps);
+      others_named = each_map told ps (nodes_has ps);
       count = numbers_count placed before.allocation_number;
       each_made = λ i p at. (before.allocation_number + (i + 1), numbers_at placed before.allocation_number i p at, made_for i p at);
       last =

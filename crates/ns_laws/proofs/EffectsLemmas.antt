@@ -32,7 +32,7 @@ use Rattle.ns_types.proofs.TableRows.{apart, get_put, get_other}
 use Rattle.ns_types.proofs.Tests.{is_yes, is_no, not_Some, same_Some}
 use Rattle.ns_audit.specs.Orderly.{IsSteady}
 use Rattle.ns_laws.specs.Effects as law
-use Rattle.ns_laws.specs.Effects.{HasRows, IsEvaluated, IsDocumentOf, IsRegistered, IsDeregistered, IsPurged, IsStopped, IsDated, evaluation_told}
+use Rattle.ns_laws.specs.Effects.{HasRows, IsEvaluated, IsDocumentOf, IsRegistered, IsDeregistered, IsPurged, IsStopped, IsDated, evaluation_in_reply}
 use Rattle.ns_laws.proofs.DocumentLemmas.{document_is}
 use Rattle.ns_laws.proofs.EffectRows.{Does, does_unless, does_refused, does_found, does_if, does_of, does_lift, after_does, put_there, put_elsewhere, removed}
 use Rattle.ns_laws.proofs.EffectRows.{removed_elsewhere, settled_rows, settled_there, settled_jobs, settled_pending, settled_allocated, settled_former}
@@ -134,7 +134,7 @@ registered_is_there ns secret r s s' reply e = asked_does s ns secret (AskComman
         document = (good_job t r (t.index + 1) (get t.jobs r.id)).document;
         number = t.evaluation_number + 1;
         index = t.index + 1;
-        told = refl;
+        replied = refl;
         index_shown = shown s.world ns secret t t' x is refl refl (AskCommand.Register r);
         evaluated = evaluated s.world ns secret t t' x is refl refl;
         other_jobs = λ other differs. ap (λ m. get m other) (jobs_now s.world ns secret t t' x is refl refl) ∙ put_elsewhere t.jobs r.id job other differs;
@@ -184,7 +184,7 @@ deregistered_is_stopped ns secret id s s' reply e = asked_does s ns secret (AskC
             document = same_written (t.index + 1) old;
             number = t.evaluation_number + 1;
             index = t.index + 1;
-            told = refl;
+            replied = refl;
             index_shown = shown s.world ns secret t t' x is refl refl (AskCommand.Deregister id false);
             evaluated = evaluated s.world ns secret t t' x is refl refl;
             other_jobs = λ other differs. ap (λ m. get m other) (jobs_now s.world ns secret t t' x is refl refl) ∙ put_elsewhere t.jobs id job other differs;
@@ -208,7 +208,7 @@ purged_is_gone ns secret id s s' reply e = asked_does s ns secret (AskCommand.De
             is_gone = ap (λ m. get m id) (jobs_now s.world ns secret t t' x is refl refl) ∙ removed t.jobs id;
             number = t.evaluation_number + 1;
             index = t.index + 1;
-            told = refl;
+            replied = refl;
             index_shown = shown s.world ns secret t t' x is refl refl (AskCommand.Deregister id true);
             evaluated = evaluated s.world ns secret t t' x is refl refl;
             other_jobs = λ other differs. ap (λ m. get m other) (jobs_now s.world ns secret t t' x is refl refl) ∙ removed_elsewhere t.jobs id other differs;
@@ -279,7 +279,7 @@ stopped_allocation ns secret n s s' reply e = asked_does s ns secret (AskCommand
                 node = row.node;
                 number = t.evaluation_number + 1;
                 index = t.index + 1;
-                told = refl;
+                replied = refl;
                 index_shown = shown s.world ns secret t t' x is refl for_it.pending (AskCommand.StopAllocation n);
                 evaluated = record {
                   next = v.next;
@@ -295,7 +295,7 @@ stopped_allocation ns secret n s s' reply e = asked_does s ns secret (AskCommand
               },
             )
 
--- ---- the index that is told
+-- ---- the index in the reply
 
 -- the namespace has no evaluation with its next number
 unused : (t : Tenant) → ((n : ℕ) (e : Evaluation) → get t.evaluations n ≡ Some e → n ≤ t.evaluation_number) →
@@ -311,7 +311,7 @@ unused t numbered = by (get t.evaluations (t.evaluation_number + 1)) refl
 
 module _ (s : State) (ns : Name) (secret : Option Name) (number index : ℕ) (steady : IsSteady s) where
   abbrev Told : Reply → Tenant → Tenant → Type 0
-  Told reply before now = evaluation_told reply.content ≡ Some (number, index) → IsDated number index before now
+  Told reply before now = evaluation_in_reply reply.content ≡ Some (number, index) → IsDated number index before now
 
   module _ (t : Tenant) (is : get s.world.tenants ns ≡ Some t) where
     -- the rows t' get an evaluation with the next number
@@ -367,7 +367,7 @@ module _ (s : State) (ns : Name) (secret : Option Name) (number index : ℕ) (st
     tells (AskCommand.QuotaUsage quota) = does_if _ (names_quota quota t.namespace) _ _ (λ _. (t, is, λ told. absurd (not_Some _ told))) (λ _. tt)
     tells (AskCommand.Events index) = (t, is, λ told. absurd (not_Some _ told))
 
-pub told_index_is_now : law.ToldIndexIsNow
-told_index_is_now ns secret command s s' reply number index steady e told =
+pub index_in_reply_is_new : law.IndexInReplyIsNew
+index_in_reply_is_new ns secret command s s' reply number index steady e told =
     let h = asked_does s ns secret command (Told s ns secret number index steady) (λ t is. tells s ns secret number index steady t is command) s' reply e in
     record { before = h.before; now = h.now; was_there = h.was_there; is_there = h.is_there; holds = h.holds told }

@@ -458,17 +458,17 @@ module _ (old t : Tenant) (begun : Begun old t) where
   abbrev their_events : List Event
   their_events = events_of (old.index + 1) old t
 
-  tells : (topic : Topic) → Has (topics_of old t) topic → law.IsTold ended their_events topic
+  tells : (topic : Topic) → Has (topics_of old t) topic → law.HasEvent ended their_events topic
   tells topic h = contains_from their_events _ (map_has (λ topic. record { index = old.index + 1; topic = topic }) (topics_of old t) topic h)
 
-  tells_job : (id : Name) (job : Job) → get (joined old t) id ≡ Some job → changes_job old t id ≡ true → law.IsTold ended their_events (job_topic t id)
+  tells_job : (id : Name) (job : Job) → get (joined old t) id ≡ Some job → changes_job old t id ≡ true → law.HasEvent ended their_events (job_topic t id)
   tells_job id job at changed = tells (job_topic t id) (append_has (of_jobs old t ++ of_evaluations old t) (of_allocations old t) _
       (inl (append_has (of_jobs old t) (of_evaluations old t) _ (inl (map_has (job_topic t) (filter (changes_job old t) (job_ids old t)) id
       (filter_has (changes_job old t) (job_ids old t) id
       (map_has (λ (x : Name × Job). x.0) (entries (joined old t)) (id, job) (has_row one_name (joined old t) id job at)) changed))))))
 
   tells_evaluation : (n : ℕ) (x : Evaluation) → get t.evaluations n ≡ Some x → changes_evaluation old n x ≡ true →
-      law.IsTold ended their_events (Topic.EvaluationUpdated n)
+      law.HasEvent ended their_events (Topic.EvaluationUpdated n)
   tells_evaluation n x at changed = tells (Topic.EvaluationUpdated n) (append_has (of_jobs old t ++ of_evaluations old t) (of_allocations old t) _
       (inl (append_has (of_jobs old t) (of_evaluations old t) _ (inr (map_has (λ (e : ℕ × Evaluation). Topic.EvaluationUpdated e.0)
       (filter (λ e. changes_evaluation old e.0 e.1) (entries t.evaluations)) (n, x)
@@ -476,7 +476,7 @@ module _ (old t : Tenant) (begun : Begun old t) where
       (has_row one_number t.evaluations n x at) changed))))))
 
   tells_allocation : (n : ℕ) (x : Allocation) → get t.allocations n ≡ Some x → changes_allocation old n x ≡ true →
-      law.IsTold ended their_events (Topic.AllocationUpdated n)
+      law.HasEvent ended their_events (Topic.AllocationUpdated n)
   tells_allocation n x at changed = tells (Topic.AllocationUpdated n) (append_has (of_jobs old t ++ of_evaluations old t) (of_allocations old t) _
       (inr (map_has (λ (a : ℕ × Allocation). Topic.AllocationUpdated a.0) (filter (λ a. changes_allocation old a.0 a.1) (entries t.allocations)) (n, x)
       (filter_has (λ (a : ℕ × Allocation). changes_allocation old a.0 a.1) (entries t.allocations) (n, x)
@@ -486,30 +486,30 @@ module _ (old t : Tenant) (begun : Begun old t) where
   topic_is id true e = ap (λ b. cond b (Topic.JobDeregistered id) (Topic.JobRegistered id)) e
   topic_is id false e = ap (λ b. cond b (Topic.JobDeregistered id) (Topic.JobRegistered id)) e
 
-  job_told : (id : Name) (job : Job) → get t.jobs id ≡ Some job → (get old.jobs id ≡ Some job) ⊎ law.IsTold ended their_events (law.topic_of job.stop id)
+  job_told : (id : Name) (job : Job) → get t.jobs id ≡ Some job → (get old.jobs id ≡ Some job) ⊎ law.HasEvent ended their_events (law.topic_of job.stop id)
   job_told id job at = by (changes_job old t id) refl
     where
       there : (o : Option Job) → get old.jobs id ≡ o → (x : Job) × (get (joined old t) id ≡ Some x)
       there None was = (job, get_joined names old.jobs t.jobs id ∙ (λ i. option_or (was i) (at i)))
       there (Some x) was = (x, get_joined names old.jobs t.jobs id ∙ ap (λ o. option_or o (get t.jobs id)) was)
 
-      by : (b : Bool) → changes_job old t id ≡ b → (get old.jobs id ≡ Some job) ⊎ law.IsTold ended their_events (law.topic_of job.stop id)
+      by : (b : Bool) → changes_job old t id ≡ b → (get old.jobs id ≡ Some job) ⊎ law.HasEvent ended their_events (law.topic_of job.stop id)
       by true changed = let x = there (get old.jobs id) refl in
-          inr (subst (law.IsTold ended their_events) (topic_is id job.stop (ap (λ o. option_map_or (λ (job : Job). job.stop) o true) at)) (tells_job id x.0 x.1 changed))
+          inr (subst (law.HasEvent ended their_events) (topic_is id job.stop (ap (λ o. option_map_or (λ (job : Job). job.stop) o true) at)) (tells_job id x.0 x.1 changed))
       by false same = inl (job_same old t begun id job at same)
 
-  gone_told : (id : Name) (job : Job) → get old.jobs id ≡ Some job → get t.jobs id ≡ None → law.IsTold ended their_events (Topic.JobDeregistered id)
-  gone_told id job was gone = subst (law.IsTold ended their_events) (topic_is id true (ap (λ o. option_map_or (λ (job : Job). job.stop) o true) gone))
+  gone_told : (id : Name) (job : Job) → get old.jobs id ≡ Some job → get t.jobs id ≡ None → law.HasEvent ended their_events (Topic.JobDeregistered id)
+  gone_told id job was gone = subst (law.HasEvent ended their_events) (topic_is id true (ap (λ o. option_map_or (λ (job : Job). job.stop) o true) gone))
       (tells_job id job (get_joined names old.jobs t.jobs id ∙ ap (λ o. option_or o (get t.jobs id)) was)
       (ap (λ o. option_map_or (is_changed same_job (get old.jobs id)) o (contains_key old.jobs id)) gone ∙ ap is_some was))
 
-  evaluation_told : (n : ℕ) (e : Evaluation) → get ended.evaluations n ≡ Some e → WasEvaluation old n e ⊎ law.IsTold ended their_events (Topic.EvaluationUpdated n)
+  evaluation_told : (n : ℕ) (e : Evaluation) → get ended.evaluations n ≡ Some e → WasEvaluation old n e ⊎ law.HasEvent ended their_events (Topic.EvaluationUpdated n)
   evaluation_told n e at =
       let row = row_of_map numbers one_number (stamped_evaluation (old.index + 1) old) t.evaluations n e at in
       by row.0 row.1 row.2 (changes_evaluation old n row.0) refl
     where
       by : (x : Evaluation) → get t.evaluations n ≡ Some x → stamped_evaluation (old.index + 1) old n x ≡ e → (b : Bool) → changes_evaluation old n x ≡ b →
-          WasEvaluation old n e ⊎ law.IsTold ended their_events (Topic.EvaluationUpdated n)
+          WasEvaluation old n e ⊎ law.HasEvent ended their_events (Topic.EvaluationUpdated n)
       by x has is true changed = inr (tells_evaluation n x has changed)
       by x has is false same = let u = unchanged_was same_evaluation (get old.evaluations n) x same in
           inl (subst (WasEvaluation old n) (sym (ap (λ b. cond b (record x {
@@ -517,13 +517,13 @@ module _ (old t : Tenant) (begun : Begun old t) where
             modify_index = old.index + 1;
           }) x) same) ∙ is) (same_evaluation_was old n u.0 x u.1 u.2))
 
-  allocation_told : (n : ℕ) (a : Allocation) → get ended.allocations n ≡ Some a → WasAllocation old n a ⊎ law.IsTold ended their_events (Topic.AllocationUpdated n)
+  allocation_told : (n : ℕ) (a : Allocation) → get ended.allocations n ≡ Some a → WasAllocation old n a ⊎ law.HasEvent ended their_events (Topic.AllocationUpdated n)
   allocation_told n a at =
       let row = row_of_map numbers one_number (stamped_allocation (old.index + 1) old) t.allocations n a at in
       by row.0 row.1 row.2 (changes_allocation old n row.0) refl
     where
       by : (x : Allocation) → get t.allocations n ≡ Some x → stamped_allocation (old.index + 1) old n x ≡ a → (b : Bool) → changes_allocation old n x ≡ b →
-          WasAllocation old n a ⊎ law.IsTold ended their_events (Topic.AllocationUpdated n)
+          WasAllocation old n a ⊎ law.HasEvent ended their_events (Topic.AllocationUpdated n)
       by x has is true changed = inr (tells_allocation n x has changed)
       by x has is false same = let u = unchanged_was same_allocation (get old.allocations n) x same in
           inl (subst (WasAllocation old n) (sym (ap (λ b. cond b (record x {
@@ -616,7 +616,7 @@ index_moves old now (goes t begun) = by (is_touched old t) refl
       new = events_of (old.index + 1) old t;
       some = λ none. not_both touched (none_touched old t (no_map (λ topic. record { index = old.index + 1; topic = topic }) (topics_of old t) none));
       dated = told (old.index + 1) (topics_of old t);
-      tells = record {
+      changes = record {
         job = job_told old t begun;
         gone = gone_told old t begun;
         evaluation = evaluation_told old t begun;

@@ -300,7 +300,7 @@ module _ (w x : World) (ns : Name) (old : Tenant) where
       stamped_so n e is,
     );
     no_evaluation = λ n is. get_stamped n ∙ ap (λ o. option_map (stamped_evaluation index old n) (option_map (woken_row keys ns n) o)) is;
-    told = inr (refl, events_of index old u, told (topics_of old u), refl);
+    index_and_events = inr (refl, events_of index old u, told (topics_of old u), refl);
   }
   left false = record {
     namespace = refl;
@@ -311,7 +311,7 @@ module _ (w x : World) (ns : Name) (old : Tenant) where
     workers = refl;
     evaluation = λ n e is. (woken_row keys ns n e, get_woken n ∙ ap (option_map (woken_row keys ns n)) is, woken_so n e);
     no_evaluation = λ n is. get_woken n ∙ ap (option_map (woken_row keys ns n)) is;
-    told = inl (refl, refl);
+    index_and_events = inl (refl, refl);
   }
 
   left_settled : law.IsLeft w ns old (stamp_tenant (Some old) u)
@@ -328,7 +328,7 @@ same_left w ns t = record {
   workers = refl;
   evaluation = λ n e is. (e, is, inl refl);
   no_evaluation = λ n is. is;
-  told = inl (refl, refl);
+  index_and_events = inl (refl, refl);
 }
 
 pub ask_stays_inside : law.AskStaysInside

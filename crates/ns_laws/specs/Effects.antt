@@ -73,17 +73,17 @@ pub record IsRegistered (r : Registration) (reply : Reply) (before now : Tenant)
   pub is_job : get now.jobs r.id ≡ Some job
   pub is_to_run : job.stop ≡ false
   pub document : IsDocumentOf r before.namespace.default_pool job.document
-  -- the reply tells the evaluation's number and index, and the job's modify index
+  -- the reply has the evaluation's number and index, and the job's modify index
   pub number : ℕ
   pub index : ℕ
-  pub told : reply.content ≡ Content.Registered number index job.modify_index
+  pub replied : reply.content ≡ Content.Registered number index job.modify_index
   pub index_shown : reply.index ≡ Some now.index
   pub evaluated : IsEvaluated r.id Trigger.JobRegister number before now
   pub other_jobs : KeepsOtherJobs r.id before now
   pub allocations : now.allocations ≡ before.allocations
 
 -- Once a registration is made, the job is there with the document that was registered, and it is not stopped. A new
--- evaluation of it is pending, and the reply tells its number. Other jobs and all allocations are as they were.
+-- evaluation of it is pending, and the reply has its number. Other jobs and all allocations are as they were.
 abbrev pub RegisteredIsThere : Type 0
 RegisteredIsThere = (ns : Name) (secret : Option Name) (r : Registration) (s s' : State) (reply : Reply) →
     IsMade (Step.Ask ns secret (AskCommand.Register r)) s reply s' → HasRows ns s s' (IsRegistered r reply)
@@ -99,14 +99,14 @@ pub record IsDeregistered (id : Name) (reply : Reply) (before now : Tenant) : Ty
   pub document : job.document ≡ old.document
   pub number : ℕ
   pub index : ℕ
-  pub told : reply.content ≡ Content.Registered number index job.modify_index
+  pub replied : reply.content ≡ Content.Registered number index job.modify_index
   pub index_shown : reply.index ≡ Some now.index
   pub evaluated : IsEvaluated id Trigger.JobDeregister number before now
   pub other_jobs : KeepsOtherJobs id before now
   pub allocations : now.allocations ≡ before.allocations
 
 -- Once a job is deregistered without purge, it is still there with its document, and it is stopped. A new evaluation of it
--- is pending, and the reply tells its number. Other jobs and all allocations are as they were.
+-- is pending, and the reply has its number. Other jobs and all allocations are as they were.
 abbrev pub DeregisteredIsStopped : Type 0
 DeregisteredIsStopped = (ns : Name) (secret : Option Name) (id : Name) (s s' : State) (reply : Reply) →
     IsMade (Step.Ask ns secret (AskCommand.Deregister id false)) s reply s' → HasRows ns s s' (IsDeregistered id reply)
@@ -115,16 +115,16 @@ pub record IsPurged (id : Name) (reply : Reply) (before now : Tenant) : Type 0 w
   pub old : Job
   pub was_there : get before.jobs id ≡ Some old
   pub is_gone : get now.jobs id ≡ None
-  -- in the place of the job's index the reply tells the evaluation's again
+  -- in the place of the job's index the reply has the evaluation's again
   pub number : ℕ
   pub index : ℕ
-  pub told : reply.content ≡ Content.Registered number index index
+  pub replied : reply.content ≡ Content.Registered number index index
   pub index_shown : reply.index ≡ Some now.index
   pub evaluated : IsEvaluated id Trigger.JobDeregister number before now
   pub other_jobs : KeepsOtherJobs id before now
   pub allocations : now.allocations ≡ before.allocations
 
--- Once a job is deregistered with purge, it is gone. A new evaluation of it is pending, and the reply tells its number.
+-- Once a job is deregistered with purge, it is gone. A new evaluation of it is pending, and the reply has its number.
 -- Other jobs and all allocations are as they were.
 abbrev pub PurgedIsGone : Type 0
 PurgedIsGone = (ns : Name) (secret : Option Name) (id : Name) (s s' : State) (reply : Reply) →
@@ -146,25 +146,25 @@ pub record IsStopped (n : ℕ) (reply : Reply) (before now : Tenant) : Type 0 wh
   pub node : row.node ≡ old.node
   pub number : ℕ
   pub index : ℕ
-  pub told : reply.content ≡ Content.Stopped number index
+  pub replied : reply.content ≡ Content.Stopped number index
   pub index_shown : reply.index ≡ Some now.index
   pub evaluated : IsEvaluated old.job Trigger.AllocStop number before now
   pub other_allocations : KeepsOtherAllocations n before now
   pub jobs : now.jobs ≡ before.jobs
 
 -- Once a request to stop an allocation is made, the desired status of the allocation, which was live, is to stop. A new
--- evaluation of its job is pending, and the reply tells its number. Other allocations and all jobs are as they were.
+-- evaluation of its job is pending, and the reply has its number. Other allocations and all jobs are as they were.
 abbrev pub StoppedAllocation : Type 0
 StoppedAllocation = (ns : Name) (secret : Option Name) (n : ℕ) (s s' : State) (reply : Reply) →
     IsMade (Step.Ask ns secret (AskCommand.StopAllocation n)) s reply s' → HasRows ns s s' (IsStopped n reply)
 
--- ---- the index that is told
+-- ---- the index in the reply
 
--- the number and the index of a new evaluation, where the reply tells them
-abbrev pub evaluation_told : Content → Option (ℕ × ℕ)
-evaluation_told (Content.Registered number index job_index) = Some (number, index)
-evaluation_told (Content.Stopped number index) = Some (number, index)
-evaluation_told _ = None
+-- the number and the index of a new evaluation, if the reply has them
+abbrev pub evaluation_in_reply : Content → Option (ℕ × ℕ)
+evaluation_in_reply (Content.Registered number index job_index) = Some (number, index)
+evaluation_in_reply (Content.Stopped number index) = Some (number, index)
+evaluation_in_reply _ = None
 
 pub record IsDated (number index : ℕ) (before now : Tenant) : Type 0 where
   pub next : index ≡ before.index + 1
@@ -174,12 +174,12 @@ pub record IsDated (number index : ℕ) (before now : Tenant) : Type 0 where
   pub is_created : row.create_index ≡ index
   pub is_modified : row.modify_index ≡ index
 
--- In a state that has what isolation rests on, take a made request in a namespace whose reply tells the number and the index
+-- In a state that has what isolation rests on, take a made request in a namespace whose reply has the number and the index
 -- of a new evaluation. The index is the namespace's index after the request, which is its next one, and the evaluation was
 -- created and last modified at it.
-abbrev pub ToldIndexIsNow : Type 0
-ToldIndexIsNow = (ns : Name) (secret : Option Name) (command : AskCommand) (s s' : State) (reply : Reply) (number index : ℕ) →
-    IsSteady s → IsMade (Step.Ask ns secret command) s reply s' → evaluation_told reply.content ≡ Some (number, index) →
+abbrev pub IndexInReplyIsNew : Type 0
+IndexInReplyIsNew = (ns : Name) (secret : Option Name) (command : AskCommand) (s s' : State) (reply : Reply) (number index : ℕ) →
+    IsSteady s → IsMade (Step.Ask ns secret command) s reply s' → evaluation_in_reply reply.content ≡ Some (number, index) →
     HasRows ns s s' (IsDated number index)
 
 -- ---- reports

@@ -1,5 +1,5 @@
 -- Laws of indexes: a namespace's index rises by one where its rows change, changed rows have the new index, and events
--- tell it.
+-- name them.
 use Rattle.std.specs.Prelude.{◌≡◌, ◌≢◌, ◌⊎◌, ℕ, ◌+◌, ◌≤◌, Bool, true, false, List, [], ◌∷◌, ◌++◌, Option, Some, None}
 use Rattle.std.specs.Prelude.{IsTrue, option_map}
 use Rattle.std.specs.FinMap.{get, contains_key}
@@ -71,11 +71,11 @@ topic_of true id = Topic.JobDeregistered id
 topic_of false id = Topic.JobRegistered id
 
 -- among the events there is one with that topic and the namespace's index
-abbrev pub IsTold : Tenant → List Event → Topic → Type 0
-IsTold now events topic = Contains events (record { index = now.index; topic = topic })
+abbrev pub HasEvent : Tenant → List Event → Topic → Type 0
+HasEvent now events topic = Contains events (record { index = now.index; topic = topic })
 
--- The topic names a row that the step has changed, so that its modify index is the new index. A job that is told as
--- registered is not stopped, and one that is told as deregistered is stopped, or gone.
+-- The topic names a row that the step has changed, so that its modify index is the new index. A job that is named as
+-- registered is not stopped, and one that is named as deregistered is stopped, or gone.
 abbrev pub IsOfChange : Tenant → Tenant → Topic → Type 0
 IsOfChange old now (Topic.JobRegistered id) =
     (job : Job) × (get now.jobs id ≡ Some job) × (job.stop ≡ false) × (job.modify_index ≡ now.index)
@@ -87,31 +87,31 @@ IsOfChange old now (Topic.EvaluationUpdated n) =
 IsOfChange old now (Topic.AllocationUpdated n) =
     (a : Allocation) × (get now.allocations n ≡ Some a) × (a.modify_index ≡ now.index)
 
--- Each job, evaluation and allocation that is there is as it was, or the events tell it; and they tell each job that is
--- gone. They tell nothing else.
-pub record Tells (old now : Tenant) (events : List Event) : Type 0 where
+-- Each job, evaluation and allocation that is there is as it was, or the events name it; and they name each job that is
+-- gone. They name nothing else.
+pub record NamesChanges (old now : Tenant) (events : List Event) : Type 0 where
   pub job : (id : Name) (job : Job) → get now.jobs id ≡ Some job →
-      (get old.jobs id ≡ Some job) ⊎ IsTold now events (topic_of job.stop id)
+      (get old.jobs id ≡ Some job) ⊎ HasEvent now events (topic_of job.stop id)
   pub gone : (id : Name) (job : Job) → get old.jobs id ≡ Some job → get now.jobs id ≡ None →
-      IsTold now events (Topic.JobDeregistered id)
+      HasEvent now events (Topic.JobDeregistered id)
   pub evaluation : (n : ℕ) (e : Evaluation) → get now.evaluations n ≡ Some e →
-      WasEvaluation old n e ⊎ IsTold now events (Topic.EvaluationUpdated n)
+      WasEvaluation old n e ⊎ HasEvent now events (Topic.EvaluationUpdated n)
   pub allocation : (n : ℕ) (a : Allocation) → get now.allocations n ≡ Some a →
-      WasAllocation old n a ⊎ IsTold now events (Topic.AllocationUpdated n)
+      WasAllocation old n a ⊎ HasEvent now events (Topic.AllocationUpdated n)
   pub no_other : Each (λ event. IsOfChange old now event.topic) events
 
--- The index is the next one. There are new events, each with that index, and they tell exactly the changed rows. They
+-- The index is the next one. There are new events, each with that index, and they name exactly the changed rows. They
 -- follow the old ones, and the last hundred of all are kept.
 pub record Rises (old now : Tenant) : Type 0 where
   pub index : now.index ≡ old.index + 1
   pub new : List Event
   pub some : new ≢ []
   pub dated : Each (λ event. event.index ≡ now.index) new
-  pub tells : Tells old now new
+  pub changes : NamesChanges old now new
   pub events : now.events ≡ last 100 (old.events ++ new)
 
 -- Whatever step is made, the index of a namespace stays, and its events stay. Or the index rises by one, and new events
--- with that index tell exactly the changed jobs, evaluations and allocations. They follow the old ones, and the last
+-- with that index name exactly the changed jobs, evaluations and allocations. They follow the old ones, and the last
 -- hundred of all are kept.
 abbrev pub IndexRisesByOne : Type 0
 IndexRisesByOne = (step : Step) (s s' : State) (ns : Name) (old now : Tenant) → Spans step s s' ns old now →

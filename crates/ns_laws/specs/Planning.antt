@@ -292,13 +292,13 @@ pub record IsDoneByNode (s : State) (kept : Snapshot) (made : List ℕ) (dropped
       (n : ℕ) × (slice_get made i ≡ Some n) × IsMadeFor kept p n before now
   pub last : now.allocation_number ≡ before.allocation_number + length made
   -- the reply names each node whose placements are not done
-  pub others_told : Each (λ p. does p.node ≡ false → (seen : PoolNode) → slice_get kept.nodes p.node ≡ Some seen →
+  pub others_named : Each (λ p. does p.node ≡ false → (seen : PoolNode) → slice_get kept.nodes p.node ≡ Some seen →
       has_name dropped seen.name ≡ true) (plan kept).placing.placements
 
 -- In a valid state, Apply does, for each node of the snapshot, all placements of the plan there or none of them. It
 -- does them only if the node is still ready and eligible and meets every constraint of the job. The placements that it
--- does become new allocations, in the order of the plan. The reply tells the numbers of these, and no other number is
--- given out. It also tells the names of the nodes whose placements are not done.
+-- does become new allocations, in the order of the plan. The reply has the numbers of these, and no other number is
+-- given out. It also has the names of the nodes whose placements are not done.
 abbrev pub AppliesByNode : Type 0
 AppliesByNode = (s t : State) (number : ℕ) (ns : Name) (worker : Worker) (kept : Snapshot) (reply : Reply)
     (made : List ℕ) (dropped : List Name) (before now : Tenant) → IsValid s →

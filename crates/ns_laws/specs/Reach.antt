@@ -140,13 +140,13 @@ IsSameOrWoken w ns n old e = (e ≡ old) ⊎ (IsTrue (has_key w.blocked (ns, n))
 
 -- the index and the events are as they were; or the index is one greater, and new events with that index follow, of all of
 -- which the last hundred are kept
-abbrev pub IsSameOrTold : Tenant → Tenant → Type 0
-IsSameOrTold old t = ((t.index ≡ old.index) × (t.events ≡ old.events))
+abbrev pub IndexStaysOrRises : Tenant → Tenant → Type 0
+IndexStaysOrRises old t = ((t.index ≡ old.index) × (t.events ≡ old.events))
     ⊎ ((t.index ≡ old.index + 1) × (new : List Event) × Each (λ event. event.index ≡ t.index) new
     × (t.events ≡ last 100 (old.events ++ new)))
 
 -- Of the namespace, the record, the numbers given, the jobs, the allocations and the workers are as they were. It has the
--- same evaluations, but that some may be woken; then its index and its events may tell it.
+-- same evaluations, but that some may be woken; then its index may rise, with new events.
 pub record IsLeft (w : World) (ns : Name) (old t : Tenant) : Type 0 where
   pub namespace : t.namespace ≡ old.namespace
   pub evaluation_number : t.evaluation_number ≡ old.evaluation_number
@@ -157,7 +157,7 @@ pub record IsLeft (w : World) (ns : Name) (old t : Tenant) : Type 0 where
   pub evaluation : (n : ℕ) (e : Evaluation) → get old.evaluations n ≡ Some e →
       (now : Evaluation) × (get t.evaluations n ≡ Some now) × IsSameOrWoken w ns n e now
   pub no_evaluation : (n : ℕ) → get old.evaluations n ≡ None → get t.evaluations n ≡ None
-  pub told : IsSameOrTold old t
+  pub index_and_events : IndexStaysOrRises old t
 
 -- What is asked in a namespace leaves every other namespace alone, but that blocked evaluations there may wake.
 abbrev pub AskStaysInside : Type 0

@@ -5,7 +5,7 @@ ghost use Rattle.ns_laws.specs.Effects.{
   DeregisteredIsStopped,
   PurgedIsGone,
   StoppedAllocation,
-  ToldIndexIsNow,
+  IndexInReplyIsNew,
   ReportedIsThere,
   PutNodeIsThere,
   DeletedNodeIsGone,
@@ -21,34 +21,34 @@ ghost use Rattle.ns_laws.specs.Effects.{
 };
 
 /// Once a registration is made, the job is there with the document that was registered, and it is not stopped. A new evaluation
-/// of it is pending, and the reply tells its number. Other jobs and all allocations are as they were.
+/// of it is pending, and the reply has its number. Other jobs and all allocations are as they were.
 pub fn registered_is_there()
     ensures { RegisteredIsThere }
 {}
 
 /// Once a job is deregistered without purge, it is still there with its document, and it is stopped. A new evaluation of it is
-/// pending, and the reply tells its number. Other jobs and all allocations are as they were.
+/// pending, and the reply has its number. Other jobs and all allocations are as they were.
 pub fn deregistered_is_stopped()
     ensures { DeregisteredIsStopped }
 {}
 
-/// Once a job is deregistered with purge, it is gone. A new evaluation of it is pending, and the reply tells its number. Other
+/// Once a job is deregistered with purge, it is gone. A new evaluation of it is pending, and the reply has its number. Other
 /// jobs and all allocations are as they were.
 pub fn purged_is_gone()
     ensures { PurgedIsGone }
 {}
 
 /// Once a request to stop an allocation is made, the desired status of the allocation, which was live, is to stop. A new
-/// evaluation of its job is pending, and the reply tells its number. Other allocations and all jobs are as they were.
+/// evaluation of its job is pending, and the reply has its number. Other allocations and all jobs are as they were.
 pub fn stopped_allocation()
     ensures { StoppedAllocation }
 {}
 
-/// In a state that has what isolation rests on, take a made request in a namespace whose reply tells the number and the index
+/// In a state that has what isolation rests on, take a made request in a namespace whose reply has the number and the index
 /// of a new evaluation. The index is the namespace's index after the request, which is its next one, and the evaluation was
 /// created and last modified at it.
-pub fn told_index_is_now()
-    ensures { ToldIndexIsNow }
+pub fn index_in_reply_is_new()
+    ensures { IndexInReplyIsNew }
 {}
 
 /// Once a client's report is made, the allocation, which is on that node, has the reported client status. Its desired status is

@@ -1,5 +1,5 @@
 //! Laws of indexes: a namespace's index rises by one where its rows change, changed rows have the new index, and events
-//! tell it.
+//! name them.
 
 ghost use Rattle.ns_laws.specs.Indexes.{
   IndexRisesByOne,
@@ -13,7 +13,7 @@ ghost use Rattle.ns_laws.specs.Indexes.{
 };
 
 /// Whatever step is made, the index of a namespace stays, and its events stay. Or the index rises by one, and new
-/// events with that index tell exactly the changed jobs, evaluations and allocations. They follow the old ones, and the
+/// events with that index name exactly the changed jobs, evaluations and allocations. They follow the old ones, and the
 /// last hundred of all are kept.
 pub fn index_rises_by_one()
     ensures { IndexRisesByOne }

@@ -75,8 +75,8 @@ pub fn plans_within_quota()
 
 /// In a valid state, Apply does, for each node of the snapshot, all placements of the plan there or none of them. It
 /// does them only if the node is still ready and eligible and meets every constraint of the job. The placements that it
-/// does become new allocations, in the order of the plan. The reply tells the numbers of these, and no other number is
-/// given out. It also tells the names of the nodes whose placements are not done.
+/// does become new allocations, in the order of the plan. The reply has the numbers of these, and no other number is
+/// given out. It also has the names of the nodes whose placements are not done.
 pub fn applies_by_node()
     ensures { AppliesByNode }
 {}
