@@ -5,3 +5,9 @@ pub mod ValidRecords
 pub mod ValidEvaluations
 pub mod ValidWorkers
 pub mod Valid
+pub mod StepLemmas
+pub mod RightsLemmas
+pub mod RefusalLemmas
+pub mod Held
+pub mod Apartness
+pub mod AloneValid

@@ -3,3 +3,8 @@ pub mod Laws
 pub mod Orderly
 pub mod Headline
 pub mod Valid
+pub mod Steps
+pub mod Rights
+pub mod Refusals
+pub mod Staying
+pub mod Parted

@@ -5,7 +5,7 @@ use Rattle.ns_types.specs.Access.Sharing.{is_apart}
 use Rattle.ns_types.specs.Isolation.{alone, alone_in, part_of}
 use Rattle.ns_types.specs.State.Names.{Name}
 use Rattle.ns_types.specs.Validity.{IsValid}
-use Rattle.ns_laws.proofs.Valid.{alone_is_valid}
+use Rattle.ns_audit.proofs.AloneValid.{alone_is_valid}
 use Rattle.ns_core.specs.declared.parts.Parts.{Parts}
 use Rattle.ns_core.specs.Held.{IsIndexed, IsKept}
 use Rattle.ns_core.specs.Viewed.{state_of, world_of}

@@ -29,8 +29,8 @@ use Rattle.ns_types.proofs.Tables.{each_row}
 use Rattle.ns_laws.proofs.SecretsLemmas.{only_managers_administer}
 use Rattle.ns_laws.proofs.TokenLemmas.{same_done}
 use Rattle.ns_laws.specs.Secrets as law
-use Rattle.ns_laws.proofs.RightsLemmas.{unknown_is_denied}
-use Rattle.ns_laws.proofs.StepLemmas.{made, same_state, not_said}
+use Rattle.ns_audit.proofs.RightsLemmas.{unknown_is_denied}
+use Rattle.ns_audit.proofs.StepLemmas.{made, same_state, not_said}
 
 -- ---- who changes the access lists
 

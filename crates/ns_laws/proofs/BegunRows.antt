@@ -39,7 +39,7 @@ use Rattle.ns_laws.specs.Indexes as law
 use Rattle.ns_laws.specs.Indexes.{Spans, Rests, Rises, Ascends, IsStamped, WasEvaluation, WasAllocation}
 use Rattle.ns_laws.proofs.EffectRows.{settled_rows, settled_tenant}
 use Rattle.ns_laws.proofs.OwnChanges.{is_ask, change_fixed, ask_fixed}
-use Rattle.ns_laws.proofs.StepLemmas.{made, refusal_leaves_all}
+use Rattle.ns_audit.proofs.StepLemmas.{made, refusal_leaves_all}
 
 -- ---- what the step itself changes of a namespace that is there before and after it
 

@@ -31,7 +31,7 @@ use Rattle.ns_types.proofs.Named.{names, one_name, same_name_is}
 use Rattle.ns_types.proofs.Queue.{queue_keeps}
 use Rattle.ns_types.proofs.TableRows.{get_put, get_other}
 use Rattle.ns_audit.proofs.ValidAllocations.Work.{unlisted_tenants}
-use Rattle.ns_laws.proofs.Held.Work.{status_leaves, ended_leaves, tied_leaves, deregistered_leaves}
+use Rattle.ns_audit.proofs.Held.Work.{status_leaves, ended_leaves, tied_leaves, deregistered_leaves}
 
 -- the allocation with that number
 abbrev pub row_at : ℕ → Option Tenant → Option Allocation

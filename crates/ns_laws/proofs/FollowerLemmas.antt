@@ -33,7 +33,7 @@ use Rattle.ns_types.proofs.TableRows.{get_put}
 use Rattle.ns_types.proofs.Tables.{get-map_rows, none_of_any}
 use Rattle.ns_types.proofs.Tests.{and_yes, not_Some, same_Some}
 use Rattle.ns_laws.specs.Waking.{MissedNothing, FollowerMissedNothing}
-use Rattle.ns_laws.proofs.StepLemmas.{made}
+use Rattle.ns_audit.proofs.StepLemmas.{made}
 use Rattle.ns_laws.proofs.WakingLemmas.{can_use_of, closed_tenant, settled_tenants}
 
 -- ---- what no release after the snapshot says

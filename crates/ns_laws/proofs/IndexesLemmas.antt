@@ -52,7 +52,7 @@ use Rattle.ns_laws.proofs.DocumentLemmas.{document_is, client_is}
 use Rattle.ns_laws.proofs.EffectRows.{settled_rows, settled_tenant}
 use Rattle.ns_laws.proofs.ReadsLemmas.{has_row, map_has}
 use Rattle.ns_laws.proofs.SecretsLemmas.{Has, append_has, contains_from, filter_has}
-use Rattle.ns_laws.proofs.StepLemmas.{made, refusal_leaves_all}
+use Rattle.ns_audit.proofs.StepLemmas.{made, refusal_leaves_all}
 
 -- ---- rows that are not changed
 

@@ -52,7 +52,7 @@ use Rattle.ns_audit.proofs.Alone.Recording.{record_kept}
 use Rattle.ns_audit.proofs.Alone.Records.{plain_keeps}
 use Rattle.ns_laws.proofs.QueueLemmas.{woken_are_called}
 use Rattle.ns_laws.proofs.SharingLemmas.{other_name}
-use Rattle.ns_laws.proofs.StepLemmas.{same_answer, same_state, not_said, not_refused}
+use Rattle.ns_audit.proofs.StepLemmas.{same_answer, same_state, not_said, not_refused}
 use Rattle.ns_laws.specs.Reach as law
 
 -- ---- what a step leads to

@@ -105,9 +105,6 @@ none_served_of_none w keys e = none_of_none (priority_at w) keys e
 
 -- ---- who wakes
 
-pub same_number_is : (a b : ℕ) → same_number a b ≡ true → a ≡ b
-same_number_is a b e = one_number a b (equal_by (nat_cmp a b) e)
-
 pub woken_in_order : WokenInOrder
 unfolding woken
 woken_in_order w w' = filter_in_order (λ key. has_key w'.blocked key && option_map_or (wakes w w') (evaluation_at w key) false) w.blocked

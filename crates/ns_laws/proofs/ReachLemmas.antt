@@ -28,7 +28,7 @@ use Rattle.ns_types.proofs.Named.{names, one_name, numbers, one_number, same_nam
 use Rattle.ns_types.proofs.Tables.{any_row-none}
 use Rattle.ns_types.proofs.Tests.{is_no}
 use Rattle.ns_audit.proofs.Alone.Bordering.{among, foreign, one_of_all, within}
-use Rattle.ns_laws.proofs.Apartness.{inside}
+use Rattle.ns_audit.proofs.Apartness.{inside}
 use Rattle.ns_laws.proofs.SharingLemmas.{apart_is_confined, apart_keeps_to_its_pools, found_in, has_contained, other_name}
 use Rattle.ns_laws.specs.Sharing.{KeepsToPools}
 use Rattle.ns_laws.specs.Reach as law

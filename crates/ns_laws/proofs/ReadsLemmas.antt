@@ -64,9 +64,9 @@ use Rattle.ns_laws.specs.Reads as law
 use Rattle.ns_laws.specs.Reads.{ShowsOf, ShowsOne, ShowsRow, ShowsRows, Rises, BeginsWith, HasLive, HasStatus}
 use Rattle.ns_laws.proofs.Elements.{filter_in_order}
 use Rattle.ns_laws.proofs.EffectRows.{Does, does_found, does_if, does_of, does_lift, after_does}
-use Rattle.ns_laws.proofs.RefusalLemmas.{after_allowed, same_refusal}
+use Rattle.ns_audit.proofs.RefusalLemmas.{after_allowed, same_refusal}
 use Rattle.ns_laws.proofs.SecretsLemmas.{Has, contains_from, filter_has, has_from}
-use Rattle.ns_laws.proofs.StepLemmas.{not_refused, same_answer}
+use Rattle.ns_audit.proofs.StepLemmas.{not_refused, same_answer}
 use Rattle.ns_laws.proofs.TokenLemmas.{Leaves, idle, settled_idle}
 
 -- ---- what a read does

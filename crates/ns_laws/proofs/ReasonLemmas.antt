@@ -39,18 +39,18 @@ use Rattle.ns_types.proofs.Lists.{not_both}
 use Rattle.ns_types.proofs.Named.{names, one_name, first_of_both, second_of_both, same_name_is, same_name_refl}
 use Rattle.ns_types.proofs.Registrations.{by_tests}
 use Rattle.ns_types.proofs.Tests.{either_of, is_no, is_yes, not_Some, same_Some}
-use Rattle.ns_laws.specs.Refusals.{SpeaksAgainst, rank, is_past_after, would_pass_bound}
+use Rattle.ns_audit.specs.Refusals.{SpeaksAgainst, rank, is_past_after, would_pass_bound}
 use Rattle.ns_laws.specs.Reasons as law
 use Rattle.ns_laws.specs.Reasons.{HasReason, IsActive, IsFullFor, IsMissing, IsNoSuccessor, IsUnknown, IsConflict, IsInUse, LacksRoom}
 use Rattle.ns_laws.specs.Reasons.{KeepsNamespace, KeepsPool, NamesPool, NeedsOld, NotOnNode, NoTokenHas, MissesRecord, MissesNode, MissesRow}
-use Rattle.ns_laws.proofs.RefusalLemmas.{after_allowed, never, only, same_refusal, worker_acts}
+use Rattle.ns_audit.proofs.RefusalLemmas.{after_allowed, never, only, same_refusal, worker_acts}
 use Rattle.ns_laws.proofs.ReasonTests.{Exceeds, Has, Outside, Passing, Row, Tells, both_hold, first_holds, left_holds, may_not_become, no_successor}
 use Rattle.ns_laws.proofs.ReasonTests.{same_client_is, tells_absent, tells_active, tells_exceeds, tells_full, tells_named, tells_names}
 use Rattle.ns_laws.proofs.ReasonTests.{tells_needs, tells_option, tells_outside, tells_plainly, tells_rows, tells_same}
 use Rattle.ns_laws.proofs.RegisterLemmas.{first_refusal_of_register, other_against, room_against}
-use Rattle.ns_laws.proofs.RightsLemmas.{denied_without}
+use Rattle.ns_audit.proofs.RightsLemmas.{denied_without}
 use Rattle.ns_laws.proofs.SharingLemmas.{found_in, has_contained}
-use Rattle.ns_laws.proofs.StepLemmas.{same_answer, not_refused, not_said}
+use Rattle.ns_audit.proofs.StepLemmas.{same_answer, not_refused, not_said}
 use Rattle.ns_laws.proofs.TokenLemmas.{row_of_secret, secret_is}
 
 -- ---- where an outcome is a refusal, this holds of it

@@ -21,14 +21,14 @@ use Rattle.ns_types.specs.Access.Sharing.{permits}
 use Rattle.ns_types.specs.Steps.{after, act, said, concluded, is_past_bound, settled, reply_of}
 use Rattle.ns_types.proofs.Lists.{not_both}
 use Rattle.ns_types.proofs.Registrations.{by_tests}
-use Rattle.ns_types.proofs.Named.{first_of_both, second_of_both, same_number_refl}
+use Rattle.ns_types.proofs.Named.{first_of_both, one_number, second_of_both, same_number_refl}
+use Rattle.ns_types.proofs.Tables.{tied}
 use Rattle.ns_types.proofs.Tests.{is_no}
-use Rattle.ns_laws.specs.Refusals as law
-use Rattle.ns_laws.specs.Refusals.{SpeaksAgainst, rank}
-use Rattle.ns_laws.proofs.RefusalLemmas.{same_refusal, after_allowed}
-use Rattle.ns_laws.proofs.RightsLemmas.{denied_without}
-use Rattle.ns_laws.proofs.StepLemmas.{same_answer, not_refused}
-use Rattle.ns_laws.proofs.QueueLemmas.{same_number_is}
+use Rattle.ns_audit.specs.Refusals as law
+use Rattle.ns_audit.specs.Refusals.{SpeaksAgainst, rank}
+use Rattle.ns_audit.proofs.RefusalLemmas.{same_refusal, after_allowed}
+use Rattle.ns_audit.proofs.RightsLemmas.{denied_without}
+use Rattle.ns_audit.proofs.StepLemmas.{same_answer, not_refused}
 
 module _ (s : State) (secret : Option Name) (ns : Name) (r : Registration) where
   abbrev step : Step
@@ -202,7 +202,7 @@ index_is_demanded job index = (
   ((λ e. eqb-true index 0 e), (λ e. eq-eqb index 0 e)),
   (
     (λ e. (
-      same_number_is job.modify_index index (first_of_both (same_number job.modify_index index) _ e),
+      tied one_number job.modify_index index (first_of_both (same_number job.modify_index index) _ e),
       λ zero_is. not_both (eq-eqb index 0 zero_is)
           (is_no _ (second_of_both (same_number job.modify_index index) _ e)),
     )),

@@ -24,8 +24,8 @@ use Rattle.ns_types.specs.State.Names.{Name}
 use Rattle.ns_types.specs.State.Rows.{Acl}
 use Rattle.ns_types.proofs.Lists.{not_both}
 use Rattle.ns_laws.specs.Secrets as law
-use Rattle.ns_laws.proofs.RefusalLemmas.{denied_without_right}
-use Rattle.ns_laws.proofs.RightsLemmas.{denied_without}
+use Rattle.ns_audit.proofs.RefusalLemmas.{denied_without_right}
+use Rattle.ns_audit.proofs.RightsLemmas.{denied_without}
 
 -- ---- for whom a secret stands
 

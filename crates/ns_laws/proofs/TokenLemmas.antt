@@ -39,10 +39,10 @@ use Rattle.ns_types.proofs.TableRows.{get_put, get_other, some_row}
 use Rattle.ns_types.proofs.Tables.{any_row-none, each_row, none_of_any}
 use Rattle.ns_audit.proofs.ValidEvaluations.Pairs.{Pairs, pairs_of_distinct, pairs_of_mapped}
 use Rattle.ns_laws.specs.Secrets as law
-use Rattle.ns_laws.proofs.RefusalLemmas.{after_allowed}
-use Rattle.ns_laws.proofs.RightsLemmas.{manager_is_allowed}
+use Rattle.ns_audit.proofs.RefusalLemmas.{after_allowed}
+use Rattle.ns_audit.proofs.RightsLemmas.{manager_is_allowed}
 use Rattle.ns_laws.proofs.SharingLemmas.{other_name}
-use Rattle.ns_laws.proofs.StepLemmas.{made, same_state, not_said}
+use Rattle.ns_audit.proofs.StepLemmas.{made, same_state, not_said}
 
 -- ---- what changes nothing
 

@@ -41,7 +41,7 @@ use Rattle.ns_types.proofs.Tests.{and_yes, is_no, is_yes, not_Some, same_Some}
 use Rattle.ns_audit.proofs.Steady.Keeping.{has_key_filter}
 use Rattle.ns_laws.specs.Waking.{SleepsThrough, MayUse, IsOpen, StillLives, GotNoRoom, NoneSleepsOverRoom, GotNoQuota, NoneSleepsOverQuota}
 use Rattle.ns_laws.proofs.QueueLemmas.{woken_are_called}
-use Rattle.ns_laws.proofs.StepLemmas.{made}
+use Rattle.ns_audit.proofs.StepLemmas.{made}
 
 -- ---- what a test has found the same is the same
 

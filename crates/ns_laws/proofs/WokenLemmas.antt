@@ -42,7 +42,7 @@ use Rattle.ns_laws.proofs.EffectRows.{Does}
 use Rattle.ns_laws.proofs.QueueLemmas.{woken_are_called}
 use Rattle.ns_laws.proofs.ReasonLemmas.{tells_quota}
 use Rattle.ns_laws.proofs.ReasonTests.{Row, Tells, left_holds, tells_plainly, tells_rows}
-use Rattle.ns_laws.proofs.StepLemmas.{IsMade, made}
+use Rattle.ns_audit.proofs.StepLemmas.{IsMade, made}
 use Rattle.ns_laws.proofs.WakingLemmas.{any_filtered, closed_tenant, free_of, open_of, settled_blocked}
 use Rattle.ns_laws.proofs.WakingLemmas.{settled_nodes, settled_quotas, settled_tenants}
 use Rattle.ns_laws.proofs.WokenSteps.{own_blocked}

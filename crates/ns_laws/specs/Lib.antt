@@ -1,16 +1,11 @@
 pub mod Sublist
-pub mod Steps
 pub mod Queue
 pub mod Placement
-pub mod Rights
 pub mod Sharing
-pub mod Refusals
 pub mod Reasons
 pub mod Sums
 pub mod Nodes
 pub mod Kinds
-pub mod Staying
-pub mod Parted
 pub mod Reach
 pub mod Waking
 pub mod Woken

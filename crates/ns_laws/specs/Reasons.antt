@@ -34,7 +34,7 @@ use Rattle.ns_types.specs.State.Rows.{State, World, Tenant, PoolRows, allocation
 use Rattle.ns_types.specs.State.Sums.{node_load}
 use Rattle.ns_types.specs.Steps.{after, said, is_allowed}
 use Rattle.ns_types.specs.Working.Worker.{Worker}
-use Rattle.ns_laws.specs.Refusals.{SpeaksAgainst, rank, would_pass_bound}
+use Rattle.ns_audit.specs.Refusals.{SpeaksAgainst, rank, would_pass_bound}
 
 -- ---- not found
 

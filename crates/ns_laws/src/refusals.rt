@@ -1,6 +1,6 @@
 //! Laws of refusals: which there are, and which comes first.
 
-ghost use Rattle.ns_laws.specs.Refusals.{
+ghost use Rattle.ns_audit.specs.Refusals.{
   DeniedWithoutRight,
   DeniedAlike,
   StepsRefuseSo,

@@ -1,6 +1,6 @@
 //! Laws of rights: what a secret may do.
 
-ghost use Rattle.ns_laws.specs.Rights.{
+ghost use Rattle.ns_audit.specs.Rights.{
   UnknownHasNoRight,
   UnknownIsDenied,
   ManagerIsAllowed,

@@ -1,6 +1,6 @@
 //! Laws of one step and of runs.
 
-ghost use Rattle.ns_laws.specs.Steps.{
+ghost use Rattle.ns_audit.specs.Steps.{
   OneOutcome,
   RefusalLeavesAll,
   AnswerEachStep,

@@ -5,7 +5,7 @@ use Rattle.ns_types.specs.declared.step.Step.{Step}
 use Rattle.ns_types.specs.State.Names.{Name}
 use Rattle.ns_types.specs.State.Rows.{State}
 use Rattle.ns_types.specs.Steps.{Answer, Run, after, said}
-use Rattle.ns_laws.proofs.StepLemmas.{one_outcome}
+use Rattle.ns_audit.proofs.StepLemmas.{one_outcome}
 use Rattle.ns_audit.specs.Orderly.{IsSteady}
 use Rattle.ns_audit.proofs.Alone.Running.{steady_step}
 use Rattle.ns_replay.specs.Abreast.{StandsBeside}

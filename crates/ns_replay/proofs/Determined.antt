@@ -5,7 +5,7 @@ use Rattle.ns_types.specs.declared.step.Step.{Step}
 use Rattle.ns_types.specs.State.Rows.{State}
 use Rattle.ns_types.specs.Steps.{Answer, Run}
 use Rattle.ns_types.proofs.Tests.{not_Some, same_Some}
-use Rattle.ns_laws.proofs.StepLemmas.{one_outcome}
+use Rattle.ns_audit.proofs.StepLemmas.{one_outcome}
 use Rattle.ns_json.specs.Replies.{Entry, IsKept, rendered}
 use Rattle.ns_replay.specs.Replying.{FitsIn}
 use Rattle.ns_replay.specs.declared.rerun.rerunning.RerunFault.{RerunFault}

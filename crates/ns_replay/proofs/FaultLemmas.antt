@@ -9,7 +9,7 @@ use Rattle.ns_types.specs.Steps.{Answer, Run}
 use Rattle.ns_types.specs.Validity.{IsValid}
 use Rattle.ns_types.proofs.Lists.{not_both}
 use Rattle.ns_types.proofs.Tests.{not_Some, same_Some}
-use Rattle.ns_laws.proofs.StepLemmas.{one_outcome}
+use Rattle.ns_audit.proofs.StepLemmas.{one_outcome}
 use Rattle.ns_json.specs.Replies.{Entry, IsKept, rendered}
 use Rattle.ns_replay.specs.declared.fault.ReplayFault.{ReplayFault}
 use Rattle.ns_replay.specs.declared.fault.ReplayFault.TheVariants.{Premise, Differs, NotARun, Memory}

@@ -14,10 +14,10 @@ use Rattle.ns_types.proofs.Lists.{not_both}
 use Rattle.ns_types.proofs.Named.{second_of_both}
 use Rattle.ns_types.proofs.Tests.{is_no, is_yes, not_Some}
 use Rattle.ns_audit.specs.Orderly.{IsSteady}
-use Rattle.ns_laws.specs.Staying.{puts_namespace}
-use Rattle.ns_laws.proofs.Apartness.{apart_step}
+use Rattle.ns_audit.specs.Staying.{puts_namespace}
+use Rattle.ns_audit.proofs.Apartness.{apart_step}
 use Rattle.ns_json.specs.Replies.{Entry, rendered}
-use Rattle.ns_laws.proofs.StepLemmas.{one_outcome, refusal_leaves_all}
+use Rattle.ns_audit.proofs.StepLemmas.{one_outcome, refusal_leaves_all}
 use Rattle.ns_replay.specs.Replying.{Fits, FitsIn, Replies, Shows}
 use Rattle.ns_replay.proofs.Replied.{made_so}
 use Rattle.ns_replay.specs.Making.{MakesAny}

@@ -10,7 +10,7 @@ use Rattle.ns_types.specs.State.Rows.{State}
 use Rattle.ns_types.specs.Steps.{Answer, Run, after, said}
 use Rattle.ns_types.specs.Validity.{IsValid}
 use Rattle.ns_types.proofs.Lists.{filter-append}
-use Rattle.ns_laws.proofs.StepLemmas.{one_outcome, runs_join}
+use Rattle.ns_audit.proofs.StepLemmas.{one_outcome, runs_join}
 use Rattle.ns_audit.proofs.Alone.Running.{valid_is_steady}
 use Rattle.ns_json.specs.Replies.{Entry, rendered}
 use Rattle.ns_replay.specs.declared.fault.ReplayFault.{ReplayFault}

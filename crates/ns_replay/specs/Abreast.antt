@@ -8,7 +8,7 @@ use Rattle.ns_types.specs.State.Names.{Name}
 use Rattle.ns_types.specs.State.Rows.{State, World}
 use Rattle.ns_types.specs.Steps.{Answer, after, said}
 use Rattle.ns_audit.specs.Orderly.{IsSteady}
-use Rattle.ns_laws.specs.Staying.{puts_namespace}
+use Rattle.ns_audit.specs.Staying.{puts_namespace}
 use Rattle.ns_json.specs.Replies.{Entry}
 use Rattle.ns_replay.specs.Replying.{Fits, FitsIn}
 use Rattle.ns_replay.specs.declared.claim.Claim.{Claim}

@@ -2,7 +2,7 @@
 
 ghost use Rattle.std.specs.Prelude.{◌≡◌, ◌&&◌, IfErr, IfOk, true};
 ghost use Rattle.ns_audit.specs.Orderly.{IsSteady};
-ghost use Rattle.ns_laws.specs.Staying.{puts_namespace};
+ghost use Rattle.ns_audit.specs.Staying.{puts_namespace};
 ghost use Rattle.ns_types.specs.Isolation.{is_own, lacks_room};
 ghost use Rattle.ns_replay.specs.Replying.{Replies};
 ghost use Rattle.ns_replay.specs.Abreast.{IsBreachBy, KeepsPremisesBy, breaks_premise, is_apart_by, its_part};

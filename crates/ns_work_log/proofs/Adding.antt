@@ -7,8 +7,8 @@ use Rattle.ns_types.specs.declared.step.Step.{Step}
 use Rattle.ns_types.specs.State.Names.{Name}
 use Rattle.ns_types.specs.Steps.{Answer}
 use Rattle.ns_types.proofs.Lists.{not_both}
-use Rattle.ns_laws.specs.Refusals.{is_of_steps}
-use Rattle.ns_laws.proofs.RefusalLemmas.{steps_refuse_so}
+use Rattle.ns_audit.specs.Refusals.{is_of_steps}
+use Rattle.ns_audit.proofs.RefusalLemmas.{steps_refuse_so}
 use Rattle.ns_work_log.specs.Logs.{History, IsLogged, Logs}
 use Rattle.ns_work_log.specs.Noting.{is_answer}
 use Rattle.ns_work_log.specs.Planned.{LogsFinish, LogsSubmit}

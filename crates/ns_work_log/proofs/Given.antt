@@ -12,7 +12,7 @@ use Rattle.ns_types.specs.State.Rows.{State}
 use Rattle.ns_types.specs.Steps.{Answer, Makes}
 use Rattle.ns_types.specs.Wire.Refused.{refused}
 use Rattle.ns_types.proofs.Lists.{not_both}
-use Rattle.ns_laws.specs.Refusals.{is_of_steps}
+use Rattle.ns_audit.specs.Refusals.{is_of_steps}
 use Rattle.ns_json.specs.Replies.{Entry, IsKept, rendered}
 use Rattle.ns_work_log.specs.Logs.{History, HasPlace, Logs}
 use Rattle.ns_work_log.specs.Noting.{is_answer, noted}

@@ -8,7 +8,7 @@ use Rattle.ns_types.specs.State.Names.{Name}
 use Rattle.ns_types.specs.State.Rows.{State, World}
 use Rattle.ns_types.specs.Steps.{Answer}
 use Rattle.ns_types.specs.Working.Looks.{RefusesFinish, RefusesPlan}
-use Rattle.ns_laws.specs.Refusals.{is_of_steps}
+use Rattle.ns_audit.specs.Refusals.{is_of_steps}
 use Rattle.ns_json.specs.Replies.{Entry, IsKept, rendered}
 use Rattle.ns_driver.specs.Calls.{FinishesBy, HandsIn}
 use Rattle.ns_work_log.specs.Noting.{noted}

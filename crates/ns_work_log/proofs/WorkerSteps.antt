@@ -9,7 +9,7 @@ use Rattle.ns_types.specs.State.Rows.{State, World}
 use Rattle.ns_types.specs.Steps.{Answer}
 use Rattle.ns_types.specs.Working.Looks.{RefusesFinish, RefusesPlan, worker_at}
 use Rattle.ns_types.proofs.Lists.{not_both}
-use Rattle.ns_laws.specs.Refusals.{is_of_steps}
+use Rattle.ns_audit.specs.Refusals.{is_of_steps}
 use Rattle.ns_json.specs.Replies.{Entry, IsKept}
 use Rattle.ns_driver.specs.declared.worker_step.WorkerStep.{WorkerStep}
 use Rattle.ns_driver.specs.Calls.{FinishesBy, HandsIn}

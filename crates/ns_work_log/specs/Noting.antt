@@ -3,7 +3,7 @@ use Rattle.std.specs.Prelude.{◌≡◌, ◌<◌, ℕ, Bool, true, if◌then◌e
 use Rattle.ns_types.specs.declared.refusal.Refusal.{Refusal}
 use Rattle.ns_types.specs.declared.step.Step.{Step}
 use Rattle.ns_types.specs.Steps.{Answer}
-use Rattle.ns_laws.specs.Refusals.{is_of_steps}
+use Rattle.ns_audit.specs.Refusals.{is_of_steps}
 use Rattle.ns_json.specs.Replies.{Entry, rendered}
 
 -- the answer is a step's, and not that of a call that made no step

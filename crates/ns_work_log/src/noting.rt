@@ -2,7 +2,7 @@
 
 ghost use Rattle.std.specs.Prelude.{◌≡◌, ◌<◌, ◌≤◌, IfOk, IfErr, OnOk, length, option_copied, vec_len, vec_capacity};
 ghost use Rattle.ns_types.specs.declared.refusal.Refusal.TheVariants as Refusal;
-ghost use Rattle.ns_laws.specs.Refusals.{is_of_steps};
+ghost use Rattle.ns_audit.specs.Refusals.{is_of_steps};
 ghost use Rattle.ns_replies.specs.Rooms.{HasRoom, room_of};
 ghost use Rattle.ns_work_log.specs.Noting.{Begins, noted};
 

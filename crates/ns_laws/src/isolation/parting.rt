@@ -1,7 +1,7 @@
 //! Laws of a namespace that has its pools and its quotas to itself: what it has is a valid state by itself, and when another
 //! namespace's record takes this away.
 
-ghost use Rattle.ns_laws.specs.Parted.{AloneIsValid, DefaultIsPermitted, IntrudesByPermits};
+ghost use Rattle.ns_audit.specs.Parted.{AloneIsValid, DefaultIsPermitted, IntrudesByPermits};
 
 /// In a valid state, let a namespace have its pools and its quotas to itself. Then what it has is a valid state by itself: its
 /// rows, its pools, its quotas, its entries of the lists in their order, and all access lists.

@@ -1,6 +1,6 @@
 //! Laws that say how long a namespace has its pools and its quotas to itself: only a put of a namespace can end it.
 
-ghost use Rattle.ns_laws.specs.Staying.{ApartStep, HeldStep, StaysApart, StruckFromApart};
+ghost use Rattle.ns_audit.specs.Staying.{ApartStep, HeldStep, StaysApart, StruckFromApart};
 
 /// Whatever the state and the step: take an allocation that after the step is to stop, while its client status is still
 /// `pending` or `running`. It was there before the step, with one of these client statuses and in the same pool.

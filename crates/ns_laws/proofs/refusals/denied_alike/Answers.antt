@@ -1,4 +1,4 @@
-use Rattle.ns_laws.proofs.RefusalLemmas.{denied_alike}
+use Rattle.ns_audit.proofs.RefusalLemmas.{denied_alike}
 use Rattle.ns_laws.proofs.refusals.denied_alike.Goals as goal
 
 pub returns : goal.returns

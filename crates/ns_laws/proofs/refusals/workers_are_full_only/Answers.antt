@@ -1,4 +1,4 @@
-use Rattle.ns_laws.proofs.RefusalLemmas.{workers_are_full_only}
+use Rattle.ns_audit.proofs.RefusalLemmas.{workers_are_full_only}
 use Rattle.ns_laws.proofs.refusals.workers_are_full_only.Goals as goal
 
 pub returns : goal.returns

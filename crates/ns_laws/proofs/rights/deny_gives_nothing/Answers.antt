@@ -1,4 +1,4 @@
-use Rattle.ns_laws.proofs.RightsLemmas.{deny_gives_nothing}
+use Rattle.ns_audit.proofs.RightsLemmas.{deny_gives_nothing}
 use Rattle.ns_laws.proofs.rights.deny_gives_nothing.Goals as goal
 
 pub returns : goal.returns

@@ -1,4 +1,4 @@
-use Rattle.ns_laws.proofs.StepLemmas.{one_outcome}
+use Rattle.ns_audit.proofs.StepLemmas.{one_outcome}
 use Rattle.ns_laws.proofs.steps.one_outcome.Goals as goal
 
 pub returns : goal.returns

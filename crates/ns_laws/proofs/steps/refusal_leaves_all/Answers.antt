@@ -1,4 +1,4 @@
-use Rattle.ns_laws.proofs.StepLemmas.{refusal_leaves_all}
+use Rattle.ns_audit.proofs.StepLemmas.{refusal_leaves_all}
 use Rattle.ns_laws.proofs.steps.refusal_leaves_all.Goals as goal
 
 pub returns : goal.returns

@@ -1,4 +1,4 @@
-use Rattle.ns_laws.proofs.Apartness.{intrudes_by_permits}
+use Rattle.ns_audit.proofs.Apartness.{intrudes_by_permits}
 use Rattle.ns_laws.proofs.isolation.parting.intrudes_by_permits.Goals as goal
 
 pub returns : goal.returns

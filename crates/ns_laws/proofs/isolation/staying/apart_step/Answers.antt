@@ -1,4 +1,4 @@
-use Rattle.ns_laws.proofs.Apartness.{apart_step}
+use Rattle.ns_audit.proofs.Apartness.{apart_step}
 use Rattle.ns_laws.proofs.isolation.staying.apart_step.Goals as goal
 
 pub returns : goal.returns

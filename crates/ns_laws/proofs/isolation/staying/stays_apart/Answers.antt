@@ -1,4 +1,4 @@
-use Rattle.ns_laws.proofs.Apartness.{stays_apart}
+use Rattle.ns_audit.proofs.Apartness.{stays_apart}
 use Rattle.ns_laws.proofs.isolation.staying.stays_apart.Goals as goal
 
 pub returns : goal.returns

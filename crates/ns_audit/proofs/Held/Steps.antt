@@ -11,13 +11,13 @@ use Rattle.ns_types.proofs.Leads.{Leads, leads_of}
 use Rattle.ns_types.proofs.Tests.{not_Some, same_Some}
 use Rattle.ns_audit.proofs.ValidAllocations.Going.{Onward}
 use Rattle.ns_audit.proofs.ValidAllocations.Sound.{allocation_row, row_allocation}
-use Rattle.ns_laws.specs.Staying.{HeldStep}
-use Rattle.ns_laws.proofs.Held.Rows.{Ends, Holds, holds_ended, holds_same, holds_rested}
-use Rattle.ns_laws.proofs.Held.Settling.{settles_rest}
-use Rattle.ns_laws.proofs.Held.Work.{ask_ends, dequeue_ends, snap_ends, submit_ends, finish_ends, nack_ends}
-use Rattle.ns_laws.proofs.Held.Nodes.{ask_pool_ends}
-use Rattle.ns_laws.proofs.Held.Apply.{apply_holds}
-use Rattle.ns_laws.proofs.Held.Admins.{HoldsIn, of_world, administer_holds}
+use Rattle.ns_audit.specs.Staying.{HeldStep}
+use Rattle.ns_audit.proofs.Held.Rows.{Ends, Holds, holds_ended, holds_same, holds_rested}
+use Rattle.ns_audit.proofs.Held.Settling.{settles_rest}
+use Rattle.ns_audit.proofs.Held.Work.{ask_ends, dequeue_ends, snap_ends, submit_ends, finish_ends, nack_ends}
+use Rattle.ns_audit.proofs.Held.Nodes.{ask_pool_ends}
+use Rattle.ns_audit.proofs.Held.Apply.{apply_holds}
+use Rattle.ns_audit.proofs.Held.Admins.{HoldsIn, of_world, administer_holds}
 
 module _ (s : State) where
   ending : (o : Outcome World) → Leads (Onward Ends s.world) o → Leads (Holds s.world) o

@@ -30,7 +30,7 @@ use Rattle.ns_audit.proofs.Alone.Running.{valid_is_steady}
 use Rattle.ns_audit.proofs.Alone.Sides.{over_part}
 use Rattle.ns_audit.proofs.Alone.Summing.{node_load_alone}
 use Rattle.ns_audit.proofs.ValidEvaluations.Pairs.{distinct_of_pairs, pairs_of_distinct, pairs_still}
-use Rattle.ns_laws.specs.Parted.{AloneIsValid}
+use Rattle.ns_audit.specs.Parted.{AloneIsValid}
 use Rattle.ns_audit.proofs.Alone.Bordering.{confined, fit_apart}
 
 -- ---- lists and tables of which a part is kept

@@ -8,7 +8,7 @@ use Rattle.ns_types.specs.declared.step.Step.{Step}
 use Rattle.ns_types.specs.Settling.Outcome.{Outcome, NotEnabled, Refused, Done}
 use Rattle.ns_types.specs.State.Rows.{State}
 use Rattle.ns_types.specs.Steps.{Answer, Run, after, act, said, concluded, is_allowed, is_past_bound, reply_of, settled}
-use Rattle.ns_laws.specs.Steps.{OneOutcome, RefusalLeavesAll, AnswerEachStep, RunSplits, RunsJoin}
+use Rattle.ns_audit.specs.Steps.{OneOutcome, RefusalLeavesAll, AnswerEachStep, RunSplits, RunsJoin}
 
 -- ---- what is said is said once
 

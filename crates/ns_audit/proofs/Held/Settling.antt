@@ -12,7 +12,7 @@ use Rattle.ns_types.proofs.Named.{numbers, one_number}
 use Rattle.ns_types.proofs.Queue.{queues_keep}
 use Rattle.ns_audit.proofs.Steady.Keeping.{row_of_map}
 use Rattle.ns_audit.proofs.ValidAllocations.Going.{Onward, onward_same, onward_map, onward_then}
-use Rattle.ns_laws.proofs.Held.Rows.{RestsRow, Rests, rests_quiet, rests_still, rests_then}
+use Rattle.ns_audit.proofs.Held.Rows.{RestsRow, Rests, rests_quiet, rests_still, rests_then}
 
 wakes_rest : (keys : List Key) (w : World) → Onward Rests w (wake keys w)
 unfolding wake

@@ -36,10 +36,10 @@ use Rattle.ns_audit.specs.Orderly.{IsOrderlyTenant, IsSteady}
 use Rattle.ns_audit.proofs.Alone.Records.{plain_keeps}
 use Rattle.ns_audit.proofs.Alone.Recording.{namespace_settled}
 use Rattle.ns_audit.proofs.Alone.Running.{steady_step, struck_steady_run}
-use Rattle.ns_laws.proofs.Held.Rows.{Holds}
-use Rattle.ns_laws.proofs.Held.Steps.{after_holds}
-use Rattle.ns_laws.specs.Parted.{DefaultIsPermitted, IntrudesByPermits}
-use Rattle.ns_laws.specs.Staying.{puts_namespace, ApartStep, StaysApart, StruckFromApart}
+use Rattle.ns_audit.proofs.Held.Rows.{Holds}
+use Rattle.ns_audit.proofs.Held.Steps.{after_holds}
+use Rattle.ns_audit.specs.Parted.{DefaultIsPermitted, IntrudesByPermits}
+use Rattle.ns_audit.specs.Staying.{puts_namespace, ApartStep, StaysApart, StruckFromApart}
 use Rattle.ns_audit.proofs.Alone.Bordering.{among, at_home, confined, confined_names, foreign, its_pool, within}
 
 -- ---- records after a step

@@ -17,7 +17,7 @@ use Rattle.ns_types.proofs.Named.{names, one_name}
 use Rattle.ns_types.proofs.TableRows.{row_of_insert}
 use Rattle.ns_types.proofs.Tests.{not_Some}
 use Rattle.ns_audit.proofs.ValidAllocations.Going.{onward_put}
-use Rattle.ns_laws.proofs.Held.Rows.{Ends, ends_quiet, ends_still, WasHeld, Holds, holds_ended, holds_same}
+use Rattle.ns_audit.proofs.Held.Rows.{Ends, ends_quiet, ends_still, WasHeld, Holds, holds_ended, holds_same}
 
 -- ---- namespaces
 

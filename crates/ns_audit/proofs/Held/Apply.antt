@@ -30,8 +30,8 @@ use Rattle.ns_types.proofs.Leads.{Leads, leads_if, leads_keeping}
 use Rattle.ns_types.proofs.Named.{numbers, one_number}
 use Rattle.ns_types.proofs.TableRows.{row_of_insert}
 use Rattle.ns_audit.proofs.ValidAllocations.Going.{Onward, onward_same, onward_change, onward_then, onward_each}
-use Rattle.ns_laws.proofs.Held.Rows.{Ends, ends_still, ends_then, Adds, adds_quiet, adds_still, adds_then, onward_make, Holds, holds_added}
-use Rattle.ns_laws.proofs.Held.Work.{ends_desired}
+use Rattle.ns_audit.proofs.Held.Rows.{Ends, ends_still, ends_then, Adds, adds_quiet, adds_still, adds_then, onward_make, Holds, holds_added}
+use Rattle.ns_audit.proofs.Held.Work.{ends_desired}
 
 -- ---- stops and victims
 

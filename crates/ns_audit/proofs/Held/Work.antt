@@ -32,7 +32,7 @@ use Rattle.ns_types.specs.Working.Worker.{Worker}
 use Rattle.ns_types.proofs.Leads.{Leads, leads_unless, leads_refused, leads_found, leads_there, leads_if, leads_at_work, leads_keeping}
 use Rattle.ns_audit.proofs.ValidAllocations.Going.{Onward, onward_same, onward_put, onward_make_in}
 use Rattle.ns_audit.proofs.ValidAllocations.Work.{unlisted_tenants}
-use Rattle.ns_laws.proofs.Held.Rows.{Ends, ends_quiet, ends_still, ends_then, ends_row}
+use Rattle.ns_audit.proofs.Held.Rows.{Ends, ends_quiet, ends_still, ends_then, ends_row}
 
 -- ---- one namespace
 

@@ -26,9 +26,9 @@ use Rattle.ns_types.specs.Working.Work.{may_finish, needs_follower, finish, fini
 use Rattle.ns_types.specs.Access.Sharing.{permits}
 use Rattle.ns_types.proofs.Lists.{not_both}
 use Rattle.ns_types.proofs.Registrations.{by_tests}
-use Rattle.ns_laws.specs.Refusals as law
-use Rattle.ns_laws.proofs.RightsLemmas.{denied_without}
-use Rattle.ns_laws.proofs.StepLemmas.{same_answer, not_said, not_refused}
+use Rattle.ns_audit.specs.Refusals as law
+use Rattle.ns_audit.proofs.RightsLemmas.{denied_without}
+use Rattle.ns_audit.proofs.StepLemmas.{same_answer, not_said, not_refused}
 
 -- ---- outcomes
 

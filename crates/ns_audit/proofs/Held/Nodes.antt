@@ -24,7 +24,7 @@ use Rattle.ns_audit.proofs.Steady.Keeping.{row_of_map}
 use Rattle.ns_audit.proofs.Steady.Nodes.{held_before}
 use Rattle.ns_audit.proofs.ValidAllocations.Going.{Onward, onward_same, onward_change, onward_map, onward_then, onward_each}
 use Rattle.ns_audit.proofs.ValidAllocations.Sound.{allocation_row}
-use Rattle.ns_laws.proofs.Held.Rows.{EndsRow, Ends, ends_quiet, ends_still, ends_then, ends_row, onward_make}
+use Rattle.ns_audit.proofs.Held.Rows.{EndsRow, Ends, ends_quiet, ends_still, ends_then, ends_row, onward_make}
 
 -- ---- nodes that go down
 
