@@ -1,12 +1,15 @@
 -- How a connection ended, over what its reader has left and what its writer holds.
-use Rattle.std.specs.Prelude.{◌≡◌, ◌⊎◌, ℕ, List, Option}
+use Rattle.std.specs.Prelude.{◌≡◌, ◌+◌, ◌≤◌, ◌⊎◌, ℕ, false, min, List, Option}
 use Rattle.ns_types.specs.State.Names.{Name}
 use Rattle.ns_types.specs.State.Rows.{State}
 use Rattle.ns_types.specs.Steps.{opening}
 use Rattle.ns_types.specs.Wire.Http.{End}
 use Rattle.ns_http.specs.Conversation.{EndsWell, IsReadFault, streams_between}
-use Rattle.ns_http.specs.Counts.{IsWriteFault, no_counts}
+use Rattle.ns_http.specs.Counts.{IsOpen, IsWriteFault, no_counts}
 use Rattle.ns_http.specs.declared.counting.Counted.{Counted}
+use Rattle.ns_http.specs.declared.counting.Counts.{Counts}
+use Rattle.ns_http.specs.declared.engine.TheConstants.{READ_LIMIT}
+use Rattle.ns_http.specs.declared.input.TheConstants.{READ_ROOM}
 use Rattle.ns_api.specs.Answering.{Holding}
 use Rattle.ns_api.specs.Cores.{ServedByCore, ServedByCoreInPart}
 use Rattle.ns_api.specs.Following.{driver_of}
@@ -21,6 +24,16 @@ IsEnd status = (status ≡ SERVED) ⊎ (status ≡ READ_FAULT) ⊎ (status ≡ W
 -- a reader or a writer of which nothing was counted yet
 abbrev pub uncounted : {T : Type 0} → T → Counted T
 uncounted inner = record { inner = inner; counts = no_counts }
+
+-- no call follows one that failed otherwise than by interruption, or that found the end
+abbrev pub StopsInTime : Counts → Counts → Type 0
+StopsInTime old new = IsOpen old → new.went_on ≡ false
+
+-- the reader stops in time; it is read at most `READ_LIMIT` times, with room for at least `READ_ROOM` bytes each time
+pub record ReadsWithin (old new : Counts) : Type 0 where
+  pub stops : StopsInTime old new
+  pub few : new.calls ≤ old.calls + READ_LIMIT
+  pub wide : min old.least_room READ_ROOM ≤ new.least_room
 
 -- a new server, which drives the worker that `driven` names
 abbrev pub opened : {D : Type 0} → Name → D → Driven → Holding State D Driver

@@ -1,7 +1,9 @@
 //! One connection with a new server.
 
-ghost use Rattle.std.specs.Prelude.{◌≡◌};
-ghost use Rattle.ns_pipe.specs.Ending.{IsEnd, EndsServed, EndsByReader, EndsByWriter, opened};
+ghost use Rattle.std.specs.Prelude.{◌≡◌, IsTrue};
+ghost use Rattle.ns_http.specs.Counts.{IsOpen};
+ghost use Rattle.ns_pipe.specs.Ending.{EndsByReader, EndsByWriter, EndsServed, IsEnd, ReadsWithin};
+ghost use Rattle.ns_pipe.specs.Ending.{StopsInTime, opened};
 ghost use Rattle.ns_faults.specs.Lines.{TriesToWrite, line_of, status_of};
 
 use ns_api::{Driven, close, open, serve};
@@ -33,6 +35,12 @@ pub fn pipe<D: Draws + Drop, R: Read, W: Write, E: Write>(
         (opened bootstrap.now draws driven) reader.old reader.new writer.old writer.new }
     ensures out_of_memory { result ≡ OUT_OF_MEMORY
         → (reader.new ≡ reader.old) × (writer.new ≡ writer.old) }
+    ensures reads { ReadsWithin reader.old.counts reader.new.counts }
+    ensures writes { StopsInTime writer.old.counts writer.new.counts }
+    ensures broken { IsOpen reader.old.counts → IsTrue reader.new.counts.broken
+        → result ≡ READ_FAULT }
+    ensures write_broken { IsOpen writer.old.counts → IsTrue writer.new.counts.broken
+        → result ≡ WRITE_FAULT }
     ensures silent { result ≡ SERVED → errors.new ≡ errors.old }
     ensures fault_line { (fault : ConnFault) → result ≡ status_of fault
         → TriesToWrite E.contents errors.old errors.new (line_of fault) }

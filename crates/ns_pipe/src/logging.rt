@@ -4,7 +4,7 @@ ghost use Rattle.std.specs.Prelude.{◌≡◌, ◌≢◌, ◌⊎◌, Err, IsErrO
 ghost use Rattle.ns_json.specs.Logs.{log_text};
 ghost use Rattle.ns_api.specs.Serving.{holding};
 ghost use Rattle.ns_http.specs.Output.{WritesAll};
-ghost use Rattle.ns_pipe.specs.Ending.{IsEnd};
+ghost use Rattle.ns_pipe.specs.Ending.{IsEnd, ReadsWithin, StopsInTime};
 ghost use Rattle.ns_faults.specs.Lines.{FailsToWrite, TriesToWrite, line_of, status_of};
 ghost use Rattle.ns_pipe.specs.Logging.{LogsInPart, LogsNothing, LogsServed, LogsToReadFault, opened_log};
 ghost use Rattle.ns_pipe.specs.Readable.{AreAsRead, IsReadBack};
@@ -71,6 +71,8 @@ fn serve_and_log<D: Draws, R: Read, W: Write, V: Write>(
         bootstrap.now writer.old writer.new
         ⊎ LogsNothing replies.old replies.new writer.old writer.new }
     ensures memory { IsErrOf result ConnFault.Memory → writer.new ≡ writer.old }
+    ensures reads { ReadsWithin reader.old.counts reader.new.counts }
+    ensures writes { StopsInTime replies.old.counts replies.new.counts }
 {
     chain_is_noted();
     match serve(alloc, reader, replies, api) {
@@ -109,6 +111,8 @@ pub fn pipe_log<D: Draws + Drop, R: Read, W: Write, V: Write, E: Write>(
         bootstrap.now writer.old writer.new
         ⊎ LogsNothing replies.old replies.new writer.old writer.new }
     ensures out_of_memory { result ≡ OUT_OF_MEMORY → writer.new ≡ writer.old }
+    ensures reads { ReadsWithin reader.old.counts reader.new.counts }
+    ensures writes { StopsInTime replies.old.counts replies.new.counts }
     ensures silent { result ≡ SERVED → errors.new ≡ errors.old }
     ensures fault_line { (fault : ConnFault) → result ≡ status_of fault
         → TriesToWrite E.contents errors.old errors.new (line_of fault) }
