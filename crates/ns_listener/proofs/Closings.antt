@@ -1,13 +1,15 @@
 -- What is left of a server, from its keeper and how it settled.
-use Rattle.std.specs.Prelude.{◌≡◌, ℕ, List, Option, None, Some, Result, Ok, Err, Bool, true, IfOk, IsErr, IsTrue, OnOk}
-use Rattle.std.proofs.Common.{subst, sym, ◌∙◌}
+use Rattle.std.specs.Prelude.{◌≡◌, ℕ, List, Option, None, Some, Result, Ok, Err, IfOk, IsErr, IsTrue, OnOk}
+use Rattle.std.proofs.Common.{refl, subst, sym, ◌∙◌}
 use Rattle.ns_types.specs.State.Names.{Name}
 use Rattle.ns_log.specs.Segments.{Given, texts_of}
+use Rattle.ns_log.specs.declared.receipts.fault.SettleFault.{SettleFault}
 use Rattle.ns_http.specs.Counts.{HasGrown}
 use Rattle.ns_http.specs.declared.counting.Counted.{Counted}
 use Rattle.ns_http.specs.declared.engine.ConnFault.{ConnFault}
 use Rattle.ns_work_lock.specs.Settling.{Settlement}
 use Rattle.ns_listener.specs.Closing.{HasWritten, IsClosing, IsLeftBy}
+use Rattle.ns_listener.specs.Faults.{settle_fault}
 use Rattle.ns_listener.specs.Keeping.{WritesText}
 use Rattle.ns_listener.specs.Printing.{IsRunOf}
 use Rattle.ns_listener.specs.declared.closing.Closing.{Closing}
@@ -15,6 +17,12 @@ use Rattle.ns_listener.specs.declared.fault.ServeFault.{ServeFault}
 use Rattle.ns_listener.specs.declared.keeper.Keeper.{Keeper}
 use Rattle.ns_listener.proofs.Ends.{run_of}
 use Rattle.ns_listener.proofs.Written.{not_read}
+
+-- the fault is a mismatch only where settling found one
+pub mismatch_of : (P : ℕ → ℕ → Type 0) (found : SettleFault) (fault : ServeFault) → fault ≡ settle_fault found → fault ≡ ServeFault.Mismatch →
+    ((seat place : ℕ) → found ≡ SettleFault.Mismatch seat place → P seat place) → (seat : ℕ) × (place : ℕ) × P seat place
+mismatch_of P (SettleFault.Mismatch seat place) fault is was all = (seat, place, all seat place refl)
+mismatch_of P SettleFault.Memory fault is was all = let never : ⊥ = cc in absurd never
 
 pub no_run : (r : Result Settlement ServeFault) (secret : Name) (segments : List Given) → IsErr r → IfOk r (IsRunOf secret segments)
 no_run (Ok s) secret segments is = let never : ⊥ = cc in absurd never

@@ -46,6 +46,16 @@ EndsBy {E} error_text errors errors' line = TriesToWrite error_text errors error
     ⊎ ((mid : Counted E) × (outcome : List ℕ) × IsOutcome outcome × TriesToWrite error_text errors mid outcome
     × TriesToWrite error_text mid errors' line)
 
+-- this line was written last, and that one before it
+abbrev pub EndsAfter : {E : Type 0} → (E → Option (List ℕ)) → Counted E → Counted E → List ℕ → List ℕ → Type 0
+EndsAfter {E} error_text errors errors' first last =
+    (mid : Counted E) × TriesToWrite error_text errors mid first × TriesToWrite error_text mid errors' last
+
+-- this line was written last, and before it how many entries the log has, unless there was no memory for that
+abbrev pub EndsAfterCount : {E : Type 0} → (E → Option (List ℕ)) → Counted E → Counted E → ℕ → List ℕ → Type 0
+EndsAfterCount error_text errors errors' entries last = TriesToWrite error_text errors errors' last
+    ⊎ EndsAfter error_text errors errors' (settled_line entries) last
+
 module _ {D W E : Type 0} (draws : D → List ℕ → D → Type 0) (contents : W → Option (List ℕ))
     (error_text : E → Option (List ℕ)) (service : Service) (drawers : List D) where
   -- The log of a run was printed, its segments first. Standard error has the opening lines, and then how many entries the log

@@ -10,10 +10,10 @@ ghost use Rattle.ns_work_lock.specs.Settling.{present};
 ghost use Rattle.ns_http.specs.declared.engine.ConnFault.TheVariants as ConnFault;
 ghost use Rattle.ns_http.specs.Output.{WritesAll};
 ghost use Rattle.ns_faults.specs.Lines.{FailsToWrite, TriesToWrite, line_of, mismatch_line, status_of};
-ghost use Rattle.ns_listener.specs.Ending.{EndsBy, IsEnd, IsGoodEnd, fault_line};
+ghost use Rattle.ns_listener.specs.Ending.{EndsAfter, EndsAfterCount, EndsBy, IsEnd, IsGoodEnd, fault_line};
 ghost use Rattle.ns_listener.specs.Ending.{fault_status};
 ghost use Rattle.ns_listener.specs.Keeping.{WritesText};
-ghost use Rattle.ns_listener.specs.Printing.{IsRunOf, settled_line};
+ghost use Rattle.ns_listener.specs.Printing.{HasMismatch, IsRunOf, settled_line};
 ghost use Rattle.ns_listener.specs.declared.fault.ServeFault.TheVariants as ServeFault;
 
 use crate::fault::ServeFault;
@@ -56,6 +56,8 @@ pub(crate) fn settle<L: Ledger>(
     ensures receipts { OnOk result
         (Settles (joined segments.items (held_of ended).log) seats.items) }
     ensures whole { OnOk result (IsTrue is_whole) }
+    ensures mismatch { IsErrOf result ServeFault.Mismatch
+        → HasMismatch secret.now segments.items (held_of ended) seats.items }
     ensures no_write { result ≢ Err (ServeFault.Conn ConnFault.Write) }
     ensures no_read { result ≢ Err (ServeFault.Conn ConnFault.Read) }
 {
@@ -154,6 +156,10 @@ fn conclude_cut<E: Write>(
 ) -> u8
     ensures status { result ≡ status_of fault }
     ensures line { EndsBy E.contents errors.old errors.new (line_of fault) }
+    ensures settled { IfOk settled.now (λ s.
+        EndsAfterCount E.contents errors.old errors.new (length s.log) (line_of fault)) }
+    ensures unsettled { (other : ServeFault) → IsErrOf settled.now other
+        → EndsAfter E.contents errors.old errors.new (fault_line other) (line_of fault) }
 {
     match settled {
         Ok(settled) => {
@@ -198,6 +204,11 @@ pub(crate) fn conclude<W: Write, E: Write>(
         → EndsBy E.contents errors.old errors.new (line_of fault) }
     ensures mismatch { result.0 ≡ MISMATCH
         → EndsBy E.contents errors.old errors.new mismatch_line }
+    ensures cut_settled { (fault : ConnFault) → closing.fault ≡ Some fault → IfOk closing.settled
+        (λ s. EndsAfterCount E.contents errors.old errors.new (length s.log) (line_of fault)) }
+    ensures cut_unsettled { (fault : ConnFault) (other : ServeFault)
+        → closing.fault ≡ Some fault → IsErrOf closing.settled other
+        → EndsAfter E.contents errors.old errors.new (fault_line other) (line_of fault) }
 {
     let Closing {
         settled,

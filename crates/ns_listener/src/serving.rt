@@ -13,7 +13,7 @@ ghost use Rattle.ns_log.specs.Segments.{joined};
 ghost use Rattle.ns_log.specs.Settling.{Settles};
 ghost use Rattle.ns_work_lock.specs.Ending.{held_of};
 ghost use Rattle.ns_listener.specs.Faults.{host_fault};
-ghost use Rattle.ns_listener.specs.Printing.{IsRunOf};
+ghost use Rattle.ns_listener.specs.Printing.{HasMismatch, IsRunOf};
 ghost use Rattle.ns_listener.specs.declared.fault.HostFault.{HostFault};
 ghost use Rattle.ns_listener.specs.declared.fault.ServeFault.TheVariants as ServeFault;
 
@@ -103,6 +103,9 @@ fn settled<L: Ledger, W: Drop>(alloc: Global, left: Left<L, W, Retains>) -> Clos
     ensures receipts { OnOk result.settled (IsOkAnd left.seats (λ seats. Settles
         (joined left.keeper.segments.items (held_of left.ended).log) seats.items)) }
     ensures whole { OnOk result.settled (IsTrue left.keeper.is_whole) }
+    ensures mismatch { IsErrOf result.settled ServeFault.Mismatch
+        → let keeper = left.keeper in IsOkAnd left.seats (λ seats. HasMismatch
+        keeper.secret keeper.segments.items (held_of left.ended) seats.items) }
     ensures fault { (fault : HostFault) → IsErrOf left.seats fault
         → result.settled ≡ Err (host_fault fault) }
     ensures no_write { result.settled ≢ Err (ServeFault.Conn ConnFaults.Write) }
