@@ -161,7 +161,7 @@ evicts_pools : (victims : List Eviction) (w : World) → (evict_all w victims).p
 evicts_pools [] w = refl
 evicts_pools (e ∷ es) w = evicts_pools es (evict w e) ∙ change_pools e.namespace (with_desired e.number DesiredStatus.Evict) w
 
--- ---- numbers that are told
+-- ---- the numbers in the reply
 
 module _ {X : Type 0} where
   numbers_at : (xs : List X) (n i : ℕ) (x : X) → slice_get xs i ≡ Some x → slice_get (numbers_after n xs) i ≡ Some (n + (i + 1))
@@ -341,11 +341,11 @@ names_found (n ∷ ns) q = by (same_name q n) (names_found ns q)
     by true rest = refl
     by false rest = rest
 
-sorted_has : (list : List Name) (q : Name) → has_name (sorted_names list) q ≡ has_name list q
+pub sorted_has : (list : List Name) (q : Name) → has_name (sorted_names list) q ≡ has_name list q
 sorted_has list q = sym (contains_key-keys (from_entries {R = name_cmp} (map (λ n. (n, n)) list)) q)
     ∙ ap (λ (o : Option Name). is_some o) (get-from_entries names (map (λ n. (n, n)) list) q) ∙ names_found list q
 
-has_or : (xs ys : List ℕ) (n : ℕ) → has_number (xs ++ ys) n ≡ (has_number xs n || has_number ys n)
+pub has_or : (xs ys : List ℕ) (n : ℕ) → has_number (xs ++ ys) n ≡ (has_number xs n || has_number ys n)
 has_or xs ys n = list_any-append (same_number n) xs ys
 
 has_named : (kept : Snapshot) (ks : List ℕ) (n : ℕ) → has_number ks n ≡ true → has_name (map (node_name kept) ks) (node_name kept n) ≡ true
@@ -430,7 +430,7 @@ named_dropped kept ks n has seen is = ap (has_name (names_in kept ks)) (sym (ap 
 
 -- ---- the whole
 
-each_slice : {X : Type 0} (P : X → Type 0) (xs : List X) → Each P xs → (i : ℕ) (x : X) → slice_get xs i ≡ Some x → P x
+pub each_slice : {X : Type 0} (P : X → Type 0) (xs : List X) → Each P xs → (i : ℕ) (x : X) → slice_get xs i ≡ Some x → P x
 each_slice P [] h i x e = absurd (not_Some x e)
 each_slice P (y ∷ xs) h zero x e = subst P (same_Some y x e) h.0
 each_slice P (y ∷ xs) h (suc i) x e = each_slice P xs h.1 i x e
@@ -453,19 +453,19 @@ none_done s kept made dropped before now empty same told = record {
 
 module _ (s : State) (valid : IsValid s) (number : ℕ) (ns : Name) (before : Tenant) (is : get s.world.tenants ns ≡ Some before)
     (worker : Worker) (kept : Snapshot) (same_namespace : kept.namespace ≡ ns) (e : Evaluation) where
-  abbrev ps : List Placement
+  abbrev pub ps : List Placement
   ps = (plan kept).placing.placements
 
-  abbrev stopped : World
+  abbrev pub stopped : World
   stopped = stop_all kept.namespace (live_stops before (plan kept).stops) s.world
 
-  abbrev decided : Commit
+  abbrev pub decided : Commit
   decided = fold (decide kept ps) (begun stopped) (nodes_in ps)
 
-  abbrev placed : List Placement
+  abbrev pub placed : List Placement
   placed = committed_placements decided ps
 
-  abbrev whole : World
+  abbrev pub whole : World
   whole = place_all kept decided.world placed
 
   all_stands : Stands kept ps s.world decided
@@ -499,7 +499,7 @@ module _ (s : State) (valid : IsValid s) (number : ℕ) (ns : Name) (before : Te
       }
 
   -- the namespace's rows after each part of the step
-  record Ends (now : Tenant) : Type 0 where
+  pub record Ends (now : Tenant) : Type 0 where
     own : Tenant
     is_own : get decided.world.tenants kept.namespace ≡ Some own
     number_on : own.allocation_number ≡ before.allocation_number
@@ -517,7 +517,7 @@ module _ (s : State) (valid : IsValid s) (number : ℕ) (ns : Name) (before : Te
       let n = all_stands.numbers_on ns t at in
       n.2 ∙ ap (λ (t : Tenant). t.allocation_number) (same_Some n.0 before (sym n.1 ∙ is))
 
-  ends : (now : Tenant) → get (settle s.world (marked number ns worker e (done kept (plan kept) s.world before))).tenants ns ≡ Some now → Ends now
+  pub ends : (now : Tenant) → get (settle s.world (marked number ns worker e (done kept (plan kept) s.world before))).tenants ns ≡ Some now → Ends now
   ends now there =
       let a = done kept (plan kept) s.world before in
       let f = settled_from s.world (marked number ns worker e a) ns now there in
@@ -563,7 +563,7 @@ module _ (s : State) (valid : IsValid s) (number : ℕ) (ns : Name) (before : Te
     adds : Adds kept j has_job placed h.own h.later
     adds = subst (λ v. Adds kept j has_job placed h.own v) (same_Some own_adds.0 h.later (sym own_adds.1 ∙ h.is_later)) own_adds.2
 
-    made_for : (i : ℕ) (p : Placement) → slice_get placed i ≡ Some p → law.IsMadeFor kept p (before.allocation_number + (i + 1)) before now
+    pub made_for : (i : ℕ) (p : Placement) → slice_get placed i ≡ Some p → law.IsMadeFor kept p (before.allocation_number + (i + 1)) before now
     made_for i p at =
         let new = adds.each_new i p at in
         let row = last_row now h (before.allocation_number + (i + 1)) (new_allocation kept j p new.0)
@@ -624,7 +624,7 @@ module _ (s : State) (valid : IsValid s) (number : ℕ) (ns : Name) (before : Te
       by [] h = refl
       by (p ∷ xs) h = absurd (not_Some h.0.job (sym none ∙ h.0.is_job))
 
-  no_placements : kept.job ≡ None → placed ≡ []
+  pub no_placements : kept.job ≡ None → placed ≡ []
   no_placements none = ap (filter (λ p. has_number decided.committed p.node)) (no_plan none)
 
   is_done : (now : Tenant) → Ends now → law.IsDoneByNode s kept (numbers_after before.allocation_number placed) (names_in kept decided.dropped) before now
@@ -671,10 +671,10 @@ IsByNode s number ns reply t = (made : List ℕ) (dropped : List Name) (now : Te
     → (before : Tenant) (worker : Worker) (kept : Snapshot) → get s.world.tenants ns ≡ Some before → get before.workers number ≡ Some worker → worker.kept ≡ Some kept
     → law.IsDoneByNode s kept made dropped before now
 
-made_is : (a b : List ℕ) (x y : List Name) → ◌≡◌ {A = content.Content} (Content.Applied a x) (Content.Applied b y) → a ≡ b
+pub made_is : (a b : List ℕ) (x y : List Name) → ◌≡◌ {A = content.Content} (Content.Applied a x) (Content.Applied b y) → a ≡ b
 made_is a b x y e = cc
 
-dropped_is : (a b : List ℕ) (x y : List Name) → ◌≡◌ {A = content.Content} (Content.Applied a x) (Content.Applied b y) → x ≡ y
+pub dropped_is : (a b : List ℕ) (x y : List Name) → ◌≡◌ {A = content.Content} (Content.Applied a x) (Content.Applied b y) → x ≡ y
 dropped_is a b x y e = cc
 
 pub applies_by_node : law.AppliesByNode

@@ -22,7 +22,7 @@ use Rattle.ns_types.specs.Working.Work.{is_submitted, with_worker, without_key}
 use Rattle.ns_types.specs.Working.Worker.{Worker}
 use Rattle.ns_laws.proofs.EffectRows.{Does, after_does, does_if, does_lift}
 
-does_or : {S A : Type 0} (Q : Content → S → Type 0) (o : Option A) (f : A → Outcome S) → ((a : A) → o ≡ Some a → Does Q (f a)) → Does Q
+pub does_or : {S A : Type 0} (Q : Content → S → Type 0) (o : Option A) (f : A → Outcome S) → ((a : A) → o ≡ Some a → Does Q (f a)) → Does Q
     (option_map_or f o NotEnabled)
 does_or {A = A} Q o f h = by o refl
   where

@@ -140,7 +140,7 @@ module _ (w w' : World) where
   settled_there ns t is = settled_tenant ns ∙ ap (option_map (settled_rows ns)) is
 
 module _ {A : Type 0} (part : Tenant → A) (same : (i : ℕ) (o t : Tenant) → part (stamped i o t) ≡ part t) where
-  stamp_keeps : (o : Option Tenant) (t : Tenant) → part (stamp_tenant o t) ≡ part t
+  pub stamp_keeps : (o : Option Tenant) (t : Tenant) → part (stamp_tenant o t) ≡ part t
   unfolding stamp_tenant
   stamp_keeps None t = refl
   stamp_keeps (Some o) t = elim (is_touched o t) as (λ b. part (cond b (stamped (o.index + 1) o t) t) ≡ part t) [ true ↦ same _ o t | false ↦ refl ]
@@ -233,7 +233,7 @@ pub settled_allocated : (w w' : World) (ns : Name) (t : Tenant) (n : ℕ) (a : A
 settled_allocated w w' ns t n a at = stamped_allocated (get w.tenants ns) (unblocked_in (woken w w') ns t) n a at
 
 -- where the allocation is the former one it stays so
-stamped_former : (o t : Tenant) (n : ℕ) → get t.allocations n ≡ get o.allocations n → get (stamp_tenant (Some o) t).allocations n ≡ get o.allocations n
+pub stamped_former : (o t : Tenant) (n : ℕ) → get t.allocations n ≡ get o.allocations n → get (stamp_tenant (Some o) t).allocations n ≡ get o.allocations n
 unfolding stamp_tenant
 stamped_former o t n same = by (is_touched o t)
   where

@@ -12,16 +12,16 @@ use Rattle.ns_types.proofs.Elements.{each_append, each_kept, each_true, all_from
 use Rattle.ns_laws.specs.Placement.{EvictableAreLower, EvictableInOrder, EvictableAreAll}
 
 module _ {X : Type 0} (key : X → ℕ) (xs : List X) where
-  abbrev level : ℕ → List X
+  abbrev pub level : ℕ → List X
   level p = filter (λ x. key x == p) xs
 
-  abbrev levels : ℕ → ℕ → List X
+  abbrev pub levels : ℕ → ℕ → List X
   levels a n = flat_map level (range_with_len a n)
 
   each_at : (p : ℕ) → Each (λ x. key x ≡ p) (level p)
   each_at p = each_map (λ x h. eqb-true (key x) p h.1) (level p) (each_kept (λ _. Unit {0}) (λ x. key x == p) xs (each_true xs))
 
-  each_within : (a n : ℕ) → Each (λ x. (a ≤ key x) × (key x < a + n)) (levels a n)
+  pub each_within : (a n : ℕ) → Each (λ x. (a ≤ key x) × (key x < a + n)) (levels a n)
   each_within a zero = tt
   each_within a (suc n) = each_append _ (level a) (levels (a + 1) n)
       (each_map (λ x h. (omega (arith, h), omega (arith, h))) (level a) (each_at a))

@@ -23,7 +23,7 @@ use Rattle.ns_laws.specs.Queue as queue
 -- ---- entries in order
 
 module _ {X : Type 0} where
-  above : (k : ℕ) (es : List (ℕ × X)) → T (Entries.below_all nat_cmp k es) → Each (λ e. k < e.0) es
+  pub above : (k : ℕ) (es : List (ℕ × X)) → T (Entries.below_all nat_cmp k es) → Each (λ e. k < e.0) es
   above k [] h = tt
   above k (e ∷ es) h = (ranked k e.0 Less (sym (less_by _ (first _ _ h))), above k es (second _ _ h))
 
@@ -49,7 +49,7 @@ module _ {X : Type 0} where
           ((λ _. omega (arith, same)), each_map (λ y less _. omega (arith, same, less)) es later)
       by false f is go = ((λ g. not_both g f), go is)
 
-  none_passes : (p : ℕ × X → Bool) (es : List (ℕ × X)) → find p es ≡ None → Each (λ x. p x ≡ false) es
+  pub none_passes : (p : ℕ × X → Bool) (es : List (ℕ × X)) → find p es ≡ None → Each (λ x. p x ≡ false) es
   none_passes p [] e = tt
   none_passes p (x ∷ es) e = by (p x) refl e (none_passes p es)
     where
@@ -71,7 +71,7 @@ module _ {K X : Type 0} {R : K → K → Ordering} (same : IsAntisymmetric R) wh
   row_at P m k x h is = entry_at P (entries m) k x h (sym (get-entries m k) ∙ is)
 
 -- the first entry that passes: it is a row, it passes, and no row that passes has a lesser number
-first_row : {X : Type 0} (p : ℕ × X → Bool) (m : ByNumber X) (n : ℕ) (x : X) → find p (entries m) ≡ Some (n, x)
+pub first_row : {X : Type 0} (p : ℕ × X → Bool) (m : ByNumber X) (n : ℕ) (x : X) → find p (entries m) ≡ Some (n, x)
     → (get m n ≡ Some x) × (p (n, x) ≡ true) × ((k : ℕ) (y : X) → get m k ≡ Some y → p (k, y) ≡ true → n ≤ k)
 first_row p m n x is =
     let found = found_holds (λ e. get m e.0 ≡ Some e.1) p (entries m) (n, x) (each_row numbers one_number (λ k y. get m k ≡ Some y) m (λ k y e. e)) is in (

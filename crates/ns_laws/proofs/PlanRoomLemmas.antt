@@ -171,14 +171,14 @@ limits_are_real s = record { one = one; quota = quota; short = short }
 
 module _ {X : Type 0} where
   -- another element than the one that is changed stays
-  other_stays : (f : X → X) (i k : ℕ) → (i ≡ k → ⊥) → (xs : List X) → slice_get (update i f xs) k ≡ slice_get xs k
+  pub other_stays : (f : X → X) (i k : ℕ) → (i ≡ k → ⊥) → (xs : List X) → slice_get (update i f xs) k ≡ slice_get xs k
   other_stays f i k ne [] = refl
   other_stays f zero zero ne (x ∷ xs) = absurd (ne refl)
   other_stays f zero (suc k) ne (x ∷ xs) = refl
   other_stays f (suc i) zero ne (x ∷ xs) = refl
   other_stays f (suc i) (suc k) ne (x ∷ xs) = other_stays f i k (λ e. ne (ap suc e)) xs
 
-  this_changed : (f : X → X) (i : ℕ) (xs : List X) (x : X) → slice_get xs i ≡ Some x → slice_get (update i f xs) i ≡ Some (f x)
+  pub this_changed : (f : X → X) (i : ℕ) (xs : List X) (x : X) → slice_get xs i ≡ Some x → slice_get (update i f xs) i ≡ Some (f x)
   this_changed f i [] x e = absurd (not_Some x e)
   this_changed f zero (y ∷ xs) x e = ap (λ z. Some (f z)) (same_Some y x e)
   this_changed f (suc i) (y ∷ xs) x e = this_changed f i xs x e
@@ -256,8 +256,8 @@ module _ (q : QuotaSeen) (r : Resource) (k : ℕ) where
       by true None is later none = later w c at none
       by true (Some ch) is later none = one ch is (ch.node == k) refl later none
 
--- the stops are told by their numbers
-stopped_is : (s : Snapshot) (a : LiveAllocation) → stays s.namespace (stopping s.job s.own) a ≡ not (law.is_stopped s a)
+-- the stops are known by their numbers
+pub stopped_is : (s : Snapshot) (a : LiveAllocation) → stays s.namespace (stopping s.job s.own) a ≡ not (law.is_stopped s a)
 unfolding plan
 stopped_is s a = ap (λ b. not (bytes_eq a.namespace s.namespace && b)) (among (stopping s.job s.own))
   where

@@ -62,7 +62,7 @@ module _ {X : Type 0} where
   each_at [] = tt
   each_at (x ∷ xs) = ((0, refl), each_map (λ y h. (suc h.0, h.1)) xs (each_at xs))
 
-  each_drop : (P : X → Type 0) (n : ℕ) (xs : List X) → Each P xs → Each P (drop n xs)
+  pub each_drop : (P : X → Type 0) (n : ℕ) (xs : List X) → Each P xs → Each P (drop n xs)
   each_drop P zero xs h = h
   each_drop P (suc n) [] h = tt
   each_drop P (suc n) (x ∷ xs) h = each_drop P n xs h.1
@@ -227,10 +227,10 @@ module _ (j : Job) (own : List OwnAllocation) (place_of : ℕ) where
 -- ---- how many a group has
 
 module _ (j : Job) (own : List OwnAllocation) (g : Group) where
-  running_is : length (kept j own g) ≡ law.running j g own
+  pub running_is : length (kept j own g) ≡ law.running j g own
   running_is = length-filter (λ (a : OwnAllocation). is_live a.row && is_of j g a) own
 
-  completed_is : done j own g ≡ law.completed j.document.kind j g own
+  pub completed_is : done j own g ≡ law.completed j.document.kind j g own
   completed_is = by j.document.kind
     where
       by : (kind : JobKind) → cond (is_batch kind) (count_by (λ a. is_done a.row && is_of j g a) own) 0 ≡ law.completed kind j g own
@@ -353,10 +353,10 @@ module _ (s : Snapshot) (j : Job) where
 
 -- ---- the node of a placement
 
-same_text : (a b : List ℕ) → bytes_eq a b ≡ true → a ≡ b
+pub same_text : (a b : List ℕ) → bytes_eq a b ≡ true → a ≡ b
 same_text a b e = (bytes_eq-Decides a b).0 e
 
-text_same : (a b : List ℕ) → a ≡ b → bytes_eq a b ≡ true
+pub text_same : (a b : List ℕ) → a ≡ b → bytes_eq a b ≡ true
 text_same a b e = (bytes_eq-Decides a b).1 e
 
 module _ (name : List ℕ) (node : Node) where

@@ -4,18 +4,16 @@ use Rattle.std.proofs.Common.{refl, sym, ap, subst, ◌∙◌, arith}
 use Rattle.std.specs.FinMap.{get}
 use Rattle.std.specs.List.{list_all}
 use Rattle.std.specs.Option.{option_map_or, option_and_then}
-use Rattle.std.specs.Ordering.{nat_cmp}
 use Rattle.std.proofs.lemmas.Bool.{leb-true, leb-false, le-leb, lt-leb, and_right}
 use Rattle.ns_types.specs.declared.evaluation.Evaluation.{Evaluation}
 use Rattle.ns_types.specs.State.Lists.{Each}
-use Rattle.ns_types.specs.State.Names.{Key, has_key, same_key, same_number}
+use Rattle.ns_types.specs.State.Names.{Key, has_key, same_key}
 use Rattle.ns_types.specs.Working.Queue.{first_of_greatest, priority_at}
 use Rattle.ns_types.specs.Settling.Releases.{woken, wakes}
 use Rattle.ns_types.specs.State.Rows.{World, Tenant, evaluation_at}
 use Rattle.ns_types.specs.Validity.{IsSound}
 use Rattle.ns_types.proofs.Lists.{not_both, each_map}
-use Rattle.ns_types.proofs.Named.{one_number, second_of_both}
-use Rattle.ns_types.proofs.Tables.{equal_by}
+use Rattle.ns_types.proofs.Named.{second_of_both}
 use Rattle.ns_types.proofs.Elements.{each_from_all, all_from_each, each_kept, any_kept, each_back}
 use Rattle.ns_laws.specs.Queue.{ServedIsFirst, FirstIsServed, NoneServedOfNone, WokenInOrder, WokenAreCalled, IsBlockedAt, WokenWereBlocked}
 use Rattle.ns_laws.proofs.Elements.{filter_in_order}

@@ -255,7 +255,7 @@ module _ (ns : Name) (secret : Option Name) (command : AskCommand) (s s' : State
 -- ---- lists of rows
 
 module _ {X : Type 0} where
-  has_each : (xs : List X) → Each (λ x. Has xs x) xs
+  pub has_each : (xs : List X) → Each (λ x. Has xs x) xs
   has_each [] = tt
   has_each (x ∷ xs) = (inl refl, each_map (λ y h. inr h) xs (has_each xs))
 
@@ -518,7 +518,7 @@ module _ (amount : Resources → ℕ) where
   unfolding node_sum
   node_of w pool node = tenants_of (is_live_on pool node) (entries w.tenants)
 
-use_is : (w : World) (quota : Name) → quota_use w quota ≡ total (λ a. a.size) (law.counted_in w quota)
+pub use_is : (w : World) (quota : Name) → quota_use w quota ≡ total (λ a. a.size) (law.counted_in w quota)
 use_is w quota = same_of_each _ _ (λ r. quota_of (quantity r) w quota)
 
 load_is : (w : World) (pool node : Name) → node_load w pool node ≡ total (λ a. a.size) (law.running_on w pool node)

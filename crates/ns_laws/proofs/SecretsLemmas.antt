@@ -169,7 +169,7 @@ module _ {A X : Type 0} (f : A → List X) (x : X) where
       by later (inl h) = (a, inl refl, h)
       by later (inr h) = let rest = later h in (rest.0, inr rest.1, rest.2)
 
-  flat_has : (those : List A) (a : A) → Has those a → Has (f a) x → Has (flat_map f those) x
+  pub flat_has : (those : List A) (a : A) → Has those a → Has (f a) x → Has (flat_map f those) x
   flat_has [] a h k = absurd h
   flat_has (b ∷ those) a (inl e) k = append_has (f b) (flat_map f those) x (inl (subst (λ a. Has (f a) x) (sym e) k))
   flat_has (b ∷ those) a (inr h) k = append_has (f b) (flat_map f those) x (inr (flat_has those a h k))

@@ -121,7 +121,7 @@ is_below number less = elim (leb_tells (suc number) 64) [ inl is ↦ is.0 | inr 
 
 -- ---- Dequeue
 
-may_take : (w : World) (number : ℕ) (key : Key) → in_turn (dequeue number key w) ≡ true → MayTake w number key
+pub may_take : (w : World) (number : ℕ) (key : Key) → in_turn (dequeue number key w) ≡ true → MayTake w number key
 unfolding dequeue
 may_take w number key e =
     let all = if_in_turn (nat_lt number workers_end && is_idle w number && is_served w w.ready key) _ e in

@@ -167,7 +167,7 @@ none_same (other ∷ classes) class e = (
   none_same classes class (right_none (same_class class other) (has_class classes class) e),
 )
 
-may_use : (e : Evaluation) (class : Class) → can_use e class ≡ true → MayUse e class
+pub may_use : (e : Evaluation) (class : Class) → can_use e class ≡ true → MayUse e class
 may_use e class can = by (either_of e.escapes (not (has_class e.infeasible class)) can)
   where
     by : (e.escapes ≡ true) ⊎ (not (has_class e.infeasible class) ≡ true) → MayUse e class
@@ -205,7 +205,7 @@ module _ (w x : World) (pool : Name) where
       (sym (any_map (can_use e) (λ n. class_of n.1) (filter (λ n. gives_room w x pool n.0 n.1) (entries p.nodes))
       ∙ any_filtered (λ n. can_use e (class_of n.1)) (λ n. gives_room w x pool n.0 n.1) (entries p.nodes)) ∙ any)
 
-room_in : (w x : World) (e : Evaluation) → wakes w x e ≡ true → e.quota ≡ None → HasRoom w (settle w x) e
+pub room_in : (w x : World) (e : Evaluation) → wakes w x e ≡ true → e.quota ≡ None → HasRoom w (settle w x) e
 unfolding wakes
 room_in w x e awake unlimited = by (get x.pools e.pool) refl (ap (wakes_by w x e) (sym unlimited) ∙ awake)
   where
@@ -227,7 +227,7 @@ room_in w x e awake unlimited = by (get x.pools e.pool) refl (ap (wakes_by w x e
 
 -- ---- a quota that got room
 
-quota_in : (w x : World) (e : Evaluation) (quota : Name) → wakes w x e ≡ true → e.quota ≡ Some quota → GotQuota w (settle w x) quota
+pub quota_in : (w x : World) (e : Evaluation) (quota : Name) → wakes w x e ≡ true → e.quota ≡ Some quota → GotQuota w (settle w x) quota
 unfolding wakes releases_quota
 quota_in w x e quota awake limited = by (get x.quotas quota) refl (ap (wakes_by w x e) (sym limited) ∙ awake)
   where
@@ -258,7 +258,7 @@ quota_in w x e quota awake limited = by (get x.quotas quota) refl (ap (wakes_by 
 -- ---- in which list it stands
 
 -- the key is ready, or an evaluation of the job is busy
-abbrev Behind : World → Key → Name → Type 0
+abbrev pub Behind : World → Key → Name → Type 0
 Behind y key job = (has_key y.ready key ≡ true) ⊎ (is_busy y key.0 job ≡ true)
 
 module _ (key : Key) (job : Name) where
@@ -293,7 +293,7 @@ module _ (key : Key) (job : Name) where
   behind_queues [] y h = h
   behind_queues (k ∷ keys) y h = behind_queues keys (queue y k) (behind_queue y k h)
 
-queued_behind : (y : World) (key : Key) (d : Evaluation) → evaluation_at y key ≡ Some d → Behind (queue y key) key d.job
+pub queued_behind : (y : World) (key : Key) (d : Evaluation) → evaluation_at y key ≡ Some d → Behind (queue y key) key d.job
 unfolding queue
 queued_behind y key d at = subst (λ o. Behind (option_map_or (λ e. cond (is_busy y key.0 e.job) y (record y { ready = y.ready ++ key ∷ [] })) o y) key d.job)
     (sym at) (by (is_busy y key.0 d.job) refl)
@@ -303,7 +303,7 @@ queued_behind y key d at = subst (λ o. Behind (option_map_or (λ e. cond (is_bu
     by false idle = inl (list_any-append (same_key key) y.ready (key ∷ []) ∙ or_right (has_key y.ready key) (same_key key key || false)
         (left_holds (same_key key key) false (same_key_refl key)))
 
-all_behind : (key : Key) (d : Evaluation) (keys : List Key) (y : World) → has_key keys key ≡ true → evaluation_at y key ≡ Some d →
+pub all_behind : (key : Key) (d : Evaluation) (keys : List Key) (y : World) → has_key keys key ≡ true → evaluation_at y key ≡ Some d →
     Behind (fold queue y keys) key d.job
 all_behind key d [] y has at = not_both has refl
 all_behind key d (k ∷ keys) y has at = by (λ later. all_behind key d keys (queue y k) later (queue_keeps (λ y. evaluation_at y key) (λ y keys. refl) y k ∙ at))
@@ -319,11 +319,11 @@ all_behind key d (k ∷ keys) y has at = by (λ later. all_behind key d keys (qu
 
 -- an evaluation before the stamp is of the same job, and has the same status
 module _ (old : Option Tenant) (t : Tenant) where
-  record Same (n : ℕ) (d e : Evaluation) : Type 0 where
-    was : get t.evaluations n ≡ Some d
-    is : get (stamp_tenant old t).evaluations n ≡ Some e
-    job : e.job ≡ d.job
-    status : e.status ≡ d.status
+  pub record Same (n : ℕ) (d e : Evaluation) : Type 0 where
+    pub was : get t.evaluations n ≡ Some d
+    pub is : get (stamp_tenant old t).evaluations n ≡ Some e
+    pub job : e.job ≡ d.job
+    pub status : e.status ≡ d.status
 
 same_stamped : (old : Option Tenant) (t : Tenant) (n : ℕ) (d : Evaluation) → get t.evaluations n ≡ Some d → (e : Evaluation) × Same old t n d e
 unfolding stamp_tenant
@@ -367,7 +367,7 @@ none_stamped (Some o) t n is = by (is_touched o t)
     by false = is
 
 -- a row at the end was there before the stamp
-was_stamped : (old : Option Tenant) (t : Tenant) (n : ℕ) (e : Evaluation) → get (stamp_tenant old t).evaluations n ≡ Some e →
+pub was_stamped : (old : Option Tenant) (t : Tenant) (n : ℕ) (e : Evaluation) → get (stamp_tenant old t).evaluations n ≡ Some e →
     (d : Evaluation) × Same old t n d e
 was_stamped old t n e at = by (get t.evaluations n) refl
   where
@@ -377,7 +377,7 @@ was_stamped old t n e at = by (get t.evaluations n) refl
         let s : (e : Evaluation) × Same old t n d e = same_stamped old t n d is in
         (d, subst (Same old t n d) (same_Some s.0 e (sym s.1.is ∙ at)) s.1)
 
-stamped_workers : (old : Option Tenant) (t : Tenant) → (stamp_tenant old t).workers ≡ t.workers
+pub stamped_workers : (old : Option Tenant) (t : Tenant) → (stamp_tenant old t).workers ≡ t.workers
 unfolding stamp_tenant
 stamped_workers None t = refl
 stamped_workers (Some o) t = by (is_touched o t)
@@ -387,7 +387,7 @@ stamped_workers (Some o) t = by (is_touched o t)
     by false = refl
 
 -- one of the keys that passes
-some_key : (f : Key → Bool) (keys : List Key) → list_any f keys ≡ true → (key : Key) × (has_key keys key ≡ true) × (f key ≡ true)
+pub some_key : (f : Key → Bool) (keys : List Key) → list_any f keys ≡ true → (key : Key) × (has_key keys key ≡ true) × (f key ≡ true)
 some_key f [] e = not_both e refl
 some_key f (k ∷ keys) e = by (some_key f keys) (either_of (f k) (list_any f keys) e)
   where
@@ -400,17 +400,17 @@ module _ (w x : World) where
   abbrev keys : List Key
   keys = woken w x
 
-  abbrev opened : World
+  abbrev pub opened : World
   opened = record x { tenants = map_rows (unblocked_in keys) x.tenants; blocked = filter (λ key. not (has_key keys key)) x.blocked }
 
-  abbrev waked : World
+  abbrev pub waked : World
   waked = fold queue opened keys
 
-  settled_ready : (settle w x).ready ≡ waked.ready
+  pub settled_ready : (settle w x).ready ≡ waked.ready
   unfolding settle stamp number_releases wake
   settled_ready = refl
 
-  settled_rows : (ns : Name) → get (settle w x).tenants ns ≡ option_map (stamp_tenant (get w.tenants ns)) (get waked.tenants ns)
+  pub settled_rows : (ns : Name) → get (settle w x).tenants ns ≡ option_map (stamp_tenant (get w.tenants ns)) (get waked.tenants ns)
   unfolding settle stamp number_releases wake
   settled_rows ns = get-map_rows names one_name (λ ns t. stamp_tenant (get w.tenants ns) t) waked.tenants ns
 
@@ -433,7 +433,7 @@ module _ (w x : World) where
       in_tenant (Some t) e = in_row (get t.evaluations key.1) (sym (get-map_rows numbers one_number (woken_row keys key.0) t.evaluations key.1) ∙ e)
 
   -- what is there before the stamp is there at the end
-  there_later : (ns : Name) (n : ℕ) (d : Evaluation) → evaluation_at waked (ns, n) ≡ Some d →
+  pub there_later : (ns : Name) (n : ℕ) (d : Evaluation) → evaluation_at waked (ns, n) ≡ Some d →
       (e : Evaluation) × (evaluation_at (settle w x) (ns, n) ≡ Some e) × (e.job ≡ d.job)
   there_later ns n d at = by (get waked.tenants ns) refl at
     where
@@ -447,7 +447,7 @@ module _ (w x : World) where
             s.1.job,
           )
 
-  taken_by : (ns job : Name) → is_busy waked ns job ≡ true → law.IsTaken (settle w x) ns job
+  pub taken_by : (ns job : Name) → is_busy waked ns job ≡ true → law.IsTaken (settle w x) ns job
   taken_by ns job busy = by (either_of (list_any (is_of_job waked ns job) waked.ready) (workers_busy (ns, 0) job waked) busy)
     where
       of_key : (key : Key) → has_key waked.ready key ≡ true → same_name ns key.0 ≡ true → (o : Option Evaluation) → evaluation_at waked key ≡ o →

@@ -9,6 +9,7 @@ pub mod Kinds
 pub mod Reach
 pub mod Waking
 pub mod Woken
+pub mod Workers
 pub mod Turns
 pub mod Secrets
 pub mod Planning
@@ -16,3 +17,5 @@ pub mod Ending
 pub mod Reads
 pub mod Indexes
 pub mod Effects
+pub mod Surplus
+pub mod Serving

@@ -1,0 +1,5 @@
+use Rattle.ns_laws.proofs.ServingLemmas.{evaluation_goes_on}
+use Rattle.ns_laws.proofs.serving.evaluation_goes_on.Goals as goal
+
+pub returns : goal.returns
+returns c = evaluation_goes_on

@@ -1,0 +1,5 @@
+use Rattle.ns_laws.proofs.ServingFinish.{finish_wakes_none}
+use Rattle.ns_laws.proofs.serving.finish_wakes_none.Goals as goal
+
+pub returns : goal.returns
+returns c = finish_wakes_none

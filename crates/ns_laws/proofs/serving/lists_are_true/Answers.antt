@@ -1,0 +1,5 @@
+use Rattle.ns_laws.proofs.ServingLists.{lists_are_true}
+use Rattle.ns_laws.proofs.serving.lists_are_true.Goals as goal
+
+pub returns : goal.returns
+returns c = lists_are_true

@@ -1,0 +1,5 @@
+use Rattle.ns_laws.proofs.ServingLemmas.{none_is_forgotten}
+use Rattle.ns_laws.proofs.serving.none_is_forgotten.Goals as goal
+
+pub returns : goal.returns
+returns c = none_is_forgotten

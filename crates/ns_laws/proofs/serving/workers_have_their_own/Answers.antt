@@ -1,0 +1,5 @@
+use Rattle.ns_laws.proofs.ServingLists.{workers_have_their_own}
+use Rattle.ns_laws.proofs.serving.workers_have_their_own.Goals as goal
+
+pub returns : goal.returns
+returns c = workers_have_their_own

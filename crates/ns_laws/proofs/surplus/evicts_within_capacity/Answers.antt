@@ -1,0 +1,5 @@
+use Rattle.ns_laws.proofs.SurplusRoomLemmas.{evicts_within_capacity}
+use Rattle.ns_laws.proofs.surplus.evicts_within_capacity.Goals as goal
+
+pub returns : goal.returns
+returns c = evicts_within_capacity

@@ -1,0 +1,5 @@
+use Rattle.ns_laws.proofs.SurplusLemmas.{snapshots_are_orderly}
+use Rattle.ns_laws.proofs.surplus.snapshots_are_orderly.Goals as goal
+
+pub returns : goal.returns
+returns c = snapshots_are_orderly

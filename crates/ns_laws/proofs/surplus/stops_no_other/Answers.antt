@@ -1,0 +1,5 @@
+use Rattle.ns_laws.proofs.SurplusLemmas.{stops_no_other}
+use Rattle.ns_laws.proofs.surplus.stops_no_other.Goals as goal
+
+pub returns : goal.returns
+returns c = stops_no_other

@@ -1,0 +1,5 @@
+use Rattle.ns_laws.proofs.WorkingLemmas.{dequeued_is_taken}
+use Rattle.ns_laws.proofs.workers.dequeued_is_taken.Goals as goal
+
+pub returns : goal.returns
+returns c = dequeued_is_taken

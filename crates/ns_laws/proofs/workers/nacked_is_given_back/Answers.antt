@@ -1,0 +1,5 @@
+use Rattle.ns_laws.proofs.NackLemmas.{nacked_is_given_back}
+use Rattle.ns_laws.proofs.workers.nacked_is_given_back.Goals as goal
+
+pub returns : goal.returns
+returns c = nacked_is_given_back

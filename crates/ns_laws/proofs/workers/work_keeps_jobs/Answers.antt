@@ -1,0 +1,5 @@
+use Rattle.ns_laws.proofs.WorkJobsLemmas.{work_keeps_jobs}
+use Rattle.ns_laws.proofs.workers.work_keeps_jobs.Goals as goal
+
+pub returns : goal.returns
+returns c = work_keeps_jobs
