@@ -12,8 +12,9 @@ use Rattle.ns_types.specs.declared.evaluation.Evaluation.{Evaluation}
 use Rattle.ns_types.specs.declared.node.Class.{Class}
 use Rattle.ns_types.specs.declared.node.Node.{Node}
 use Rattle.ns_types.specs.declared.records.Namespace.{Namespace}
-use Rattle.ns_types.specs.Settling.Releases.{can_use, changes_limits, classes_of, counts_in, ends, gives_room, is_on, is_released_quota}
-use Rattle.ns_types.specs.Settling.Releases.{released_classes, releases_quota, same_offer, wakes, wakes_by, woken}
+use Rattle.ns_types.specs.Settling.Releases.{can_use, changes_limits, classes_of, counts_in, ends}
+use Rattle.ns_types.specs.Settling.Releases.{gives_room, is_on, is_released_quota, wakes_by, released_between}
+use Rattle.ns_types.specs.Settling.Releases.{released_classes, releases_quota, same_offer, wakes, woken}
 use Rattle.ns_types.specs.State.Names.{Name, Key, has_key, has_name, same_name}
 use Rattle.ns_types.specs.State.Resources.{limits_in}
 use Rattle.ns_types.specs.State.Rows.{World, PoolRows, QuotaRows, Tenant, class_of, evaluation_at, is_free, is_live, node_at}
@@ -25,7 +26,7 @@ use Rattle.ns_types.proofs.Named.{names, numbers, one_name, one_number}
 use Rattle.ns_types.proofs.TableRows.{any_row-alike}
 use Rattle.ns_types.proofs.Tables.{tied}
 use Rattle.ns_types.proofs.Tests.{or_none}
-use Rattle.ns_release.specs.Released.{at_room, quota_left, releases_wake, releases_wake_at, room_at, room_left, woken_by}
+use Rattle.ns_release.specs.Released.{at_room, quota_left, releases_wake, releases_wake_at, room_at, room_left, released_of}
 use Rattle.ns_release.proofs.Rooms.{any_and, any_image, any_none, any_row-at, any_swap}
 use Rattle.ns_counters.proofs.Bounded.{any_named, any_with}
 use Rattle.ns_types.specs.Working.Parts.{lives_at}
@@ -228,7 +229,7 @@ module _ (w x : World) (keys : List Key) (only : EndsAlone w x keys) where
   unfolding wakes
   wakes_are e = by e.quota
     where
-      by : (q : Option Name) → wakes_by w x e q ≡ woken_by w rooms quotas e q
+      by : (q : Option Name) → wakes_by (released_between w x) e q ≡ wakes_by (released_of w rooms quotas) e q
       by (Some q) = released_is q
       by None = rooms_are e.pool (can_use e)
 

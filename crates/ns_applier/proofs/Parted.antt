@@ -7,12 +7,12 @@ use Rattle.std.specs.FinMap.{contains_key, get}
 use Rattle.keyed.proofs.Over.{any_both}
 use Rattle.ns_types.specs.declared.evaluation.Evaluation.{Evaluation}
 use Rattle.ns_types.specs.declared.node.Class.{Class}
-use Rattle.ns_types.specs.Settling.Releases.{can_use}
+use Rattle.ns_types.specs.Settling.Releases.{can_use, wakes_by}
 use Rattle.ns_types.specs.State.Names.{Name, Key}
 use Rattle.ns_types.specs.State.Rows.{World, Tenant, evaluation_at}
 use Rattle.ns_types.proofs.Elements.{any_same}
 use Rattle.ns_types.proofs.Tests.{or_none}
-use Rattle.ns_release.specs.Released.{at_room, releases_wake_at, woken_by}
+use Rattle.ns_release.specs.Released.{at_room, releases_wake_at, released_of, releases_wake}
 use Rattle.ns_release.proofs.Rooms.{any_and, any_none, any_swap}
 use Rattle.ns_release.proofs.Together.{wakes_by_each, wakes_by_quotas}
 use Rattle.ns_counters.proofs.Each.{split_middle}
@@ -26,12 +26,12 @@ module _ (w : World) where
   wakes_by_rooms : (rooms : List (Name × Class)) (key : Key) → releases_wake_at w rooms [] key ≡ list_any (λ r. releases_wake_at w (r ∷ []) [] key) rooms
   wakes_by_rooms rooms key = by (evaluation_at w key)
     where
-      of : (e : Evaluation) (q : Option Name) → woken_by w rooms [] e q ≡ list_any (λ r. woken_by w (r ∷ []) [] e q) rooms
+      of : (e : Evaluation) (q : Option Name) → wakes_by (released_of w rooms []) e q ≡ list_any (λ r. wakes_by (released_of w (r ∷ []) []) e q) rooms
       of e (Some q) = and-false (contains_key w.quotas q) ∙ sym (any_same _ (λ _. false) (λ r. and-false (contains_key w.quotas q)) rooms ∙ any_none rooms)
       of e None = any_same _ _ (λ r. sym (or_none (at_room e.pool (can_use e) r))) rooms
 
-      by : (o : Option Evaluation) → option_map_or (λ e. woken_by w rooms [] e e.quota) o false
-          ≡ list_any (λ r. option_map_or (λ e. woken_by w (r ∷ []) [] e e.quota) o false) rooms
+      by : (o : Option Evaluation) → option_map_or (releases_wake w rooms []) o false
+          ≡ list_any (λ r. option_map_or (releases_wake w (r ∷ []) []) o false) rooms
       by None = sym (any_none rooms)
       by (Some e) = of e e.quota
 

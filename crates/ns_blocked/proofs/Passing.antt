@@ -13,7 +13,7 @@ use Rattle.std.specs.Ordering.{nat_cmp}
 use Rattle.keyed.specs.Table.{flat}
 use Rattle.ns_types.specs.declared.node.Class.{Class}
 use Rattle.ns_types.specs.State.Lists.{Each}
-use Rattle.ns_types.specs.State.Names.{Key, Name, has_number, same_number}
+use Rattle.ns_types.specs.State.Names.{Key, Name, has_number, same_name, same_number}
 use Rattle.ns_types.proofs.Elements.{any_map, any_same, each_still, filter_map, map_map}
 use Rattle.ns_types.proofs.Lists.{none_of}
 use Rattle.ns_types.proofs.Named.{numbers, one_number, same_number_refl}
@@ -21,14 +21,16 @@ use Rattle.ns_types.proofs.Tables.{each_row, less_by}
 use Rattle.ns_types.proofs.Tests as tests
 use Rattle.ns_blocked.specs.declared.entry.BlockedEvaluation.{BlockedEvaluation}
 use Rattle.ns_blocked.specs.declared.entry.Waiting.{Waiting}
+use Rattle.ns_blocked.specs.declared.entry.Waits.{Waits}
 use Rattle.ns_blocked.specs.declared.entry.Waits.TheVariants.{Pool, Quota}
 use Rattle.ns_blocked.specs.declared.index.Index.{Index}
 use Rattle.ns_blocked.specs.declared.releases.ReleasedPool.{ReleasedPool}
 use Rattle.ns_blocked.specs.declared.releases.Releases.{Releases}
 use Rattle.ns_blocked.specs.Blocked.{BlockedList, IsIndexed, by_place, entry_at, row_for, row_of}
 use Rattle.ns_blocked.specs.Groups.{same_waits}
-use Rattle.ns_blocked.specs.Waking.{AddsPlaces, AreKeysAt, ArePassing, ArePresent, IsLeftWithout, can_use_any, is_of_pool, is_of_quota, is_usable}
-use Rattle.ns_blocked.specs.Waking.{is_woken, keys_of_passing, passes_at, wakes_of_pool, wakes_of_quota, without_passing}
+use Rattle.ns_blocked.specs.Waking.{AddsPlaces, AreKeysAt, ArePassing, ArePresent, IsLeftWithout, can_use, can_use_any, is_of_pool, is_of_quota}
+use Rattle.ns_blocked.specs.Waking.{is_usable, is_woken, keys_of_passing, passes_at, released_in, wakes_of_pool, wakes_of_quota, wakes_waiting}
+use Rattle.ns_blocked.specs.Waking.{without_passing}
 use Rattle.ns_blocked.proofs.Listed.{entries_kept, place_row}
 use Rattle.ns_blocked.proofs.OneKey.{any_row_at}
 use Rattle.ns_blocked.proofs.Places.{IsTaking, TakesPlaces, keys_at}
@@ -136,6 +138,18 @@ module _ (start now : BlockedList) (all left : List ℕ) (keys : List Key) (h : 
   all_gone passes are = passing_gone start.index passes now.index all are
       (λ n. sym (ap (λ l. cond (has_number l n) None (entry_at now.index n)) none) ∙ h.gone n)
 
+-- an entry wakes if it waits for one of the quotas, or for one of the pools and can use one of its classes
+woken_by_either : (r : Releases) (e : BlockedEvaluation) → (list_any (λ quota. wakes_of_quota quota e) r.quotas
+    || list_any (λ p. wakes_of_pool p.pool p.classes e) r.pools) ≡ is_woken r e
+woken_by_either r e = by e.waits
+  where
+    by : (waits : Waits) → (list_any (λ quota. same_waits (Quota quota) waits) r.quotas
+        || list_any (λ p. same_waits (Pool p.pool) waits && can_use_any p.classes (row_of e)) r.pools)
+        ≡ wakes_waiting (released_in r) waits (can_use (row_of e))
+    by (Quota quota) = ap (λ b. list_any (λ name. same_name name quota) r.quotas || b) (none_of r.pools)
+        ∙ tests.or_none (list_any (λ name. same_name name quota) r.quotas)
+    by (Pool pool) = ap (λ b. b || list_any (λ p. same_name p.pool pool && can_use_any p.classes (row_of e)) r.pools) (none_of r.quotas)
+
 -- ---- what a group says of the entries
 
 module _ (index : Index) (next : ℕ) (h : IsIndexed index next) (n : ℕ) where
@@ -171,7 +185,7 @@ module _ (index : Index) (next : ℕ) (h : IsIndexed index next) (n : ℕ) where
       by : (x : Option BlockedEvaluation) → (list_any (λ quota. passes_at (wakes_of_quota quota) x) r.quotas
           || list_any (λ p. passes_at (wakes_of_pool p.pool p.classes) x) r.pools) ≡ passes_at (is_woken r) x
       by None = λ i. none_of r.quotas i || none_of r.pools i
-      by (Some e) = refl
+      by (Some e) = woken_by_either r e
 
 -- ---- the places that are found, where none were before
 

@@ -7,13 +7,11 @@ use Rattle.std.specs.List.{cons_option, filter_map, list_any}
 use Rattle.std.specs.Option.{option_map_or}
 use Rattle.ns_types.specs.declared.evaluation.Evaluation.{Evaluation}
 use Rattle.ns_types.specs.declared.node.Class.{Class}
-use Rattle.ns_types.specs.Settling.Releases.{can_use, classes_of, is_released_quota, released_classes, releases_quota, wakes, wakes_by, woken}
+use Rattle.ns_types.specs.Settling.Releases.{can_use, classes_of, is_released_quota, released_classes, releases_quota, wakes, woken, wakes_by, released_between}
 use Rattle.ns_types.specs.State.Lists.{is_empty}
 use Rattle.ns_types.specs.State.Names.{Key, Name, has_key, same_name}
 use Rattle.ns_types.specs.State.Rows.{PoolRows, QuotaRows, World, evaluation_at}
 use Rattle.ns_types.proofs.Elements.{any_map, any_same}
-use Rattle.ns_types.proofs.Tests.{or_none}
-use Rattle.ns_types.proofs.Lists.{none_of}
 use Rattle.ns_types.proofs.Named.{names, one_name, same_name_refl}
 use Rattle.ns_blocked.specs.declared.entry.BlockedEvaluation.{BlockedEvaluation}
 use Rattle.ns_blocked.specs.declared.entry.Waits.TheVariants.{Pool, Quota}
@@ -68,11 +66,9 @@ module _ (w w' : World) where
       as_entry : Option Name → BlockedEvaluation
       as_entry quota = record { key = key; waits = option_map_or Quota quota (Pool e.pool); escapes = e.escapes; infeasible = e.infeasible }
 
-      by : (quota : Option Name) → is_woken (released w w') (as_entry quota) ≡ wakes_by w w' e quota
-      by (Some quota) = ap (λ b. list_any (λ name. same_name name quota) (released w w').quotas || b) (none_of (released w w').pools)
-          ∙ or_none (list_any (λ name. same_name name quota) (released w w').quotas) ∙ quota_released quota
-      by None = ap (λ b. b || list_any (λ p. same_name p.pool e.pool && list_any (can_use e) p.classes) (released w w').pools)
-          (none_of (released w w').quotas) ∙ classes_released e.pool (can_use e)
+      by : (quota : Option Name) → is_woken (released w w') (as_entry quota) ≡ wakes_by (released_between w w') e quota
+      by (Some quota) = quota_released quota
+      by None = classes_released e.pool (can_use e)
 
   woken_of : (keys : List Key) → keys_of_passing (is_woken (released w w')) (filter (λ e. has_key w'.blocked e.key)
       (filter_map (λ key. option_map (entry_of key) (evaluation_at w key)) keys))

@@ -16,16 +16,15 @@ use Rattle.ns_blocked.specs.Blocked.{BlockedList, entries_of, entry_at, row_of}
 use Rattle.ns_blocked.specs.Groups.{group_row, same_waits}
 use Rattle.ns_types.specs.declared.evaluation.Evaluation.{Evaluation}
 use Rattle.ns_types.specs.declared.node.Class.{Class}
-use Rattle.ns_types.specs.Settling.Releases.{released_classes, releases_quota}
+use Rattle.ns_types.specs.Settling.Releases.{Released, may_use, released_classes, releases_quota}
 use Rattle.ns_types.specs.State.Lists.{is_empty}
-use Rattle.ns_types.specs.State.Names.{Key, Name, has_class, has_key, has_number}
+use Rattle.ns_types.specs.State.Names.{Key, Name, has_key, has_number, same_name}
 use Rattle.ns_types.specs.State.Rows.{PoolRows, World, evaluation_at}
 
 -- ---- which entries a release wakes
 
--- the evaluation escapes classes, or did not find this class infeasible
 abbrev pub can_use : Waiting → Class → Bool
-can_use row class = row.escapes || not (has_class row.infeasible class)
+can_use row class = may_use row.escapes row.infeasible class
 
 abbrev pub can_use_any : List Class → Waiting → Bool
 can_use_any classes row = list_any (can_use row) classes
@@ -34,18 +33,29 @@ can_use_any classes row = list_any (can_use row) classes
 abbrev pub is_usable : List Class → Option Waiting → Bool
 is_usable classes slot = option_map_or (can_use_any classes) slot false
 
--- a released quota wakes all that wait for it
+-- what the lists have: quotas, and pools with their classes
+abbrev pub released_in : Releases → Released
+released_in r = record {
+  quota = λ quota. list_any (λ name. same_name name quota) r.quotas;
+  room = λ pool passes. list_any (λ p. same_name p.pool pool && list_any passes p.classes) r.pools;
+}
+
+-- such releases wake what waits for this quota or pool and can use the classes that pass
+abbrev pub wakes_waiting : Released → Waits → (Class → Bool) → Bool
+wakes_waiting released (Quota quota) passes = released.quota quota
+wakes_waiting released (Pool pool) passes = released.room pool passes
+
+-- the releases wake the entry
+abbrev pub is_woken : Releases → BlockedEvaluation → Bool
+is_woken r e = wakes_waiting (released_in r) e.waits (can_use (row_of e))
+
+-- the entry waits for the quota
 abbrev pub wakes_of_quota : Name → BlockedEvaluation → Bool
 wakes_of_quota quota e = same_waits (Quota quota) e.waits
 
--- a released pool wakes those that wait for it and can use one of its classes
+-- the entry waits for the pool, and can use one of the classes
 abbrev pub wakes_of_pool : Name → List Class → BlockedEvaluation → Bool
 wakes_of_pool pool classes e = same_waits (Pool pool) e.waits && can_use_any classes (row_of e)
-
--- a released quota or pool wakes the entry
-abbrev pub is_woken : Releases → BlockedEvaluation → Bool
-is_woken r e = list_any (λ quota. wakes_of_quota quota e) r.quotas
-    || list_any (λ p. wakes_of_pool p.pool p.classes e) r.pools
 
 -- the keys of the entries that pass, in the list's order; and the entries that do not pass
 abbrev pub keys_of_passing : (BlockedEvaluation → Bool) → List BlockedEvaluation → List Key

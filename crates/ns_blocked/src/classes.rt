@@ -2,22 +2,15 @@
 
 ghost use Rattle.std.specs.Prelude.{◌≡◌};
 ghost use Rattle.ns_blocked.specs.Waking.{can_use, can_use_any, is_usable};
-ghost use Rattle.ns_types.specs.State.Names.{has_class};
 
 use crate::entry::Waiting;
-use ns_equality::same_class;
+use ns_equality::may_use;
 use ns_types::node::Class;
-
-fn has_class(classes: &[Class], class: &Class) -> bool
-    ensures { result ≡ has_class classes.now class.now }
-{
-    classes.iter().any(|other| same_class(class, other))
-}
 
 fn can_use(row: &Waiting, class: &Class) -> bool
     ensures { result ≡ can_use row.now class.now }
 {
-    row.escapes || !has_class(row.infeasible.as_slice(), class)
+    may_use(row.escapes, row.infeasible.as_slice(), class)
 }
 
 fn can_use_any(row: &Waiting, classes: &[Class]) -> bool

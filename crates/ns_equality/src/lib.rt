@@ -15,7 +15,7 @@ pub use equal::Equal;
 pub use keys::{has_key, has_name, same_key, same_number};
 pub use limits::{changes_limits, limits_in};
 pub use ns_types::text::same_text;
-pub use offers::{can_use, class_of, is_free, is_unique, same_attribute, same_class, same_offer};
+pub use offers::{class_of, is_free, is_unique, may_use, same_attribute, same_class, same_offer};
 pub use rows::{
     same_allocation, same_evaluation, same_flag, same_job, same_optional_text, same_with_status,
 };

@@ -4,10 +4,9 @@ ghost use Rattle.std.specs.Prelude.{◌≡◌, not, filter, IfOk};
 ghost use Rattle.std.specs.Cmp.Lexicographic.{pointwise};
 ghost use Rattle.std.specs.Ordering.{eq_by_cmp};
 ghost use Rattle.ns_types.specs.State.Names.{attribute_cmp, has_class, same_class};
-ghost use Rattle.ns_types.specs.Settling.Releases.{can_use, same_offer};
+ghost use Rattle.ns_types.specs.Settling.Releases.{may_use, same_offer};
 ghost use Rattle.ns_types.specs.State.Rows.{class_of, is_free, is_unique};
 
-use ns_types::evaluation::Evaluation;
 use ns_types::node::{Attribute, Class, Node, NodeStatus, Offer};
 use ns_types::resources::same_resources;
 use ns_types::rows::Rows;
@@ -48,11 +47,11 @@ fn has_class(classes: &[Class], class: &Class) -> bool
     classes.iter().any(|other| same_class(class, other))
 }
 
-/// Whether the evaluation may use room on a node of this class: it escapes classes, or did not find the class infeasible.
-pub fn can_use(evaluation: &Evaluation, class: &Class) -> bool
-    ensures { result ≡ can_use evaluation.now class.now }
+/// Whether an evaluation may use room on a node of this class: it escapes classes, or did not find the class infeasible.
+pub fn may_use(escapes: bool, infeasible: &[Class], class: &Class) -> bool
+    ensures { result ≡ may_use escapes infeasible.now class.now }
 {
-    evaluation.escapes || !has_class(evaluation.infeasible.as_slice(), class)
+    escapes || !has_class(infeasible, class)
 }
 
 /// Whether the offers are equal.

@@ -4,12 +4,12 @@ ghost use Rattle.std.specs.Prelude.{◌≡◌, ◌&&◌, nat_lt};
 ghost use Rattle.std.specs.Option.{option_map_or};
 ghost use Rattle.std.specs.FinMap.{find, get};
 ghost use Rattle.std.specs.List.{list_any};
-ghost use Rattle.ns_types.specs.Settling.Releases.{missed};
+ghost use Rattle.ns_types.specs.Settling.Releases.{can_use, is_quota_since, is_room_since, missed};
 ghost use Rattle.ns_types.specs.State.Names.{class_cmp};
-ghost use Rattle.ns_followers.specs.Missing.{is_new, missed_limits, missed_room};
+ghost use Rattle.ns_followers.specs.Missing.{is_new};
 ghost use Rattle.ns_tables.specs.World.{world_of};
 
-use ns_equality::{can_use, same_class};
+use ns_equality::{may_use, same_class};
 use ns_tables::Tables;
 use ns_types::evaluation::Evaluation;
 use ns_types::node::Class;
@@ -37,7 +37,8 @@ fn is_new(
 ) -> bool
     ensures { result ≡ is_new releases.now seen evaluation.now release.now }
 {
-    if seen >= release.1 || !can_use(evaluation, &release.0) {
+    let infeasible = evaluation.infeasible.as_slice();
+    if seen >= release.1 || !may_use(evaluation.escapes, infeasible, &release.0) {
         return false;
     }
     match number_of(releases, &release.0) {
@@ -55,8 +56,9 @@ fn any_new(releases: &[(Class, u64)], seen: u64, evaluation: &Evaluation) -> boo
 }
 
 /// Whether a class that the evaluation can use was released in its pool after the number `seen`.
-fn missed_room(tables: &Tables, seen: u64, evaluation: &Evaluation) -> bool
-    ensures { result ≡ missed_room (world_of tables.now) seen evaluation.now }
+fn is_room_since(tables: &Tables, seen: u64, evaluation: &Evaluation) -> bool
+    ensures { let e = evaluation.now in
+        result ≡ is_room_since (world_of tables.now) seen e.pool (can_use e) }
 {
     match tables.pools.get(&evaluation.pool) {
         Some(pool) => any_new(pool.classes.as_slice(), seen, evaluation),
@@ -85,8 +87,9 @@ fn release_of(tables: &Tables, quota: &Text) -> u64
     }
 }
 
-fn missed_limits(tables: &Tables, kept: &Snapshot, quota: &Text) -> bool
-    ensures { result ≡ missed_limits (world_of tables.now) kept.now quota.now }
+/// Whether the quota was released after the snapshot.
+fn is_quota_since(tables: &Tables, kept: &Snapshot, quota: &Text) -> bool
+    ensures { result ≡ is_quota_since (world_of tables.now) kept.now quota.now }
 {
     release_seen(kept) < release_of(tables, quota)
 }
@@ -98,7 +101,7 @@ pub fn missed(tables: &Tables, kept: &Snapshot, follower: &Evaluation) -> bool
     ensures { result ≡ missed (world_of tables.now) kept.now follower.now }
 {
     match &follower.quota {
-        Some(quota) => missed_limits(tables, kept, quota),
-        None => missed_room(tables, kept.release, follower),
+        Some(quota) => is_quota_since(tables, kept, quota),
+        None => is_room_since(tables, kept.release, follower),
     }
 }

@@ -14,7 +14,7 @@ use Rattle.ns_types.specs.declared.worker.Phase.{Phase}
 use Rattle.ns_types.specs.Placing.Plan.{plan, is_short}
 use Rattle.ns_types.specs.Settling.Making.{put_tenant, with_status}
 use Rattle.ns_types.specs.Settling.Outcome.{NotEnabled, Done}
-use Rattle.ns_types.specs.Settling.Releases.{can_use, missed, missed_by}
+use Rattle.ns_types.specs.Settling.Releases.{can_use, missed, wakes_by, released_since}
 use Rattle.ns_types.specs.Settling.Settle.{settle}
 use Rattle.ns_types.specs.State.Names.{Key, Name, ByNumber, same_name}
 use Rattle.ns_types.specs.declared.snapshot.QuotaSeen.{QuotaSeen}
@@ -154,7 +154,7 @@ missed_release w kept e status m = by e.quota refl m
     in_quota quota limited None is m = above_zero (option_map_or (λ (q : QuotaSeen). q.release) kept.quota 0) m
     in_quota quota limited (Some rows) is m = of_quota quota rows limited is (less (option_map_or (λ (q : QuotaSeen). q.release) kept.quota 0) rows.release m)
 
-    by : (o : Option Name) → e.quota ≡ o → missed_by w kept e o ≡ true → MissedRelease w kept (record e { status = status })
+    by : (o : Option Name) → e.quota ≡ o → wakes_by (released_since w kept) e o ≡ true → MissedRelease w kept (record e { status = status })
     by None unlimited m = in_pool unlimited (get w.pools e.pool) refl m
     by (Some quota) limited m = in_quota quota limited (get w.quotas quota) refl m
 

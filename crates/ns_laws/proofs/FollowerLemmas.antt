@@ -14,7 +14,7 @@ use Rattle.ns_types.specs.declared.step.Step.{Step}
 use Rattle.ns_types.specs.Asking.Policies.{with_world}
 use Rattle.ns_types.specs.Settling.Making.{put_tenant, with_status}
 use Rattle.ns_types.specs.Settling.Outcome.{Outcome, NotEnabled, Refused, Done, lift}
-use Rattle.ns_types.specs.Settling.Releases.{can_use, missed, missed_by, woken}
+use Rattle.ns_types.specs.Settling.Releases.{can_use, missed, woken, wakes_by, released_since}
 use Rattle.ns_types.specs.Settling.Settle.{changes_evaluation, created_at, is_touched, pending, settle, stamp_tenant, stamped, stamped_evaluation, unblocked_in}
 use Rattle.ns_types.specs.Settling.Settle.{woken_row}
 use Rattle.ns_types.specs.State.Names.{Key, Name, has_key}
@@ -46,9 +46,9 @@ unfolding missed
 missed_nothing w kept e none = record {
   classes = λ unlimited pool class number is at usable. at_most kept.release number (and_yes _ (ap (λ b. nat_lt kept.release number && b)
       (sym (can_use_of e class usable)) ∙ none_of_any one_class (λ class number. nat_lt kept.release number && can_use e class) pool.classes class number
-      (sym (ap (missed_by w kept e) unlimited ∙ ap (λ o. option_map_or
+      (sym (ap (wakes_by (released_since w kept) e) unlimited ∙ ap (λ o. option_map_or
       (λ pool. any_row (λ class number. nat_lt kept.release number && can_use e class) pool.classes) o false) is) ∙ none) at));
-  quota = λ quota seen rows limited is at. at_most seen.release rows.release (sym (ap (missed_by w kept e) limited ∙ (λ i. nat_lt
+  quota = λ quota seen rows limited is at. at_most seen.release rows.release (sym (ap (wakes_by (released_since w kept) e) limited ∙ (λ i. nat_lt
       (option_map_or (λ (q : QuotaSeen). q.release) (is i) 0) (option_map_or (λ (q : QuotaRows). q.release) (at i) 0))) ∙ none);
 }
 

@@ -21,8 +21,9 @@ use Rattle.ns_types.specs.declared.resources.Limit.{Limit}
 use Rattle.ns_types.specs.declared.resources.Limit.TheVariants.{Unlimited, AtMost, Nothing}
 use Rattle.ns_types.specs.declared.resources.Limits.{Limits}
 use Rattle.ns_types.specs.declared.resources.Resources.{Resources}
-use Rattle.ns_types.specs.Settling.Releases.{same_offer, ends, is_on, counts_in, changes_limits, gives_room, released_classes, releases_quota}
-use Rattle.ns_types.specs.Settling.Releases.{can_use, wakes, wakes_by, woken}
+use Rattle.ns_types.specs.Settling.Releases.{same_offer, ends, is_on, counts_in, changes_limits}
+use Rattle.ns_types.specs.Settling.Releases.{gives_room, released_classes, releases_quota, wakes_by, released_between}
+use Rattle.ns_types.specs.Settling.Releases.{can_use, wakes, woken}
 use Rattle.ns_types.specs.Settling.Settle.{after_release, after_quota_release, number_releases, settle, stamp, stamp_tenant, stamped, stamped_allocation}
 use Rattle.ns_types.specs.Settling.Settle.{changes_allocation, created_at, is_touched, unblocked_in, wake}
 use Rattle.ns_types.specs.State.Lists.{Each}
@@ -227,7 +228,7 @@ any_filtered p q (x ∷ xs) = elim (q x) as (λ b. list_any p (cond b (x ∷ fil
 no_room : (w x : World) (e : Evaluation) (name : Name) (row : Node) → wakes w x e ≡ false → e.quota ≡ None → node_at x e.pool name ≡ Some row →
     can_use e (class_of row) ≡ true → gives_room w x e.pool name row ≡ false
 unfolding wakes released_classes any_row
-no_room w x e name row asleep unlimited there usable = by (get x.pools e.pool) (sym (ap (wakes_by w x e) unlimited) ∙ asleep) there
+no_room w x e name row asleep unlimited there usable = by (get x.pools e.pool) (sym (ap (wakes_by (released_between w x) e) unlimited) ∙ asleep) there
   where
     gives : Name × Node → Bool
     gives n = gives_room w x e.pool n.0 n.1
@@ -292,7 +293,7 @@ asleep_over_quota : (w x : World) (key : Key) (e : Evaluation) (quota : Name) (o
     get (settle w x).quotas quota ≡ Some new → GotNoQuota w (settle w x) quota old new
 unfolding wakes
 asleep_over_quota w x key e quota old new was is at limited before later =
-    by (get x.quotas quota) (sym (settled_quotas w x quota) ∙ later) (sym (ap (wakes_by w x e) limited) ∙ sleeps_on w x key e was is at)
+    by (get x.quotas quota) (sym (settled_quotas w x quota) ∙ later) (sym (ap (wakes_by (released_between w x) e) limited) ∙ sleeps_on w x key e was is at)
   where
     kept : (b : Bool) (rows : QuotaRows) → (after_quota_release b rows).quota ≡ rows.quota
     kept true rows = refl

@@ -15,8 +15,9 @@ use Rattle.ns_types.specs.declared.node.Class.{Class}
 use Rattle.ns_types.specs.declared.node.Node.{Node}
 use Rattle.ns_types.specs.declared.records.Namespace.{Namespace}
 use Rattle.ns_types.specs.declared.step.Step.{Step}
-use Rattle.ns_types.specs.Settling.Releases.{same_offer, ends, is_on, counts_in, changes_limits, gives_room, released_classes, releases_quota, can_use}
-use Rattle.ns_types.specs.Settling.Releases.{wakes, wakes_by, woken}
+use Rattle.ns_types.specs.Settling.Releases.{same_offer, ends, is_on, counts_in, changes_limits}
+use Rattle.ns_types.specs.Settling.Releases.{gives_room, released_classes, releases_quota, can_use, wakes_by, released_between}
+use Rattle.ns_types.specs.Settling.Releases.{wakes, woken}
 use Rattle.ns_types.specs.Settling.Settle.{after_quota_release, changes_allocation, changes_evaluation, created_at, is_touched, number_releases, pending}
 use Rattle.ns_types.specs.Settling.Settle.{settle, stamp, stamp_tenant, stamped, stamped_allocation, stamped_evaluation, unblocked_in, wake, woken_row}
 use Rattle.ns_types.specs.State.Lists.{Each}
@@ -207,7 +208,7 @@ module _ (w x : World) (pool : Name) where
 
 pub room_in : (w x : World) (e : Evaluation) → wakes w x e ≡ true → e.quota ≡ None → HasRoom w (settle w x) e
 unfolding wakes
-room_in w x e awake unlimited = by (get x.pools e.pool) refl (ap (wakes_by w x e) (sym unlimited) ∙ awake)
+room_in w x e awake unlimited = by (get x.pools e.pool) refl (ap (wakes_by (released_between w x) e) (sym unlimited) ∙ awake)
   where
     by : (o : Option PoolRows) → get x.pools e.pool ≡ o →
         list_any (can_use e) (option_map_or (released_classes w x e.pool) o []) ≡ true → HasRoom w (settle w x) e
@@ -229,7 +230,7 @@ room_in w x e awake unlimited = by (get x.pools e.pool) refl (ap (wakes_by w x e
 
 pub quota_in : (w x : World) (e : Evaluation) (quota : Name) → wakes w x e ≡ true → e.quota ≡ Some quota → GotQuota w (settle w x) quota
 unfolding wakes releases_quota
-quota_in w x e quota awake limited = by (get x.quotas quota) refl (ap (wakes_by w x e) (sym limited) ∙ awake)
+quota_in w x e quota awake limited = by (get x.quotas quota) refl (ap (wakes_by (released_between w x) e) (sym limited) ∙ awake)
   where
     kept : (b : Bool) (rows : QuotaRows) → (after_quota_release b rows).quota ≡ rows.quota
     kept true rows = refl

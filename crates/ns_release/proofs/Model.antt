@@ -12,8 +12,9 @@ use Rattle.ns_types.specs.declared.records.Namespace.{Namespace}
 use Rattle.ns_types.specs.declared.records.Quota.{Quota}
 use Rattle.ns_types.specs.Asking.Admins.{with_quota}
 use Rattle.ns_types.specs.State.Names.{Name, Key, same_name, has_name, has_key}
-use Rattle.ns_types.specs.Settling.Releases.{can_use, changes_limits, counts_in, ends, is_released_quota, released_classes, releases_quota}
-use Rattle.ns_types.specs.Settling.Releases.{wakes, wakes_by, woken}
+use Rattle.ns_types.specs.Settling.Releases.{can_use, changes_limits, counts_in, ends}
+use Rattle.ns_types.specs.Settling.Releases.{is_released_quota, released_classes, releases_quota, wakes_by, released_between}
+use Rattle.ns_types.specs.Settling.Releases.{wakes, woken}
 use Rattle.ns_types.specs.State.Resources.{limits_in}
 use Rattle.ns_types.specs.State.Rows.{World, PoolRows, QuotaRows, evaluation_at}
 use Rattle.ns_types.specs.Settling.Settle.{after_release, after_quota_release, wake}
@@ -30,7 +31,7 @@ use Rattle.ns_change.specs.declared.change.Change.{Change}
 use Rattle.ns_change.specs.Changed.{changed, changed_pool, changed_quota, perhaps}
 use Rattle.ns_change.specs.Settled.{classes_in}
 use Rattle.ns_release.specs.Released.{at_ended, ended_rows, quota_left, quota_relimited, quotas_left, quotas_relimited, released_quotas, released_rooms}
-use Rattle.ns_release.specs.Released.{relimits, woken_by, woken_keys}
+use Rattle.ns_release.specs.Released.{relimits, released_of, releases_wake, woken_keys}
 use Rattle.ns_release.proofs.Classes.{release_alike}
 use Rattle.ns_types.proofs.Elements.{any_flat}
 use Rattle.ns_release.proofs.Ending.{ends_is}
@@ -121,11 +122,11 @@ module _ (w : World) (c : Change) where
 
   -- ---- wakes
 
-  wakes_is : (e : Evaluation) → wakes w middle e ≡ woken_by w (released_rooms w c) (released_quotas w c) e e.quota
+  wakes_is : (e : Evaluation) → wakes w middle e ≡ releases_wake w (released_rooms w c) (released_quotas w c) e
   unfolding wakes
   wakes_is e = by e.quota
     where
-      by : (q : Option Name) → wakes_by w middle e q ≡ woken_by w (released_rooms w c) (released_quotas w c) e q
+      by : (q : Option Name) → wakes_by (released_between w middle) e q ≡ wakes_by (released_of w (released_rooms w c) (released_quotas w c)) e q
       by (Some q) = released_is q
       by None = sym (rooms_are w c e.pool (can_use e))
 

@@ -6,11 +6,11 @@ use Rattle.std.specs.Option.{option_map_or}
 use Rattle.std.specs.FinMap.{contains_key}
 use Rattle.ns_types.specs.declared.evaluation.Evaluation.{Evaluation}
 use Rattle.ns_types.specs.declared.node.Class.{Class}
-use Rattle.ns_types.specs.Settling.Releases.{can_use}
+use Rattle.ns_types.specs.Settling.Releases.{can_use, wakes_by}
 use Rattle.ns_types.specs.State.Names.{Name, Key, has_name, same_name}
 use Rattle.ns_types.specs.State.Rows.{World, evaluation_at}
 use Rattle.ns_types.proofs.Tests.{or_none}
-use Rattle.ns_release.specs.Released.{at_room, releases_wake_at, woken_by}
+use Rattle.ns_release.specs.Released.{at_room, releases_wake_at, released_of, releases_wake}
 use Rattle.ns_release.proofs.Woken.{wakes_nothing}
 
 -- an evaluation is woken by rooms, or by quotas
@@ -22,12 +22,13 @@ wakes_by_each w rooms quotas key = by (evaluation_at w key)
     second true h = refl
     second false h = refl
 
-    of : (e : Evaluation) (q : Option Name) → woken_by w rooms quotas e q ≡ (woken_by w rooms [] e q || woken_by w [] quotas e q)
+    of : (e : Evaluation) (q : Option Name) → wakes_by (released_of w rooms quotas) e q
+        ≡ (wakes_by (released_of w rooms []) e q || wakes_by (released_of w [] quotas) e q)
     of e (Some q) = second (contains_key w.quotas q) (has_name quotas q)
     of e None = sym (or_none (list_any (at_room e.pool (can_use e)) rooms))
 
-    by : (o : Option Evaluation) → option_map_or (λ e. woken_by w rooms quotas e e.quota) o false
-        ≡ (option_map_or (λ e. woken_by w rooms [] e e.quota) o false || option_map_or (λ e. woken_by w [] quotas e e.quota) o false)
+    by : (o : Option Evaluation) → option_map_or (releases_wake w rooms quotas) o false
+        ≡ (option_map_or (releases_wake w rooms []) o false || option_map_or (releases_wake w [] quotas) o false)
     by None = refl
     by (Some e) = of e e.quota
 
@@ -42,11 +43,12 @@ wakes_by_quotas w (name ∷ names) key = by (evaluation_at w key) ∙ ap (λ b. 
     split true false h = refl
     split false s h = refl
 
-    of : (e : Evaluation) (q : Option Name) → woken_by w [] (name ∷ names) e q ≡ (woken_by w [] (name ∷ []) e q || woken_by w [] names e q)
+    of : (e : Evaluation) (q : Option Name) → wakes_by (released_of w [] (name ∷ names)) e q
+        ≡ (wakes_by (released_of w [] (name ∷ [])) e q || wakes_by (released_of w [] names) e q)
     of e (Some q) = split (contains_key w.quotas q) (same_name q name) (has_name names q)
     of e None = refl
 
-    by : (o : Option Evaluation) → option_map_or (λ e. woken_by w [] (name ∷ names) e e.quota) o false
-        ≡ (option_map_or (λ e. woken_by w [] (name ∷ []) e e.quota) o false || option_map_or (λ e. woken_by w [] names e e.quota) o false)
+    by : (o : Option Evaluation) → option_map_or (releases_wake w [] (name ∷ names)) o false
+        ≡ (option_map_or (releases_wake w [] (name ∷ [])) o false || option_map_or (releases_wake w [] names) o false)
     by None = refl
     by (Some e) = of e e.quota

@@ -11,9 +11,10 @@ use Rattle.ns_types.specs.State.Rows.{World, evaluation_at}
 use Rattle.ns_types.proofs.Lists.{any_alike, each, filter_none, not_both}
 use Rattle.ns_types.proofs.Named.{one_number, same_key_refl, same_name_is}
 use Rattle.ns_types.proofs.Tables.{tied}
+use Rattle.ns_types.specs.Settling.Releases.{wakes_by}
 use Rattle.ns_change.specs.declared.change.Change.{Change}
 use Rattle.ns_change.specs.Changed.{changed}
-use Rattle.ns_release.specs.Released.{is_woken, releases_wake_at, woken_by, woken_from}
+use Rattle.ns_release.specs.Released.{is_woken, releases_wake_at, released_of, releases_wake, woken_from}
 use Rattle.std.proofs.Math.Bool.{and-false, and-true, or-true}
 use Rattle.ns_change.proofs.Listed.{any_listed}
 
@@ -53,7 +54,7 @@ pub woken_tests : (w : World) (c : Change) (rooms : List (Name × Class)) (quota
     filter (is_woken w c.blocked rooms quotas) w.blocked ≡ woken_from w c rooms quotas
 unfolding changed
 woken_tests w c rooms quotas = filter_members _ _ w.blocked w.blocked (λ k is. is) (λ k is.
-    ap (λ b. b && option_map_or (λ e. woken_by w rooms quotas e e.quota) (evaluation_at w k) false)
+    ap (λ b. b && option_map_or (releases_wake w rooms quotas) (evaluation_at w k) false)
     (sym (any_listed (same_key k) w.blocked c.blocked ∙ ap (λ b. b || has_key c.blocked.added k) (left_in c.blocked.taken w.blocked k is))))
 
 -- a list without elements
@@ -65,11 +66,11 @@ empty_by_any (x ∷ xs) is = not_both refl is
 pub wakes_nothing : (w : World) (key : Key) → releases_wake_at w [] [] key ≡ false
 wakes_nothing w key = by (evaluation_at w key)
   where
-    of : (e : Evaluation) (q : Option Name) → woken_by w [] [] e q ≡ false
+    of : (e : Evaluation) (q : Option Name) → wakes_by (released_of w [] []) e q ≡ false
     of e (Some q) = and-false (contains_key w.quotas q)
     of e None = refl
 
-    by : (o : Option Evaluation) → option_map_or (λ e. woken_by w [] [] e e.quota) o false ≡ false
+    by : (o : Option Evaluation) → option_map_or (releases_wake w [] []) o false ≡ false
     by None = refl
     by (Some e) = of e e.quota
 

@@ -13,7 +13,7 @@ use Rattle.ns_types.specs.declared.records.Quota.{Quota}
 use Rattle.keyed.specs.Table.{row_list}
 use Rattle.ns_types.specs.State.Names.{Name, Key, same_name, has_name, has_key}
 use Rattle.ns_types.specs.Asking.Admins.{is_relimited}
-use Rattle.ns_types.specs.Settling.Releases.{same_offer, can_use}
+use Rattle.ns_types.specs.Settling.Releases.{Released, same_offer, wakes_on}
 use Rattle.ns_types.specs.State.Rows.{World, Tenant, PoolRows, is_live, is_free, class_of, node_at, evaluation_at}
 use Rattle.ns_change.specs.declared.change.Change.{Change}
 use Rattle.ns_change.specs.declared.change.ListChange.{ListChange}
@@ -126,13 +126,16 @@ released_quotas w c = quotas_relimited w c ++ quotas_left w c
 
 -- ---- which evaluations the releases wake
 
-abbrev pub woken_by : World → List (Name × Class) → List Name → Evaluation → Option Name → Bool
-woken_by w rooms quotas e (Some quota) = contains_key w.quotas quota && has_name quotas quota
-woken_by w rooms quotas e None = list_any (at_room e.pool (can_use e)) rooms
+-- what is released if it is this room and these quotas; a quota that is not there is not released
+abbrev pub released_of : World → List (Name × Class) → List Name → Released
+released_of w rooms quotas = record {
+  quota = λ quota. contains_key w.quotas quota && has_name quotas quota;
+  room = λ pool passes. list_any (at_room pool passes) rooms;
+}
 
--- whether such releases wake the evaluation: by its quota if a quota limits it, or else by room in its pool
+-- whether such releases wake the evaluation
 abbrev pub releases_wake : World → List (Name × Class) → List Name → Evaluation → Bool
-releases_wake w rooms quotas e = woken_by w rooms quotas e e.quota
+releases_wake w rooms quotas e = wakes_on (released_of w rooms quotas) e
 
 abbrev pub releases_wake_at : World → List (Name × Class) → List Name → Key → Bool
 releases_wake_at w rooms quotas key = option_map_or (releases_wake w rooms quotas) (evaluation_at w key) false

@@ -23,11 +23,10 @@ use Rattle.ns_settlement.specs.Reached.{AreOfNames, AreOfRooms, any_class, has_r
 use Rattle.ns_queues.specs.Waiting.{entries_for}
 use Rattle.ns_types.proofs.Classes.{one_class}
 use Rattle.ns_types.proofs.Elements.{any_same, any_under}
-use Rattle.ns_types.proofs.Lists.{none_of}
 use Rattle.ns_types.proofs.Named.{first_of_both, names, same_name_is, second_of_both}
 use Rattle.ns_types.proofs.Tables.{tied}
 use Rattle.ns_types.proofs.Tests.{is_yes, or_none}
-use Rattle.ns_types.specs.Settling.Releases.{can_use}
+use Rattle.ns_types.specs.Settling.Releases.{can_use, wakes_by}
 use Rattle.ns_types.specs.State.Names.{Key, Name, has_class, has_name, same_class, same_name}
 use Rattle.ns_types.specs.State.Rows.{World, evaluation_at}
 use Rattle.ns_types.specs.declared.evaluation.Evaluation.{Evaluation}
@@ -131,12 +130,9 @@ module _ (w : World) (rooms : List (Name × Class)) (released : List Name) (r : 
       as_entry : Option Name → BlockedEvaluation
       as_entry quota = record { key = key; waits = option_map_or Quota quota (Pool e.pool); escapes = e.escapes; infeasible = e.infeasible }
 
-      by : (quota : Option Name) → is_woken r (as_entry quota) ≡ release.woken_by w rooms released e quota
-      by (Some quota) = ap (λ b. list_any (λ name. same_name name quota) r.quotas || b) (none_of r.pools)
-          ∙ or_none (list_any (λ name. same_name name quota) r.quotas)
-          ∙ any_same (λ name. same_name name quota) (same_name quota) (λ name. same_turned names name quota) r.quotas ∙ of_names quota
-      by None = ap (λ b. b || list_any (λ p. same_name p.pool e.pool && list_any (can_use e) p.classes) r.pools) (none_of r.quotas)
-          ∙ any_same (λ (p : ReleasedPool). same_name p.pool e.pool && list_any (can_use e) p.classes)
+      by : (quota : Option Name) → is_woken r (as_entry quota) ≡ wakes_by (release.released_of w rooms released) e quota
+      by (Some quota) = any_same (λ name. same_name name quota) (same_name quota) (λ name. same_turned names name quota) r.quotas ∙ of_names quota
+      by None = any_same (λ (p : ReleasedPool). same_name p.pool e.pool && list_any (can_use e) p.classes)
           (λ p. list_any (λ class. same_name e.pool p.pool && can_use e class) p.classes)
           (λ p. ap (λ b. b && list_any (can_use e) p.classes) (same_turned names p.pool e.pool)
           ∙ sym (any_under (same_name e.pool p.pool) (can_use e) p.classes)) r.pools

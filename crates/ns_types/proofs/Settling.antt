@@ -12,8 +12,9 @@ use Rattle.ns_types.specs.declared.job.Job.{Job}
 use Rattle.ns_types.specs.declared.node.Node.{Node}
 use Rattle.ns_types.specs.declared.records.Namespace.{Namespace}
 use Rattle.ns_types.specs.State.Names.{Name, name_cmp, has_key}
-use Rattle.ns_types.specs.Settling.Releases.{ends, is_on, counts_in, changes_limits, gives_room, released_classes, classes_of, releases_quota}
-use Rattle.ns_types.specs.Settling.Releases.{is_released_quota, same_offer, wakes, wakes_by, woken}
+use Rattle.ns_types.specs.Settling.Releases.{ends, is_on, counts_in, changes_limits, gives_room}
+use Rattle.ns_types.specs.Settling.Releases.{released_classes, classes_of, releases_quota, wakes_by, released_between}
+use Rattle.ns_types.specs.Settling.Releases.{is_released_quota, same_offer, wakes, woken}
 use Rattle.ns_types.specs.State.Resources.{limits_in}
 use Rattle.ns_types.specs.State.Rows.{World, Tenant, PoolRows, QuotaRows, is_live, is_free, allocation_at, evaluation_at, node_at, class_of}
 use Rattle.ns_types.specs.Settling.Same.{same_job, same_evaluation, same_allocation}
@@ -113,7 +114,7 @@ module _ (w w' : World) (no_room : (name : Name) (pool : PoolRows) → get w'.po
     unfolding wakes
     wakes_not e = by e.quota
       where
-        by : (q : Option Name) → wakes_by w w' e q ≡ false
+        by : (q : Option Name) → wakes_by (released_between w w') e q ≡ false
         by (Some q) = released_none q
         by None = ap (list_any _) (no_classes e.pool)
 

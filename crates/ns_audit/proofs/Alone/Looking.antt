@@ -11,7 +11,7 @@ use Rattle.ns_types.specs.Isolation.{Part, alone_in}
 use Rattle.ns_types.specs.State.Lists.{by_number}
 use Rattle.ns_types.specs.State.Names.{Name}
 use Rattle.ns_types.specs.Placing.Plan.{plan}
-use Rattle.ns_types.specs.Settling.Releases.{can_use, missed, missed_by}
+use Rattle.ns_types.specs.Settling.Releases.{can_use, missed, wakes_by, released_since}
 use Rattle.ns_types.specs.State.Resources.{limits_in}
 use Rattle.ns_types.specs.State.Rows.{World, Tenant, is_live_on}
 use Rattle.ns_types.specs.Working.Snapshot.{seen_live, live_on, nodes_of, namespaces_naming, quota_seen, pool_for, snapshot_in, snapshot_of}
@@ -95,7 +95,7 @@ pub missed_alone : (part : Part) (w : World) (ns : Name) (e : Evaluation) (worke
 unfolding missed
 missed_alone part w ns e worker kept own side = by (follower_of e worker kept).quota refl
   where
-    by : (q : Option Name) → (follower_of e worker kept).quota ≡ q → missed_by (alone_in part w) kept (follower_of e worker kept) q ≡ missed_by w kept
+    by : (q : Option Name) → (follower_of e worker kept).quota ≡ q → wakes_by (released_since (alone_in part w) kept) (follower_of e worker kept) q ≡ wakes_by (released_since w kept)
         (follower_of e worker kept) q
     by None at = ap (λ p. option_map_or (λ pool. any_row (λ class number. nat_lt kept.release number && can_use (follower_of e worker kept) class) pool.classes)
         p false) (pool_alone part w kept.pool (side.with.pool_with ∙ own))

@@ -11,8 +11,9 @@ use Rattle.ns_types.specs.declared.records.Namespace.{Namespace}
 use Rattle.ns_types.specs.Isolation.{Part, alone_in}
 use Rattle.ns_types.specs.State.Names.{Name, Key, same_name, has_key}
 use Rattle.ns_types.specs.Working.Queue.{queue, is_of_job, is_busy}
-use Rattle.ns_types.specs.Settling.Releases.{ends, is_on, counts_in, gives_room, released_classes, classes_of, changes_limits, releases_quota}
-use Rattle.ns_types.specs.Settling.Releases.{is_released_quota, can_use, wakes, wakes_by, woken, same_offer}
+use Rattle.ns_types.specs.Settling.Releases.{ends, is_on, counts_in, gives_room, released_classes}
+use Rattle.ns_types.specs.Settling.Releases.{classes_of, changes_limits, releases_quota, wakes_by, released_between}
+use Rattle.ns_types.specs.Settling.Releases.{is_released_quota, can_use, wakes, woken, same_offer}
 use Rattle.ns_types.specs.State.Rows.{World, Tenant, PoolRows, QuotaRows, is_live, is_free, class_of, evaluation_at}
 use Rattle.ns_types.specs.Settling.Settle.{unblocked_in, pending, wake, after_release, after_quota_release, number_releases, stamp_tenant, stamp, settle}
 use Rattle.ns_types.specs.State.Tables.{map_rows, any_row}
@@ -85,7 +86,7 @@ module _ (part : Part) where
     unfolding wakes
     wakes_alone ns e with own = by e.quota refl
       where
-        by : (q : Option Name) → e.quota ≡ q → wakes_by w w' e q ≡ wakes_by (alone_in part w) (alone_in part w') e q
+        by : (q : Option Name) → e.quota ≡ q → wakes_by (released_between w w') e q ≡ wakes_by (released_between (alone_in part w) (alone_in part w')) e q
         by (Some q) is = is_released_quota_alone q (with.quota_with q is ∙ own)
         by None is = λ i. list_any (can_use e) (classes_of_alone e.pool (with.pool_with ∙ own) i)
 

@@ -1,6 +1,6 @@
 -- What a step releases, found by comparing the rows before and after it, and which blocked evaluations that wakes.
 -- Nomad's page "Scheduling in Nomad", of blocked evaluations.
-use Rattle.std.specs.Prelude.{Bool, true, false, not, ◌&&◌, ◌||◌, List, [], Option, Some, None, filter, map, nat_lt}
+use Rattle.std.specs.Prelude.{ℕ, Bool, true, false, not, ◌&&◌, ◌||◌, List, [], Option, Some, None, filter, map, nat_lt}
 use Rattle.std.specs.Option.{option_map_or}
 use Rattle.std.specs.Cmp.Lexicographic.{pointwise}
 use Rattle.std.specs.Ordering.{eq_by_cmp}
@@ -63,18 +63,36 @@ is_released_quota w w' name = option_map_or (releases_quota w w' name) (get w'.q
 
 -- ---- wakes
 
--- the evaluation escapes classes, or did not find this class infeasible
+-- what is released: whether the quota is, and whether a class that passes is released in the pool
+pub record Released : Type 0 where
+  pub quota : Name → Bool
+  pub room : Name → (Class → Bool) → Bool
+
+-- what the step releases
+abbrev pub released_between : World → World → Released
+released_between w w' = record {
+  quota = is_released_quota w w';
+  room = λ pool passes. list_any passes (classes_of w w' pool);
+}
+
+-- an evaluation that escapes classes may use each; another may use those that it did not find infeasible
+abbrev pub may_use : Bool → List Class → Class → Bool
+may_use escapes infeasible class = escapes || not (has_class infeasible class)
+
 abbrev pub can_use : Evaluation → Class → Bool
-can_use e class = e.escapes || not (has_class e.infeasible class)
+can_use e class = may_use e.escapes e.infeasible class
 
--- the step wakes a blocked evaluation: it releases the quota that limits it or, if none does, a class of its pool that it can
--- use
-abbrev pub wakes_by : World → World → Evaluation → Option Name → Bool
-wakes_by w w' e (Some quota) = is_released_quota w w' quota
-wakes_by w w' e None = list_any (can_use e) (classes_of w w' e.pool)
+-- a blocked evaluation wakes if the quota that limits it is released or, if none does, a class of its pool that it can use
+abbrev pub wakes_by : Released → Evaluation → Option Name → Bool
+wakes_by released e (Some quota) = released.quota quota
+wakes_by released e None = released.room e.pool (can_use e)
 
+abbrev pub wakes_on : Released → Evaluation → Bool
+wakes_on released e = wakes_by released e e.quota
+
+-- the step wakes a blocked evaluation
 unfoldable pub wakes : World → World → Evaluation → Bool
-wakes w w' e = wakes_by w w' e e.quota
+wakes w w' e = wakes_on (released_between w w') e
 
 -- the evaluations that the step wakes, in the order of `blocked`, which has them before the step and after its own change
 unfoldable pub woken : World → World → List Key
@@ -82,14 +100,20 @@ woken w w' = filter (λ key. has_key w'.blocked key && option_map_or (wakes w w'
 
 -- ---- releases that a follower missed
 
--- a release after the snapshot would have woken the follower: of the quota that limits it or, if none does, of a class of
--- its pool that it can use
-abbrev pub missed_by : World → Snapshot → Evaluation → Option Name → Bool
-missed_by w kept e (Some quota) = nat_lt (option_map_or (λ q. q.release) kept.quota 0)
+-- the quota was released after the snapshot
+abbrev pub is_quota_since : World → Snapshot → Name → Bool
+is_quota_since w kept quota = nat_lt (option_map_or (λ q. q.release) kept.quota 0)
     (option_map_or (λ q. q.release) (get w.quotas quota) 0)
-missed_by w kept e None =
-    option_map_or (λ pool. any_row (λ class number. nat_lt kept.release number && can_use e class) pool.classes)
-    (get w.pools e.pool) false
 
+-- a class that passes was released in the pool after the release of this number
+abbrev pub is_room_since : World → ℕ → Name → (Class → Bool) → Bool
+is_room_since w seen pool passes =
+    option_map_or (λ p. any_row (λ class number. nat_lt seen number && passes class) p.classes) (get w.pools pool) false
+
+-- what was released after the snapshot
+abbrev pub released_since : World → Snapshot → Released
+released_since w kept = record { quota = is_quota_since w kept; room = is_room_since w kept.release }
+
+-- a release after the snapshot would have woken the follower
 unfoldable pub missed : World → Snapshot → Evaluation → Bool
-missed w kept e = missed_by w kept e e.quota
+missed w kept e = wakes_on (released_since w kept) e

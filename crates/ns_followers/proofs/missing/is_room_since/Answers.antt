@@ -10,7 +10,7 @@ use Rattle.ns_followers.proofs.Newer.{any_late}
 use Rattle.ns_followers.specs.Missing.{is_new}
 use Rattle.ns_tables.proofs.World.{pool_at}
 use Rattle.ns_tables.specs.World.{pool_of}
-use Rattle.ns_followers.proofs.missing.missed_room.Goals as goal
+use Rattle.ns_followers.proofs.missing.is_room_since.Goals as goal
 
 pub returns-in-Some : goal.returns-in-Some
 returns-in-Some c =
