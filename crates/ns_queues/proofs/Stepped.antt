@@ -1,6 +1,8 @@
 -- The levels after a step.
-use Rattle.std.specs.Prelude.{◌≡◌, ℕ, true, not, ◌&&◌, ◌++◌, nat_eq}
+use Rattle.std.specs.Prelude.{◌≡◌, ℕ, Bool, true, not, ◌&&◌, ◌++◌, nat_eq}
 use Rattle.std.proofs.Common.{refl, sym, ap, ◌∙◌}
+use Rattle.std.specs.List.{list_all}
+use Rattle.std.proofs.Math.Bool.{and_comm}
 use Rattle.std.proofs.lemmas.Bool.{eq-eqb, eqb-true}
 use Rattle.keyed.proofs.Queues.{filter_alike, has_filter}
 use Rattle.ns_change.specs.Changed.{changed_list, without_keys}
@@ -12,10 +14,12 @@ use Rattle.ns_types.proofs.Tests.{and_yes, is_yes}
 use Rattle.ns_types.specs.State.Names.{Key, has_key}
 use Rattle.ns_types.specs.State.Rows.{World}
 use Rattle.ns_types.specs.Working.Queue.{priority_at}
-use Rattle.ns_queues.specs.After.{NoneMoves, StillUnmoved}
-use Rattle.ns_queues.specs.Ready.{AreArrivals, HoldsOnly, IsByPriority, Levels, SameKeys, group_at, level_at, moves_ready, of_priority, priority_of}
+use Rattle.ns_queues.specs.After.{NoneMoves, StillUnmoved, any_moves}
+use Rattle.ns_queues.specs.Ready.{AreArrivals, HoldsOnly, IsByPriority, Levels, SameKeys, group_at, keeps_priorities, level_at}
+use Rattle.ns_queues.specs.Ready.{moves_ready, of_priority, priority_of}
 use Rattle.ns_queues.specs.declared.ready.Arrivals.{Arrivals}
 use Rattle.ns_queues.specs.declared.ready.ByPriority.{ByPriority}
+use Rattle.ns_queues.proofs.Moved.{all_unless_moved}
 use Rattle.ns_tables.specs.World.{world_of}
 use Rattle.ns_tables.specs.declared.tables.Tables.{Tables}
 
@@ -40,6 +44,15 @@ module _ (t : Tables) (s : Settled) where
 
   abbrev after : World
   after = settled_world before s
+
+  abbrev same_at : Key → Bool
+  same_at key = nat_eq (priority_at before key) (priority_at after key)
+
+  -- the priorities stay where no changed evaluation moves
+  pub kept_priorities : keeps_priorities before after ≡ not (any_moves (moves_ready t.ready) t s)
+  kept_priorities = ap (list_all same_at) (ready_held t)
+      ∙ all_unless_moved t s (moves_ready t.ready) (still_unmoved t) t.ready.items same_at
+      (λ key. and_comm (not (same_at key)) (has_key t.ready.items key))
 
   module _ (unmoved : NoneMoves (moves_ready t.ready) before after) where
     same_priority : (key : Key) → has_key before.ready key ≡ true → priority_at before key ≡ priority_at after key

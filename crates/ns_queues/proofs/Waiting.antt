@@ -1,6 +1,6 @@
--- The list of blocked evaluations goes along with a step.
-use Rattle.std.specs.Prelude.{◌≡◌, ◌≤◌, Bool, true, false, cond, not, ◌&&◌, List, [], ◌∷◌, ◌++◌, length, map, filter}
-use Rattle.std.specs.Prelude.{Option, Some, None, option_map}
+-- The list of blocked evaluations goes along with a step, and when it does.
+use Rattle.std.specs.Prelude.{◌≡◌, ◌<◌, ◌≤◌, Bool, true, false, cond, not, ◌&&◌, List, [], ◌∷◌, ◌++◌, length, map, filter}
+use Rattle.std.specs.Prelude.{Option, Some, None, is_some, option_map}
 use Rattle.std.proofs.Common.{refl, sym, ap, subst, ◌∙◌, arith, is_eq}
 use Rattle.std.proofs.Math.Bool.{and-false}
 use Rattle.std.specs.Cmp.{tied_itself}
@@ -8,17 +8,21 @@ use Rattle.std.specs.Cmp.Derive.{both_true}
 use Rattle.std.proofs.lemmas.List.{map-append}
 use Rattle.std.proofs.lemmas.List.Elements.{filter_map-append}
 use Rattle.std.specs.Cmp.Lexicographic.{pointwise}
-use Rattle.std.specs.List.{cons_option}
+use Rattle.std.specs.List.{cons_option, list_all}
 use Rattle.std.specs.Option.{option_eq, option_map_or}
 use Rattle.ns_blocked.specs.declared.entry.BlockedEvaluation.{BlockedEvaluation}
 use Rattle.ns_blocked.specs.declared.entry.Waits.TheVariants.{Pool, Quota}
-use Rattle.ns_blocked.specs.Blocked.{BlockedList, entries_of, keys_of}
+use Rattle.ns_blocked.specs.Blocked.{BlockedList, are_new, entries_of, keys_of}
 use Rattle.ns_blocked.specs.Waking.{entry_of}
 use Rattle.ns_change.specs.Changed.{changed_list, without_keys}
 use Rattle.ns_change.specs.Settled.{settled_world}
 use Rattle.ns_change.specs.declared.change.Settled.{Settled}
-use Rattle.ns_queues.specs.After.{NoneMoves, StillUnmoved}
-use Rattle.ns_queues.specs.Waiting.{IsBlockedIndex, added_entries, entries_for, moves_entry, rows_alike, waits_alike}
+use Rattle.ns_queues.specs.After.{NoneMoves, StillUnmoved, any_moves}
+use Rattle.ns_queues.specs.Waiting.{IsBlockedIndex, added_entries, adds_new, entries_for, have_rows, keep_waiting, keeps_list}
+use Rattle.ns_queues.specs.Waiting.{moves_entry, rows_alike, waits_alike}
+use Rattle.ns_queues.proofs.Moved.{all_unless_moved}
+use Rattle.ns_tables.specs.World.{world_of}
+use Rattle.ns_tables.specs.declared.tables.Tables.{Tables}
 use Rattle.ns_types.proofs.Alike.{option_eq_refl, pointwise_refl, same_flag_refl}
 use Rattle.ns_types.proofs.Classes.{by_class, one_class}
 use Rattle.ns_types.proofs.Elements as elements
@@ -141,6 +145,72 @@ all_there w (key ∷ keys) le = by (evaluation_at w key) (no_more w keys) (all_t
         let all : length keys ≤ length (entries_for w keys) = omega arith in
         ap (λ l. key ∷ l) (later all)
 
+-- there are as many just where each key has its row
+all_rows : (w : World) (keys : List Key) → length keys ≤ length (entries_for w keys) → have_rows w keys ≡ true
+all_rows w [] le = refl
+all_rows w (key ∷ keys) le = by (evaluation_at w key) (no_more w keys) (all_rows w keys) le
+  where
+    by : (r : Option Evaluation) → length (entries_for w keys) ≤ length keys →
+        (length keys ≤ length (entries_for w keys) → have_rows w keys ≡ true) →
+        length (key ∷ keys) ≤ length (cons_option (option_map (entry_of key) r) (entries_for w keys)) → (is_some r && have_rows w keys) ≡ true
+    by None less later le = absurd (omega arith)
+    by (Some e) less later le =
+        let all : length keys ≤ length (entries_for w keys) = omega arith in
+        later all
+
+missing_row : (w : World) (keys : List Key) → length (entries_for w keys) < length keys → have_rows w keys ≡ false
+missing_row w [] lt = absurd (omega arith)
+missing_row w (key ∷ keys) lt = by (evaluation_at w key) (missing_row w keys) lt
+  where
+    by : (r : Option Evaluation) → (length (entries_for w keys) < length keys → have_rows w keys ≡ false) →
+        length (cons_option (option_map (entry_of key) r) (entries_for w keys)) < length (key ∷ keys) → (is_some r && have_rows w keys) ≡ false
+    by None later lt = refl
+    by (Some e) later lt =
+        let less : length (entries_for w keys) < length keys = omega arith in
+        later less
+
+-- ---- the keys that stay
+
+-- they are the keys of the entries that stay
+staying_keys : (taken : List Key) (old left : BlockedList) → entries_of left ≡ filter (λ e. not (has_key taken e.key)) (entries_of old) →
+    keys_of left ≡ without_keys taken (keys_of old)
+staying_keys taken old left out = ap (map (λ (e : BlockedEvaluation). e.key)) out
+    ∙ sym (elements.filter_map (λ key. not (has_key taken key)) (λ (e : BlockedEvaluation). e.key) (entries_of old))
+
+-- ---- when the list stays right
+
+module _ (t : Tables) (s : Settled) (old left : BlockedList) (entries : List BlockedEvaluation)
+    (out : entries_of left ≡ filter (λ e. not (has_key s.blocked.taken e.key)) (entries_of old))
+    (added : entries ≡ added_entries (world_of t) s) where
+  abbrev before : World
+  before = world_of t
+
+  abbrev after : World
+  after = settled_world before s
+
+  abbrev staying : List Key
+  staying = without_keys s.blocked.taken (keys_of old)
+
+  abbrev alike_at : Key → Bool
+  alike_at key = rows_alike (evaluation_at before key) (evaluation_at after key)
+
+  waiting_is : keep_waiting before after staying ≡ not (any_moves (moves_entry left) t s)
+  waiting_is = ap (list_all alike_at) (sym (staying_keys s.blocked.taken old left out))
+      ∙ all_unless_moved t s (moves_entry left) (still_unmoved left) (keys_of left) alike_at (λ key. refl)
+
+  pub not_where_moved : any_moves (moves_entry left) t s ≡ true → keeps_list before s (keys_of old) ≡ false
+  not_where_moved moved = ap (λ b. b && adds_new before s staying) (waiting_is ∙ ap not moved)
+
+  pub not_where_missing : length entries < length s.blocked.added → keeps_list before s (keys_of old) ≡ false
+  not_where_missing less = ap (λ b. keep_waiting before after staying && (b && are_new staying (added_entries before s)))
+      (missing_row after s.blocked.added (subst (λ es. length es < length s.blocked.added) added less)) ∙ and-false (keep_waiting before after staying)
+
+  pub kept_where_new : any_moves (moves_entry left) t s ≡ false → length s.blocked.added ≤ length entries →
+      are_new (keys_of left) entries ≡ keeps_list before s (keys_of old)
+  kept_where_new none whole = (λ i. are_new (staying_keys s.blocked.taken old left out i) (added i))
+      ∙ sym (λ i. (waiting_is ∙ ap not none) i && (all_rows after s.blocked.added
+      (subst (λ es. length s.blocked.added ≤ length es) added whole) i && are_new staying (added_entries before s)))
+
 -- ---- the list after the step
 
 blocked_settled : (w : World) (s : Settled) → (settled_world w s).blocked ≡ changed_list w.blocked s.blocked
@@ -162,8 +232,7 @@ module _ (w : World) (s : Settled) (old left new : BlockedList) (entries : List 
   kept = without_keys s.blocked.taken w.blocked
 
   left_keys : keys_of left ≡ kept
-  left_keys = ap (map (λ (e : BlockedEvaluation). e.key)) out
-      ∙ sym (elements.filter_map (λ key. not (has_key s.blocked.taken key)) (λ (e : BlockedEvaluation). e.key) (entries_of old))
+  left_keys = staying_keys s.blocked.taken old left out
       ∙ ap (filter (λ key. not (has_key s.blocked.taken key))) h.keys
 
   left_entries : entries_of left ≡ entries_for w' kept

@@ -1,6 +1,6 @@
 -- The ready evaluations by priority.
 use Rattle.std.specs.Prelude.{◌≡◌, ℕ, Bool, true, false, not, ◌&&◌, if◌then◌else◌, List, [], ◌∷◌, filter, fold, nat_eq, Option, Some, None}
-use Rattle.std.specs.List.{slice_get}
+use Rattle.std.specs.List.{list_all, slice_get}
 use Rattle.std.specs.Option.{option_map_or, option_or}
 use Rattle.keyed.specs.Queue.{CanAdd, KeyQueue}
 use Rattle.keyed.specs.Table.{row_at}
@@ -103,6 +103,11 @@ AreArrivals after added a = (priority : ℕ) → group_at a.by_priority priority
 -- putting the arrivals at the end of their levels takes no memory
 abbrev pub HasRoom : ByPriority → Arrivals → Type 0
 HasRoom b a = HasRoomFor a.by_priority b.levels
+
+-- each evaluation that is ready before the step has the same priority after it
+abbrev pub keeps_priorities : World → World → Bool
+keeps_priorities before after =
+    list_all (λ key. nat_eq (priority_at before key) (priority_at after key)) before.ready
 
 -- the evaluation is ready, and gets another priority
 abbrev pub moves_ready : KeyQueue → Key → Option Evaluation → Option Evaluation → Bool

@@ -1,14 +1,14 @@
 -- The three indexes together, and when they are right.
-use Rattle.std.specs.Prelude.{◌≡◌, ℕ, false, [], IsTrue}
+use Rattle.std.specs.Prelude.{◌≡◌, ℕ, Bool, false, ◌&&◌, List, [], IsTrue}
 use Rattle.ns_blocked.specs.Blocked.{CanAdd, entries_of}
 use Rattle.ns_change.specs.declared.change.Settled.{Settled}
 use Rattle.ns_change.specs.Settled.{settled_world}
 use Rattle.ns_queues.specs.declared.turns.Coming.{Coming}
 use Rattle.ns_queues.specs.declared.turns.Turns.{Turns}
 use Rattle.ns_queues.specs.Busy.{HasBusyRoom, IsBusyIndex, holds}
-use Rattle.ns_queues.specs.Ready.{AreArrivals, HasRoom, IsByPriority, keys_at}
-use Rattle.ns_queues.specs.Waiting.{IsBlockedIndex, added_entries}
-use Rattle.ns_types.specs.State.Names.{Name}
+use Rattle.ns_queues.specs.Ready.{AreArrivals, HasRoom, IsByPriority, keeps_priorities, keys_at}
+use Rattle.ns_queues.specs.Waiting.{IsBlockedIndex, added_entries, keeps_list}
+use Rattle.ns_types.specs.State.Names.{Key, Name}
 use Rattle.ns_types.specs.State.Rows.{World}
 
 -- each index is right for the world
@@ -34,3 +34,8 @@ pub record BringsComing (w : World) (s : Settled) (coming : Coming) (t : Turns) 
   pub ready : HasRoom t.ready coming.ready
   pub entries : coming.blocked ≡ added_entries w s
   pub blocked : CanAdd coming.blocked t.blocked
+
+-- indexes that are known to be right stay so over the step: no ready evaluation changes its priority, and of the blocked list,
+-- which has these keys, none that stays changes what it waits for, and each that is added has its row and is new there
+abbrev pub stays_known : World → Settled → List Key → Bool
+stays_known w s blocked = keeps_priorities w (settled_world w s) && keeps_list w s blocked

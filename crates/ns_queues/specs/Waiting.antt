@@ -1,12 +1,13 @@
 -- The index of blocked evaluations beside the tables.
-use Rattle.std.specs.Prelude.{◌≡◌, Bool, not, ◌&&◌, List, Option, option_map}
-use Rattle.std.specs.List.{filter_map}
+use Rattle.std.specs.Prelude.{◌≡◌, Bool, not, ◌&&◌, List, Option, is_some, option_map}
+use Rattle.std.specs.List.{filter_map, list_all}
 use Rattle.std.specs.Option.{option_eq}
 use Rattle.std.specs.Cmp.Lexicographic.{pointwise}
 use Rattle.ns_blocked.specs.declared.entry.BlockedEvaluation.{BlockedEvaluation}
-use Rattle.ns_blocked.specs.Blocked.{BlockedList, entries_of, keys_of}
+use Rattle.ns_blocked.specs.Blocked.{BlockedList, are_new, entries_of, keys_of}
 use Rattle.ns_blocked.specs.Waking.{entries_in, entry_of}
 use Rattle.ns_change.specs.declared.change.Settled.{Settled}
+use Rattle.ns_change.specs.Changed.{without_keys}
 use Rattle.ns_change.specs.Settled.{settled_world}
 use Rattle.ns_queues.specs.After.{Moves}
 use Rattle.ns_types.specs.declared.evaluation.Evaluation.{Evaluation}
@@ -40,3 +41,24 @@ rows_alike = option_eq waits_alike
 -- an evaluation of the list gets another entry
 abbrev pub moves_entry : BlockedList → Moves
 moves_entry list key before after = has_key (keys_of list) key && not (rows_alike before after)
+
+-- ---- whether a list stays right
+
+-- each of these evaluations waits alike before the step and after it
+abbrev pub keep_waiting : World → World → List Key → Bool
+keep_waiting before after keys =
+    list_all (λ key. rows_alike (evaluation_at before key) (evaluation_at after key)) keys
+
+-- there is an evaluation for each of these keys
+abbrev pub have_rows : World → List Key → Bool
+have_rows w keys = list_all (λ key. is_some (evaluation_at w key)) keys
+
+-- each key that the step adds to the list has its evaluation, is none of those that stay, and is added once
+abbrev pub adds_new : World → Settled → List Key → Bool
+adds_new w s staying = have_rows (settled_world w s) s.blocked.added && are_new staying (added_entries w s)
+
+-- of a list with these keys, those that the step does not take wait as before, and what it adds is new beside them
+abbrev pub keeps_list : World → Settled → List Key → Bool
+keeps_list w s keys =
+    let staying = without_keys s.blocked.taken keys in
+    keep_waiting w (settled_world w s) staying && adds_new w s staying

@@ -3,7 +3,7 @@
 ghost use Rattle.std.specs.Prelude.{◌≡◌, Bool, Option, false, option_copied};
 ghost use Rattle.std.specs.List.{list_any};
 ghost use Rattle.ns_change.specs.Settled.{settled_world};
-ghost use Rattle.ns_queues.specs.After.{NoneMoves, StillUnmoved, moves_in, moves_slot};
+ghost use Rattle.ns_queues.specs.After.{NoneMoves, StillUnmoved, any_moves, moves_in, moves_slot};
 ghost use Rattle.ns_types.specs.State.Names.{Key};
 ghost use Rattle.ns_types.specs.State.Rows.{evaluation_at};
 ghost use Rattle.ns_types.specs.declared.evaluation.Evaluation.{Evaluation};
@@ -106,8 +106,9 @@ fn any_moves_in<W: WatchesMoves>(
 /// Whether a changed evaluation of any namespace moves. If none does, and no evaluation moves whose row stays as it is, then
 /// the step moves no evaluation at all.
 pub(crate) fn any_moved<W: WatchesMoves>(watch: &W, tables: &Tables, settled: &Settled) -> bool
-    ensures { result ≡ false → StillUnmoved (W.moves watch.now) → let w = world_of tables.now in
-        NoneMoves (W.moves watch.now) w (settled_world w settled.now) }
+    ensures any { result ≡ any_moves (W.moves watch.now) tables.now settled.now }
+    ensures none { result ≡ false → StillUnmoved (W.moves watch.now) →
+        let w = world_of tables.now in NoneMoves (W.moves watch.now) w (settled_world w settled.now) }
 {
     any_moves_in(watch, tables, settled.tenants.as_slice())
 }

@@ -5,7 +5,8 @@ ghost use Rattle.std.specs.Cmp.Lexicographic.{pointwise};
 ghost use Rattle.ns_blocked.specs.Blocked.{CanAdd, entries_of, keys_of};
 ghost use Rattle.ns_blocked.specs.Waking.{entry_of, waits_of};
 ghost use Rattle.ns_change.specs.Settled.{settled_world};
-ghost use Rattle.ns_queues.specs.Waiting.{IsBlockedIndex, added_entries, moves_entry, rows_alike, waits_alike};
+ghost use Rattle.ns_queues.specs.Waiting.{IsBlockedIndex, added_entries, keeps_list, moves_entry, rows_alike};
+ghost use Rattle.ns_queues.specs.Waiting.{waits_alike};
 ghost use Rattle.ns_types.specs.State.Names.{same_class};
 ghost use Rattle.ns_tables.specs.World.{world_of};
 
@@ -131,8 +132,9 @@ impl WatchesMoves for Standing<'_> {
     }
 }
 
-/// Makes the list follow a step before the tables do, and returns whether the list is right for the tables afterwards. If it
-/// returns false, the list may hold anything. It takes no memory, and looks only at the entries of evaluations that change.
+/// Makes the list follow a step before the tables do, and returns whether the list is right for the tables afterwards. It is,
+/// unless an evaluation that stays in it gets another entry, or an added key has no evaluation or is in the list already. If
+/// it returns false, the list may hold anything. It takes no memory, and looks only at the entries of evaluations that change.
 pub(crate) fn follow(
     list: &mut BlockedList,
     tables: &Tables,
@@ -141,8 +143,9 @@ pub(crate) fn follow(
 ) -> bool
     requires room { CanAdd entries list.old }
     requires added { entries ≡ added_entries (world_of tables.now) settled.now }
-    ensures { let w = world_of tables.now in result ≡ true →
+    ensures right { let w = world_of tables.now in result ≡ true →
         IsBlockedIndex w list.old → IsBlockedIndex (settled_world w settled.now) list.new }
+    ensures kept { result ≡ keeps_list (world_of tables.now) settled.now (keys_of list.old) }
 {
     let taken = settled.blocked.taken.as_slice();
     list.take_out(taken);

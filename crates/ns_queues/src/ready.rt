@@ -7,7 +7,7 @@ ghost use Rattle.ns_types.specs.State.Rows.{World};
 ghost use Rattle.ns_types.specs.Working.Looks.{served_ready};
 ghost use Rattle.ns_types.specs.Working.Queue.{priority_at};
 ghost use Rattle.ns_queues.specs.Ready.{AreArrivals, HasRoom, HoldsOnly, IsByPriority, KeepsRoom, SameKeys};
-ghost use Rattle.ns_queues.specs.Ready.{group_at, keys_at, keys_of, level_at};
+ghost use Rattle.ns_queues.specs.Ready.{group_at, keeps_priorities, keys_at, keys_of, level_at};
 ghost use Rattle.ns_queues.specs.Ready.{moves_ready, priority_of};
 ghost use Rattle.ns_change.specs.Changed.{without_keys};
 ghost use Rattle.ns_tables.specs.World.{world_of};
@@ -164,8 +164,10 @@ impl ByPriority {
         requires room { HasRoom self.old arrivals }
         requires arrivals { let after = settled_world (world_of tables.now) settled.now in
             AreArrivals after settled.now.ready.added arrivals }
-        ensures { let before = world_of tables.now in result ≡ true → IsByPriority before self.old
-            → IsByPriority (settled_world before settled.now) self.new }
+        ensures right { let before = world_of tables.now in result ≡ true →
+            IsByPriority before self.old → IsByPriority (settled_world before settled.now) self.new }
+        ensures kept { let before = world_of tables.now in
+            result ≡ keeps_priorities before (settled_world before settled.now) }
     {
         let taken = settled.ready.taken.as_slice();
         take_all(&mut self.levels, tables, taken);

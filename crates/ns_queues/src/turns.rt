@@ -1,8 +1,9 @@
 //! The three indexes together, and whether they are known to be right.
 
-ghost use Rattle.std.specs.Prelude.{◌≡◌, IfOk, false, option_copied, option_map, true};
+ghost use Rattle.std.specs.Prelude.{◌≡◌, ◌&&◌, IfOk, false, option_copied, option_map, true};
+ghost use Rattle.ns_blocked.specs.Blocked.{keys_of};
 ghost use Rattle.ns_change.specs.Settled.{settled_world};
-ghost use Rattle.ns_queues.specs.Turns.{AreRight, BringsComing, IsNew, IsRight};
+ghost use Rattle.ns_queues.specs.Turns.{AreRight, BringsComing, IsNew, IsRight, stays_known};
 ghost use Rattle.ns_types.specs.State.Rows.{World};
 ghost use Rattle.ns_types.specs.Working.Looks.{row_of, served_ready};
 ghost use Rattle.ns_tables.specs.World.{world_of};
@@ -119,12 +120,15 @@ impl Turns {
         Ok(Coming { ready, blocked })
     }
 
-    /// Follows a step, before the tables do. If an index is not right afterwards, none is known to be right any more. It takes
-    /// no memory.
+    /// Follows a step, before the tables do. If an index is not right afterwards, none is known to be right any more: a ready
+    /// evaluation gets another priority, or a blocked one that stays waits otherwise, or what becomes blocked has no row or is
+    /// in the list already. It takes no memory.
     pub fn follow(&mut self, tables: &Tables, settled: &Settled, coming: Coming)
         requires { BringsComing (world_of tables.now) settled.now coming self.old }
-        ensures { IsRight (world_of tables.now) self.old →
+        ensures right { IsRight (world_of tables.now) self.old →
             IsRight (settled_world (world_of tables.now) settled.now) self.new }
+        ensures known { self.new.is_known ≡ (self.old.is_known
+            && stays_known (world_of tables.now) settled.now (keys_of self.old.blocked)) }
     {
         let Coming { ready, blocked } = coming;
         self.busy.follow(tables, settled);
