@@ -30,7 +30,7 @@ use Rattle.ns_types.proofs.TableRows.{get_put, get_other, some_row}
 use Rattle.ns_types.proofs.Tables.{get-map_rows}
 use Rattle.ns_types.proofs.Tests.{third_of_four}
 use Rattle.ns_audit.proofs.StepLemmas.{same_answer, same_reply, same_state, not_said, not_refused}
-use Rattle.ns_laws.proofs.WakingLemmas.{release_nodes}
+use Rattle.ns_audit.proofs.ValidAllocations.Going.{release_nodes}
 
 -- ---- where the step is made, this holds of what it says and of what it leaves
 

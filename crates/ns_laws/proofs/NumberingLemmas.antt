@@ -18,8 +18,9 @@ use Rattle.ns_types.proofs.Lists.{left_none, not_both, right_none}
 use Rattle.ns_types.proofs.Named.{one_name}
 use Rattle.ns_types.proofs.Tables.{none_of_any}
 use Rattle.ns_types.proofs.Tests.{same_Some}
+use Rattle.ns_audit.proofs.ValidAllocations.Going.{release_nodes}
 use Rattle.ns_laws.specs.Waking.{GotNoRoom, GotNoQuota, RoomIsNumbered, QuotaRoomIsNumbered}
-use Rattle.ns_laws.proofs.WakingLemmas.{any_filtered, free_of, quota_same, release_nodes, settled_pools, settled_quotas, was_there}
+use Rattle.ns_laws.proofs.WakingLemmas.{any_filtered, free_of, quota_same, settled_pools, settled_quotas, was_there}
 
 -- ---- classes
 

@@ -21,7 +21,7 @@ use Rattle.ns_types.specs.Working.Queue.{promote, first_waiting, is_busy}
 use Rattle.ns_types.specs.Working.Work.{without_worker, without_key, is_submitted, most_nacks, with_nack}
 use Rattle.ns_types.specs.Working.Work.{given_back, given_up, nack_for, nack, end_of, has_failed}
 use Rattle.ns_types.specs.Working.Work.{needs_follower, follower_of, without_blocked, ended, with_follower}
-use Rattle.ns_types.specs.Working.Work.{followed, finished, finish_for, finish, may_finish, blocked_of, cancel_blocked}
+use Rattle.ns_types.specs.Working.Work.{followed, finished, finish_for, finish, may_finish, blocked_of}
 use Rattle.ns_types.specs.Working.Worker.{Worker}
 use Rattle.ns_types.proofs.Leads.{Leads, leads_if, leads_at_work, leads_keeping}
 use Rattle.ns_types.proofs.Lists.{not_both}
@@ -33,6 +33,7 @@ use Rattle.ns_audit.proofs.ValidAllocations.Work.{unlisted_tenants}
 use Rattle.ns_audit.proofs.ValidEvaluations.Work.{held_pending}
 use Rattle.ns_audit.proofs.ValidWorkers.Busy.{IsNumbered}
 use Rattle.ns_audit.proofs.ValidWorkers.Change.{left_row}
+use Rattle.ns_audit.proofs.ValidWorkers.Finish.{with_status_workers, cancel_workers, follower_workers}
 use Rattle.ns_laws.specs.Ending.{IsDeletionOf}
 use Rattle.ns_laws.specs.Serving as law
 use Rattle.ns_laws.specs.Serving.{IsUnderWay, is_ready, HasOneUnderWay, IsSameEvaluation, ForgetsNone, EvaluationEnds}
@@ -200,23 +201,6 @@ unlisted_ready ns job t w = by (blocked_of t job)
     by : (o : Option ℕ) → (option_map_or (λ n. record w { blocked = without_key (ns, n) w.blocked }) o w).ready ≡ w.ready
     by None = refl
     by (Some n) = refl
-
-with_status_workers : (n : ℕ) (status : Status) (t : Tenant) → (with_status n status t).workers ≡ t.workers
-with_status_workers n status t = elim (get t.evaluations n) as
-    (λ (o : Option Evaluation). (option_map_or (λ e. record t { evaluations = insert t.evaluations n (record e { status = status }) }) o t).workers ≡ t.workers)
-    [ Some e ↦ refl | None ↦ refl ]
-
-cancel_workers : (job : Name) (t : Tenant) → (cancel_blocked job t).workers ≡ t.workers
-cancel_workers job t = by (blocked_of t job)
-  where
-    by : (o : Option ℕ) → (option_map_or (λ n. with_status n Statuses.Canceled t) o t).workers ≡ t.workers
-    by None = refl
-    by (Some n) = with_status_workers n Statuses.Canceled t
-
-follower_workers : (n : ℕ) (f : Evaluation) (t : Tenant) → (with_follower n f t).workers ≡ t.workers
-follower_workers n f t = elim (get t.evaluations n) as
-    (λ (o : Option Evaluation). (option_map_or (λ e. record t { evaluations = insert t.evaluations n (record e { follower = Some (t.evaluation_number + 1) }) })
-    o t).workers ≡ t.workers) [ Some e ↦ refl | None ↦ refl ]
 
 two_nacks : (n : ℕ) → n < most_nacks → nat_le most_nacks (n + 1) ≡ true → n ≡ 2
 two_nacks n few e = let h = leb-true most_nacks (n + 1) e in omega arith

@@ -40,6 +40,7 @@ use Rattle.ns_types.proofs.Queue.{queues_keep}
 use Rattle.ns_types.proofs.Tables.{get-map_rows, none_of_any, tied}
 use Rattle.ns_types.proofs.Tests.{and_yes, is_no, is_yes, not_Some, same_Some}
 use Rattle.ns_audit.proofs.Steady.Keeping.{has_key_filter}
+use Rattle.ns_audit.proofs.ValidAllocations.Going.{release_nodes}
 use Rattle.ns_laws.specs.Waking.{SleepsThrough, MayUse, IsOpen, StillLives, GotNoRoom, NoneSleepsOverRoom, GotNoQuota, NoneSleepsOverQuota}
 use Rattle.ns_laws.proofs.QueueLemmas.{woken_are_called}
 use Rattle.ns_audit.proofs.StepLemmas.{made}
@@ -106,10 +107,6 @@ open_of node free = (by node.status (first_of_both (is_ready node.status) node.e
     by NodeStatus.Down e = not_both e refl
 
 -- ---- what the end of a step leaves
-
-pub release_nodes : (classes : List Class) (p : PoolRows) → (after_release classes p).nodes ≡ p.nodes
-release_nodes [] p = refl
-release_nodes (class ∷ classes) p = refl
 
 module _ (w x : World) where
   pub settled_blocked : (settle w x).blocked ≡ filter (λ key. not (has_key (woken w x) key)) x.blocked

@@ -206,7 +206,7 @@ wakes_nodes : (keys : List Key) (w : World) (pool name : Name) → node_at (wake
 unfolding wake
 wakes_nodes keys w pool name = ap (λ m. option_and_then (λ (p : PoolRows). get p.nodes name) (get m pool)) (queues_keep (λ y. y.pools) (λ y ks. refl) keys _)
 
-release_nodes : (classes : List Class) (p : PoolRows) → (after_release classes p).nodes ≡ p.nodes
+pub release_nodes : (classes : List Class) (p : PoolRows) → (after_release classes p).nodes ≡ p.nodes
 release_nodes [] p = refl
 release_nodes (class ∷ classes) p = refl
 

@@ -134,19 +134,19 @@ ends_follower n f t = by (get t.evaluations n) refl
 
 -- ---- who is gone
 
-with_status_workers : (n : ℕ) (status : Status) (t : Tenant) → (with_status n status t).workers ≡ t.workers
+pub with_status_workers : (n : ℕ) (status : Status) (t : Tenant) → (with_status n status t).workers ≡ t.workers
 with_status_workers n status t = elim (get t.evaluations n) as
     (λ (o : Option Evaluation). (option_map_or (λ e. record t { evaluations = insert t.evaluations n (record e { status = status }) }) o t).workers ≡ t.workers)
     [ Some e ↦ refl | None ↦ refl ]
 
-cancel_workers : (job : Name) (t : Tenant) → (cancel_blocked job t).workers ≡ t.workers
+pub cancel_workers : (job : Name) (t : Tenant) → (cancel_blocked job t).workers ≡ t.workers
 cancel_workers job t = by (blocked_of t job)
   where
     by : (o : Option ℕ) → (option_map_or (λ n. with_status n Status.Canceled t) o t).workers ≡ t.workers
     by None = refl
     by (Some n) = with_status_workers n Status.Canceled t
 
-follower_workers : (n : ℕ) (f : Evaluation) (t : Tenant) → (with_follower n f t).workers ≡ t.workers
+pub follower_workers : (n : ℕ) (f : Evaluation) (t : Tenant) → (with_follower n f t).workers ≡ t.workers
 follower_workers n f t = elim (get t.evaluations n) as
     (λ (o : Option Evaluation). (option_map_or (λ e. record t { evaluations = insert t.evaluations n (record e { follower = Some (t.evaluation_number + 1) }) })
     o t).workers ≡ t.workers) [ Some e ↦ refl | None ↦ refl ]
