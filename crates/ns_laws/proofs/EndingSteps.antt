@@ -297,7 +297,7 @@ module _ (w : World) (secret : Option Name) (name : Name) where
       (λ none. gone_moves t is (right_none (any_row (λ _ job. true) t.jobs || has_open t) (has_live t) none))))
 
 module _ (s : State) where
-  abbrev MovesIn : Step → State → Type 0
+  abbrev pub MovesIn : Step → State → Type 0
   MovesIn step x = Moves s.world step x.world
 
   of_world : (step : Step) (c : Outcome World) → Leads (Moves s.world step) c → Leads (MovesIn step) (lift (with_world s.acl) c)
@@ -339,7 +339,7 @@ module _ (s : State) where
 
   -- ---- the whole step
 
-  act_moves : IsSound s.world → (step : Step) → Leads (MovesIn step) (act step s)
+  pub act_moves : IsSound s.world → (step : Step) → Leads (MovesIn step) (act step s)
   unfolding act
   act_moves sound (Step.Ask ns secret command) = of_world _ _ (ask_moves s.world ns secret command)
   act_moves sound (Step.Admin secret command) = admin_moves secret command

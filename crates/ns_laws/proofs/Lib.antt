@@ -63,3 +63,5 @@ pub mod NackLemmas
 pub mod FinishLemmas
 pub mod WorkJobsLemmas
 pub mod WorkPlacesLemmas
+pub mod StepRows
+pub mod UnchangedRows

@@ -1,5 +1,5 @@
 -- Laws of indexes: a namespace's index rises by one where its rows change, changed rows have the new index, and events
--- name them.
+-- name them. Rows that stay as they are keep their indexes.
 use Rattle.std.specs.Prelude.{◌≡◌, ◌≢◌, ◌⊎◌, ℕ, ◌+◌, ◌≤◌, Bool, true, false, List, [], ◌∷◌, ◌++◌, Option, Some, None}
 use Rattle.std.specs.Prelude.{IsTrue, option_map}
 use Rattle.std.specs.FinMap.{get, contains_key}
@@ -194,3 +194,29 @@ ChangedAllocationsHaveIndex = (step : Step) (s s' : State) (ns : Name) (old now 
     Spans step s s' ns old now → get now.allocations n ≡ Some a →
     WasAllocation old n a
     ⊎ IsStamped old now (option_map (λ x. x.create_index) (get old.allocations n)) a.create_index a.modify_index
+
+-- ---- rows that a step leaves as they are
+
+-- Take a job that is there before and after a step, with the same document and version, and stopped after it exactly if
+-- it was before. It keeps both its indexes.
+abbrev pub UnchangedJobsKeepIndexes : Type 0
+UnchangedJobsKeepIndexes = (step : Step) (s s' : State) (ns : Name) (old now : Tenant) (id : Name) (before job : Job) →
+    Spans step s s' ns old now → get old.jobs id ≡ Some before → get now.jobs id ≡ Some job →
+    job.document ≡ before.document → job.version ≡ before.version → job.stop ≡ before.stop →
+    (job.create_index ≡ before.create_index) × (job.modify_index ≡ before.modify_index)
+
+-- From a valid state, take an evaluation that is there after a step. If all that replies show of it, its indexes apart,
+-- was the same before, it keeps both its indexes.
+abbrev pub UnchangedEvaluationsKeepIndexes : Type 0
+UnchangedEvaluationsKeepIndexes = (step : Step) (s s' : State) (ns : Name) (old now : Tenant) (n : ℕ)
+    (e : Evaluation) → IsValid s → Spans step s s' ns old now → get now.evaluations n ≡ Some e →
+    (was : WasEvaluation old n e) →
+    (e.create_index ≡ was.before.create_index) × (e.modify_index ≡ was.before.modify_index)
+
+-- From a valid state, take an allocation that is there after a step. If all that replies show of it, its indexes apart,
+-- was the same before, it keeps both its indexes.
+abbrev pub UnchangedAllocationsKeepIndexes : Type 0
+UnchangedAllocationsKeepIndexes = (step : Step) (s s' : State) (ns : Name) (old now : Tenant) (n : ℕ)
+    (a : Allocation) → IsValid s → Spans step s s' ns old now → get now.allocations n ≡ Some a →
+    (was : WasAllocation old n a) →
+    (a.create_index ≡ was.before.create_index) × (a.modify_index ≡ was.before.modify_index)

@@ -1,5 +1,5 @@
 //! Laws of indexes: a namespace's index rises by one where its rows change, changed rows have the new index, and events
-//! name them.
+//! name them. Rows that stay as they are keep their indexes.
 
 ghost use Rattle.ns_laws.specs.Indexes.{
   IndexRisesByOne,
@@ -10,6 +10,9 @@ ghost use Rattle.ns_laws.specs.Indexes.{
   GoneJobsRaiseIndex,
   ChangedEvaluationsHaveIndex,
   ChangedAllocationsHaveIndex,
+  UnchangedJobsKeepIndexes,
+  UnchangedEvaluationsKeepIndexes,
+  UnchangedAllocationsKeepIndexes,
 };
 
 /// Whatever step is made, the index of a namespace stays, and its events stay. Or the index rises by one, and new
@@ -59,4 +62,22 @@ pub fn changed_evaluations_have_index()
 /// index too, and if not, it keeps its create index.
 pub fn changed_allocations_have_index()
     ensures { ChangedAllocationsHaveIndex }
+{}
+
+/// Take a job that is there before and after a step, with the same document and version, and stopped after it exactly
+/// if it was before. It keeps both its indexes.
+pub fn unchanged_jobs_keep_indexes()
+    ensures { UnchangedJobsKeepIndexes }
+{}
+
+/// From a valid state, take an evaluation that is there after a step. If all that replies show of it, its indexes
+/// apart, was the same before, it keeps both its indexes. So its modify index rises only where it is shown differently.
+pub fn unchanged_evaluations_keep_indexes()
+    ensures { UnchangedEvaluationsKeepIndexes }
+{}
+
+/// From a valid state, take an allocation that is there after a step. If all that replies show of it, its indexes
+/// apart, was the same before, it keeps both its indexes. So its modify index rises only where it is shown differently.
+pub fn unchanged_allocations_keep_indexes()
+    ensures { UnchangedAllocationsKeepIndexes }
 {}

@@ -1,0 +1,5 @@
+use Rattle.ns_laws.proofs.UnchangedRows.{unchanged_allocations_keep_indexes}
+use Rattle.ns_laws.proofs.indexes.unchanged_allocations_keep_indexes.Goals as goal
+
+pub returns : goal.returns
+returns c = unchanged_allocations_keep_indexes
