@@ -65,3 +65,4 @@ pub mod WorkJobsLemmas
 pub mod WorkPlacesLemmas
 pub mod StepRows
 pub mod UnchangedRows
+pub mod OwnJobs

@@ -6,11 +6,13 @@ use Rattle.std.specs.Str.{bytes_eq}
 use Rattle.ns_types.specs.declared.allocation.Allocation.{Allocation}
 use Rattle.ns_types.specs.declared.allocation.ClientStatus.TheVariants as ClientStatus
 use Rattle.ns_types.specs.declared.allocation.DesiredStatus.TheVariants as DesiredStatus
+use Rattle.ns_types.specs.declared.evaluation.Evaluation.{Evaluation}
 use Rattle.ns_types.specs.declared.job.Group.{Group}
 use Rattle.ns_types.specs.declared.job.Job.{Job}
 use Rattle.ns_types.specs.declared.job.JobKind.{JobKind}
 use Rattle.ns_types.specs.declared.job.Operand.{Operand}
 use Rattle.ns_types.specs.declared.job.Target.{Target}
+use Rattle.ns_types.specs.declared.name.NameKind.TheVariants as NameKind
 use Rattle.ns_types.specs.declared.node.Node.{Node}
 use Rattle.ns_types.specs.declared.node.NodeStatus.{NodeStatus}
 use Rattle.ns_types.specs.declared.plan.Eviction.{Eviction}
@@ -28,13 +30,18 @@ use Rattle.ns_types.specs.declared.step.Step.{Step}
 use Rattle.ns_types.specs.Placing.Constraint.{attribute_of}
 use Rattle.ns_types.specs.Placing.Plan.{plan}
 use Rattle.ns_types.specs.State.Lists.{Each}
-use Rattle.ns_types.specs.State.Names.{Name, has_name, has_number}
+use Rattle.ns_types.specs.State.Name.{is_name}
+use Rattle.ns_types.specs.State.Names.{Key, Name, has_name, has_number}
 use Rattle.ns_types.specs.State.Resources.{Resource, limit_on, limits_in, quantity}
-use Rattle.ns_types.specs.State.Rows.{State, Tenant, node_at, QuotaRows, is_live, is_done}
+use Rattle.ns_types.specs.State.Rows.{State, Tenant, World, node_at, QuotaRows, is_live, is_done, allocation_at}
+use Rattle.ns_types.specs.State.Rows.{evaluation_at}
 use Rattle.ns_types.specs.State.Sums.{quota_use}
-use Rattle.ns_types.specs.Steps.{after, said}
-use Rattle.ns_types.specs.Validity.{IsValid}
+use Rattle.ns_types.specs.Steps.{Answer, Run, after, opening, said}
+use Rattle.ns_types.specs.Validity.{IsLiveAt, IsValid}
+use Rattle.ns_types.specs.Within.{IsGoodStep}
+use Rattle.ns_types.specs.Working.Looks.{worker_at}
 use Rattle.ns_types.specs.Working.Worker.{Worker}
+use Rattle.ns_laws.specs.Ending.{IsOneOf, IsPlannedEviction, IsSameAllocation}
 
 -- ---- where a plan places, and what
 
@@ -305,3 +312,56 @@ AppliesByNode = (s t : State) (number : ℕ) (ns : Name) (worker : Worker) (kept
     after (Step.Apply number ns) s ≡ said (Ok reply) t → reply.content ≡ Content.Applied made dropped →
     get s.world.tenants ns ≡ Some before → get t.world.tenants ns ≡ Some now →
     get before.workers number ≡ Some worker → worker.kept ≡ Some kept → IsDoneByNode s kept made dropped before now
+
+-- ---- whose allocations Apply ends
+
+-- The allocation is there in the namespace under its number, and it is of the job. All but its statuses and its modify
+-- index is as it was in the snapshot.
+pub record IsOwnStill (t : Tenant) (job : Name) (own : OwnAllocation) : Type 0 where
+  pub row : Allocation
+  pub is_row : get t.allocations own.number ≡ Some row
+  pub of_job : row.job ≡ job
+  pub same : IsSameAllocation own.row row
+
+-- each allocation that a worker's snapshot has as the job's own is there still, and is of the job
+abbrev pub SnapshotsAreOwn : World → Type 0
+SnapshotsAreOwn w = (ns : Name) (t : Tenant) (number : ℕ) (worker : Worker) (kept : Snapshot) →
+    get w.tenants ns ≡ Some t → get t.workers number ≡ Some worker → worker.kept ≡ Some kept →
+    Each (IsOwnStill t kept.evaluation.job) kept.own
+
+-- In every state that the server reaches from its opening state, by steps within the limits: each allocation that a
+-- worker's snapshot has as its job's own is there still, under its number in the namespace. It is of that job, and all
+-- but its statuses and its modify index is as it was in the snapshot.
+abbrev pub SnapshotsKeepOwnJob : Type 0
+SnapshotsKeepOwnJob = (secret : Name) (s : State) (steps : List Step) (answers : List Answer) →
+    IsTrue (is_name NameKind.Secret secret) → Each IsGoodStep steps → Run (opening secret) steps answers s →
+    SnapshotsAreOwn s.world
+
+-- The allocation is one of the stops of the plan that the worker has, and it is in the worker's namespace and of the job
+-- of the worker's evaluation.
+pub record IsOwnStop (w : World) (number : ℕ) (ns : Name) (key : Key) (a : Allocation) : Type 0 where
+  pub worker : Worker
+  pub is_worker : worker_at w number ns ≡ Some worker
+  pub kept : Snapshot
+  pub is_kept : worker.kept ≡ Some kept
+  pub is_stop : IsOneOf key.1 (plan kept).stops
+  pub in_namespace : key.0 ≡ ns
+  pub evaluation : Evaluation
+  pub is_evaluation : evaluation_at w (ns, worker.evaluation) ≡ Some evaluation
+  pub of_job : a.job ≡ evaluation.job
+
+-- how the live allocation a becomes b, which is not live, in an Apply
+pub data EndsInApply (w : World) (number : ℕ) (ns : Name) (key : Key) (a b : Allocation) : Type 0 where
+  stopped : IsOwnStop w number ns key a → b.desired ≡ DesiredStatus.Stop → EndsInApply w number ns key a b
+  evicted : IsPlannedEviction w (Step.Apply number ns) key a → b.desired ≡ DesiredStatus.Evict →
+      EndsInApply w number ns key a b
+
+-- In every state that the server reaches from its opening state, by steps within the limits: Apply stops an allocation
+-- only if it is of the job whose plan is applied, in that job's namespace. One of another job or of another namespace
+-- ends in an Apply only if the plan evicts it.
+abbrev pub StopsOwnJob : Type 0
+StopsOwnJob = (secret : Name) (s s' : State) (steps : List Step) (answers : List Answer) (number : ℕ) (ns : Name)
+    (reply : Reply) (key : Key) (a b : Allocation) → IsTrue (is_name NameKind.Secret secret) → Each IsGoodStep steps →
+    Run (opening secret) steps answers s → after (Step.Apply number ns) s ≡ said (Ok reply) s' →
+    IsLiveAt s.world key a → allocation_at s'.world key ≡ Some b → is_live b ≡ false →
+    EndsInApply s.world number ns key a b

@@ -13,6 +13,8 @@ ghost use Rattle.ns_laws.specs.Planning.{
   PlansWithinQuota,
   AppliesByNode,
   KeepsToQuota,
+  SnapshotsKeepOwnJob,
+  StopsOwnJob,
 };
 
 /// Each placement of a plan is of a task group of the job, which is not stopped, and has that group's size.
@@ -86,4 +88,18 @@ pub fn applies_by_node()
 /// together.
 pub fn keeps_to_quota()
     ensures { KeepsToQuota }
+{}
+
+/// In every state that the server reaches from its opening state, by steps within the limits: each allocation that a
+/// worker's snapshot has as its job's own is there still, under its number in the namespace. It is of that job, and all
+/// but its statuses and its modify index is as it was in the snapshot.
+pub fn snapshots_keep_own_job()
+    ensures { SnapshotsKeepOwnJob }
+{}
+
+/// In every state that the server reaches from its opening state, by steps within the limits: Apply stops an allocation
+/// only if it is of the job whose plan is applied, in that job's namespace. One of another job or of another namespace
+/// ends in an Apply only if the plan evicts it.
+pub fn stops_own_job()
+    ensures { StopsOwnJob }
 {}

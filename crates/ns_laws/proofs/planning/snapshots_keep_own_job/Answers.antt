@@ -1,0 +1,5 @@
+use Rattle.ns_laws.proofs.OwnJobs.{snapshots_keep_own_job}
+use Rattle.ns_laws.proofs.planning.snapshots_keep_own_job.Goals as goal
+
+pub returns : goal.returns
+returns c = snapshots_keep_own_job
