@@ -3,6 +3,7 @@ pub mod Steady
 pub mod ValidAllocations
 pub mod ValidRecords
 pub mod ValidEvaluations
+pub mod Carries
 pub mod ValidWorkers
 pub mod Valid
 pub mod StepLemmas

@@ -8,6 +8,5 @@ pub mod Step
 pub mod Admins
 pub mod Quiet
 pub mod Lists
-pub mod Asks
 pub mod Settle
 pub mod Staff

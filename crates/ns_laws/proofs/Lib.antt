@@ -49,7 +49,6 @@ pub mod SurplusApplyLemmas
 pub mod SurplusQuotaLemmas
 pub mod ServingLists
 pub mod ServingKeeps
-pub mod ServingAsks
 pub mod ServingRows
 pub mod ServingWorlds
 pub mod ServingClosing

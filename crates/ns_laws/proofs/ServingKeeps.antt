@@ -8,7 +8,7 @@ use Rattle.std.specs.List.{list_any}
 use Rattle.std.specs.Option.{option_map_or, option_and_then}
 use Rattle.ns_types.specs.declared.evaluation.Evaluation.{Evaluation}
 use Rattle.ns_types.specs.declared.evaluation.Status.TheVariants as Status
-use Rattle.ns_types.specs.Settling.Making.{put_tenant, put_pool, change_tenant, with_evaluation, make_in, make}
+use Rattle.ns_types.specs.Settling.Making.{put_tenant, put_pool, with_evaluation, make_in}
 use Rattle.ns_types.specs.State.Names.{Key, Name, has_key, same_key, same_name}
 use Rattle.ns_types.specs.State.Rows.{World, Tenant, PoolRows, evaluation_at, is_pending}
 use Rattle.ns_types.specs.State.Tables.{map_rows, any_row}
@@ -21,6 +21,7 @@ use Rattle.ns_types.proofs.Named.{names, one_name, numbers, one_number, first_of
 use Rattle.ns_types.proofs.Queue.{queue_keeps}
 use Rattle.ns_types.proofs.TableRows.{row_of_insert}
 use Rattle.ns_types.proofs.Tests.{either_of}
+use Rattle.ns_audit.proofs.Carries.{Carries}
 use Rattle.ns_audit.proofs.Steady.Keeping.{row_of_map}
 use Rattle.ns_audit.proofs.ValidWorkers.Busy.{IsQueued}
 use Rattle.ns_audit.proofs.ValidWorkers.Quiet.{Grows, grows_none, grows_then, Quiet, quiet_same, quiet_then, quiet_put, quiet_map, quiet_make_in, quiet_pool}
@@ -175,10 +176,6 @@ tends_then w x y f g q = record {
     by key d (inl at) = before key d (a.pending key d at)
     by key d (inr one) = inr one
 
-pub tends_each : {A : Type 0} (f : World → A → World) → ((w : World) (x : A) → Tending w (f w x)) → (xs : List A) (w : World) → Tending w (fold f w xs)
-tends_each f h [] w = tends_same w
-tends_each f h (x ∷ xs) w = tends_then w (f w x) (fold f (f w x) xs) (h w x) (tends_each f h xs (f w x))
-
 pub tends_put : (ns : Name) (t u : Tenant) (w : World) → get w.tenants ns ≡ Some t → Still t u → Tending w (put_tenant ns u w)
 tends_put ns t u w is s q = record {
   quiet = quiet_put ns t u w is s.grows;
@@ -192,13 +189,6 @@ tends_put ns t u w is s q = record {
     by key d v at (inl e) = evaluation_is w key t d (ap (get w.tenants) e.0 ∙ is)
         (ap (λ m. get m key.1) (sym s.rows ∙ ap (λ (t : Tenant). t.evaluations) e.1) ∙ at)
     by key d v at (inr old) = evaluation_is w key v d old at
-
-pub tends_change : (ns : Name) (f : Tenant → Tenant) → ((t : Tenant) → Still t (f t)) → (w : World) → Tending w (change_tenant ns f w)
-tends_change ns f s w = by (get w.tenants ns) refl
-  where
-    by : (o : Option Tenant) → get w.tenants ns ≡ o → Tending w (option_map_or (λ t. put_tenant ns (f t) w) o w)
-    by None is = tends_same w
-    by (Some t) is = tends_put ns t (f t) w is (s t)
 
 pub tends_map : (f : Name → Tenant → Tenant) → ((ns : Name) (t : Tenant) → Still t (f ns t)) → (w : World) →
     Tending w (record w { tenants = map_rows f w.tenants })
@@ -253,16 +243,22 @@ tends_make_in ns e t u w is s q = record {
         row (inl e) = inr (served key d (λ i. (new.0 i, e.0 i)) there)
         row (inr was) = inl (evaluation_is w key t d (ap (get w.tenants) new.0 ∙ is) (ap (λ m. get m key.1) (sym s.rows) ∙ was))
 
-pub tends_make : (ns : Name) (evaluation : Tenant → Evaluation) (w : World) → Tending w (make ns evaluation w)
-tends_make ns evaluation w = by (get w.tenants ns) refl
-  where
-    by : (o : Option Tenant) → get w.tenants ns ≡ o → Tending w (option_map_or (λ t. make_in ns (evaluation t) w t) o w)
-    by None is = tends_same w
-    by (Some t) is = tends_make_in ns (evaluation t) t t w is (still_none t t refl refl refl)
-
 pub tends_pool : (pool : Name) (p : PoolRows) (w : World) → ((q : PoolRows) → get w.pools pool ≡ Some q → q.release ≤ p.release) →
     Tending w (put_pool pool p w)
 tends_pool pool p w h q = record { quiet = quiet_pool pool p w h; ready = λ key has. has; pending = λ key d at. inl at }
+
+-- the small changes, from which Carries.antt has the same of what is asked and of what a plan does
+pub tends_carries : Carries Tending Still
+tends_carries = record {
+  none = still_none;
+  follows = still_then;
+  same = tends_same;
+  then = tends_then;
+  put = tends_put;
+  map = tends_map;
+  make_in = tends_make_in;
+  pool = tends_pool;
+}
 
 -- ---- the next one of a job moves up
 

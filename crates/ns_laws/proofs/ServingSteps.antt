@@ -24,10 +24,10 @@ use Rattle.ns_types.proofs.Named.{names, one_name, one_number, same_name_is}
 use Rattle.ns_types.proofs.TableRows.{row_of_insert, get_other, row_of_remove}
 use Rattle.ns_types.proofs.Tables.{none_of_any}
 use Rattle.ns_types.proofs.Tests.{not_Some}
+use Rattle.ns_audit.proofs.Carries.{ask_carries, ask_pool_carries}
 use Rattle.ns_laws.specs.Serving.{IsUnderWay, is_ready, is_with_worker, HasOneUnderWay, ForgetsNone}
-use Rattle.ns_laws.proofs.ServingAsks.{ask_tends, ask_pool_tends}
 use Rattle.ns_laws.proofs.ServingClosing.{Passes, Leaves, leaves_keeps, finish_leaves_all, nack_leaves_all}
-use Rattle.ns_laws.proofs.ServingKeeps.{Tending, tends_put, still_none}
+use Rattle.ns_laws.proofs.ServingKeeps.{Tending, tends_put, tends_carries, still_none}
 use Rattle.ns_laws.proofs.ServingLists.{evaluation_in, evaluation_is, row_of_tenant, worker_in, queued_of}
 use Rattle.ns_laws.proofs.ServingRows.{same_itself}
 use Rattle.ns_laws.proofs.ServingWorlds.{Keeps, Keeping, keeps_tends, keeps_tables, dequeue_keeps, snap_keeps, submit_keeps, apply_keeps}
@@ -205,9 +205,9 @@ module _ (s : State) (sound : IsSound s.world) where
 
   pub act_leaves : (step : Step) → Leads (LeavesIn step) (act step s)
   unfolding act
-  act_leaves (Step.Ask ns secret command) = of_tending _ _ (ask_tends s.world ns command)
+  act_leaves (Step.Ask ns secret command) = of_tending _ _ (ask_carries tends_carries s.world ns command)
   act_leaves (Step.Admin secret command) = admin_leaves secret command
-  act_leaves (Step.Node pool secret command) = of_tending _ _ (ask_pool_tends s.world pool command)
+  act_leaves (Step.Node pool secret command) = of_tending _ _ (ask_pool_carries tends_carries s.world pool command)
   act_leaves (Step.Dequeue worker ns n) = of_keeping _ _ (dequeue_keeps s.world worker (ns, n))
   act_leaves (Step.Snap worker ns) = of_keeping _ _ (snap_keeps s.world worker ns)
   act_leaves (Step.Submit worker ns) = of_keeping _ _ (submit_keeps s.world worker ns)

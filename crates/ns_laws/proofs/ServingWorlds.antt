@@ -24,11 +24,11 @@ use Rattle.ns_types.proofs.Named.{names, one_name, numbers, one_number, first_of
 use Rattle.ns_types.proofs.TableRows.{get_put, get_other}
 use Rattle.ns_types.proofs.Tables.{tied, none_of_any}
 use Rattle.ns_types.proofs.Tests.{is_no, same_Some}
+use Rattle.ns_audit.proofs.Carries.{commit_carries}
 use Rattle.ns_audit.proofs.ValidWorkers.Busy.{IsQueued}
 use Rattle.ns_audit.proofs.ValidWorkers.Once.{has_key_still}
 use Rattle.ns_laws.specs.Serving.{IsUnderWay, is_ready, is_with_worker, HasOneUnderWay}
-use Rattle.ns_laws.proofs.ServingAsks.{commit_tends}
-use Rattle.ns_laws.proofs.ServingKeeps.{Tending, row_on, one_on}
+use Rattle.ns_laws.proofs.ServingKeeps.{Tending, tends_carries, row_on, one_on}
 
 -- ---- changes that leave every evaluation as it is
 
@@ -231,4 +231,4 @@ module _ (w : World) (number : ℕ) where
     apply_keeps q = leads_keeping (Keeps w) number ns w (apply_for number ns w) (λ t worker e kept is has _ _.
         leads_if (Keeps w) (is_submitted worker.phase && is_served w w.plans (ns, worker.evaluation))
         (applied number ns worker e (commit kept (plan kept) w t)) NotEnabled
-        (λ _. applied_keeps q t worker e is has (commit kept (plan kept) w t) (commit_tends kept (plan kept) w t)) (λ _. tt))
+        (λ _. applied_keeps q t worker e is has (commit kept (plan kept) w t) (commit_carries tends_carries kept (plan kept) w t)) (λ _. tt))

@@ -1,10 +1,10 @@
 -- Changes that leave workers and their evaluations alone.
-use Rattle.std.specs.Prelude.{◌≡◌, ℕ, ◌+◌, ◌≤◌, Bool, true, false, cond, List, [], ◌∷◌, ◌++◌, Option, Some, None, fold, option_map}
+use Rattle.std.specs.Prelude.{◌≡◌, ℕ, ◌+◌, ◌≤◌, Bool, true, false, cond, List, [], ◌∷◌, ◌++◌, Option, Some, None, option_map}
 use Rattle.std.proofs.Common.{◌⊎◌, inl, inr, refl, sym, ap, subst, ◌∙◌}
 use Rattle.std.specs.FinMap.{get, get-insert, insert}
 use Rattle.std.specs.Option.{option_map_or}
 use Rattle.ns_types.specs.declared.evaluation.Evaluation.{Evaluation}
-use Rattle.ns_types.specs.Settling.Making.{put_tenant, change_tenant, put_pool, with_evaluation, make_in, make}
+use Rattle.ns_types.specs.Settling.Making.{put_tenant, put_pool, with_evaluation, make_in}
 use Rattle.ns_types.specs.State.Names.{Name, Key, same_name}
 use Rattle.ns_types.specs.Settling.Outcome.{Outcome}
 use Rattle.ns_types.specs.Working.Queue.{is_busy, queue}
@@ -17,6 +17,7 @@ use Rattle.ns_types.proofs.TableRows.{row_of_insert}
 use Rattle.ns_audit.specs.Orderly.{IsOrderly}
 use Rattle.ns_audit.proofs.Steady.Keeping.{row_of_map, elsewhere, above, more}
 use Rattle.ns_types.proofs.Leads.{Leads}
+use Rattle.ns_audit.proofs.Carries.{Carries}
 use Rattle.ns_audit.proofs.ValidWorkers.Busy.{IsBusyIn, IsNumbered, IsQueuedIn, IsQueued, queued_in, queue_queued}
 use Rattle.ns_audit.proofs.ValidWorkers.Staff.{PoolStill, Stays, IsHeldFrom}
 use Rattle.std.proofs.Math.Nat.{le_refl, le_trans}
@@ -91,10 +92,6 @@ quiet_then w x y a b = record {
   queued = λ q. b.queued (a.queued q);
 }
 
-pub quiet_each : {A : Type 0} (f : World → A → World) → ((w : World) (x : A) → Quiet w (f w x)) → (xs : List A) (w : World) → Quiet w (fold f w xs)
-quiet_each f h [] w = quiet_same w
-quiet_each f h (x ∷ xs) w = quiet_then w (f w x) (fold f (f w x) xs) (h w x) (quiet_each f h xs (f w x))
-
 -- one namespace grows
 pub quiet_put : (ns : Name) (t u : Tenant) (w : World) → get w.tenants ns ≡ Some t → Grows t u → Quiet w (put_tenant ns u w)
 quiet_put ns t u w is g = record {
@@ -122,13 +119,6 @@ quiet_put ns t u w is g = record {
     queued q k v (inl e) = subst (λ v. IsQueuedIn w.ready k v) e.1
         (subst (λ k. IsQueuedIn w.ready k u) (sym e.0) (queued_grows w.ready ns t u g (q.tenant ns t is)))
     queued q k v (inr at) = q.tenant k v at
-
-pub quiet_change : (ns : Name) (f : Tenant → Tenant) → ((t : Tenant) → Grows t (f t)) → (w : World) → Quiet w (change_tenant ns f w)
-quiet_change ns f g w = by (get w.tenants ns) refl
-  where
-    by : (o : Option Tenant) → get w.tenants ns ≡ o → Quiet w (option_map_or (λ t. put_tenant ns (f t) w) o w)
-    by None is = quiet_same w
-    by (Some t) is = quiet_put ns t (f t) w is (g t)
 
 -- every namespace grows
 pub quiet_map : (f : Name → Tenant → Tenant) → ((ns : Name) (t : Tenant) → Grows t (f ns t)) → (w : World) →
@@ -177,13 +167,6 @@ quiet_make_in ns e t u w is g = quiet_then w (put_tenant ns (with_evaluation e u
     (quiet_put ns t (with_evaluation e u) w is (grows_then t u (with_evaluation e u) g (grows_with_evaluation e u)))
     (quiet_queue (put_tenant ns (with_evaluation e u) w) (ns, u.evaluation_number + 1))
 
-pub quiet_make : (ns : Name) (evaluation : Tenant → Evaluation) (w : World) → Quiet w (make ns evaluation w)
-quiet_make ns evaluation w = by (get w.tenants ns) refl
-  where
-    by : (o : Option Tenant) → get w.tenants ns ≡ o → Quiet w (option_map_or (λ t. make_in ns (evaluation t) w t) o w)
-    by None is = quiet_same w
-    by (Some t) is = quiet_make_in ns (evaluation t) t t w is (same_grows t)
-
 -- a pool is put anew, with no fewer releases
 pub quiet_pool : (pool : Name) (p : PoolRows) (w : World) → ((q : PoolRows) → get w.pools pool ≡ Some q → q.release ≤ p.release) → Quiet w (put_pool pool p w)
 quiet_pool pool p w h = record {
@@ -204,6 +187,19 @@ quiet_pool pool p w h = record {
       h q (ap (get w.pools) (sym (same_name_is name pool e)) ∙ is),
     )
     by name q is false e = (q, get-insert names w.pools pool p name ∙ ap (λ b. cond b (Some p) (get w.pools name)) e ∙ is, le_refl q.release)
+
+-- the small changes, from which Carries.antt has the same of what is asked and of what a plan does
+pub quiet_carries : Carries Quiet Grows
+quiet_carries = record {
+  none = grows_none;
+  follows = grows_then;
+  same = quiet_same;
+  then = quiet_then;
+  put = quiet_put;
+  map = quiet_map;
+  make_in = quiet_make_in;
+  pool = quiet_pool;
+}
 
 -- ---- what follows
 

@@ -21,12 +21,13 @@ use Rattle.ns_audit.proofs.Steady.Opening.{only_row, reached_is_steady}
 use Rattle.ns_audit.proofs.Steady.Workers.{at_tenant}
 use Rattle.ns_audit.proofs.Alone.Orderly.{orderly}
 use Rattle.ns_audit.proofs.Alone.Running.{valid_is_steady, steady_step}
+use Rattle.ns_audit.proofs.Carries.{ask_carries, ask_pool_carries}
 use Rattle.ns_audit.proofs.ValidWorkers.Admins.{quiet_well, KeepsStaffState, of_world, administer_well}
-use Rattle.ns_audit.proofs.ValidWorkers.Asks.{ask_quiet, ask_pool_quiet}
 use Rattle.ns_audit.proofs.ValidWorkers.Busy.{HasWorker, IsBusyIn, IsQueuedIn, IsQueued}
 use Rattle.ns_audit.proofs.ValidWorkers.Finish.{nack_well, finish_well}
 use Rattle.ns_audit.proofs.ValidWorkers.Lists.{one_of_list, list_of_one}
 use Rattle.ns_audit.proofs.ValidWorkers.Once.{distinct_once, once_distinct}
+use Rattle.ns_audit.proofs.ValidWorkers.Quiet.{quiet_carries}
 use Rattle.ns_audit.proofs.ValidWorkers.Settle.{settle_queued, settle_stays}
 use Rattle.ns_audit.proofs.ValidWorkers.Staff.{IsStaffed, sound_staffed, staffed_stays}
 use Rattle.ns_audit.proofs.ValidWorkers.Work.{dequeue_well, snap_well, submit_well, apply_well}
@@ -122,9 +123,9 @@ module _ (w : World) (o : IsOrderly w) (s : IsStaffed w) (q : IsQueued w) where
 
 act_well : (s : State) → IsSound s.world → IsQueued s.world → (step : Step) → KeepsStaffState s.world (act step s)
 unfolding act
-act_well s o q (Step.Ask ns secret command) = of_world s o q _ (quiet_well s.world o q _ (ask_quiet s.world ns command))
+act_well s o q (Step.Ask ns secret command) = of_world s o q _ (quiet_well s.world o q _ (ask_carries quiet_carries s.world ns command))
 act_well s o q (Step.Admin secret command) = administer_well s o q secret command
-act_well s o q (Step.Node pool secret command) = of_world s o q _ (quiet_well s.world o q _ (ask_pool_quiet s.world pool command))
+act_well s o q (Step.Node pool secret command) = of_world s o q _ (quiet_well s.world o q _ (ask_pool_carries quiet_carries s.world pool command))
 act_well s o q (Step.Dequeue worker ns n) = of_world s o q _ (dequeue_well s.world o q ns worker n)
 act_well s o q (Step.Snap worker ns) = of_world s o q _ (snap_well s.world o q ns worker)
 act_well s o q (Step.Submit worker ns) = of_world s o q _ (submit_well s.world o q ns worker)

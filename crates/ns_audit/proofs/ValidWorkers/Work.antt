@@ -38,12 +38,12 @@ use Rattle.ns_types.proofs.Leads.{leads_there, leads_if}
 use Rattle.ns_audit.proofs.Alone.Orderly.{orderly}
 use Rattle.ns_audit.proofs.ValidAllocations.Countable.{seen_countable}
 use Rattle.ns_audit.proofs.ValidAllocations.Seen.{seen_once}
+use Rattle.ns_audit.proofs.Carries.{commit_carries}
 use Rattle.ns_audit.proofs.ValidWorkers.Admins.{IsWell, KeepsStaff}
-use Rattle.ns_audit.proofs.ValidWorkers.Asks.{commit_quiet}
 use Rattle.ns_audit.proofs.ValidWorkers.Busy.{HasWorker, IsBusyIn, IsQueuedIn, IsQueued, queued_in, worker_of_insert}
 use Rattle.ns_audit.proofs.ValidWorkers.Change.{row_apart, IsMine, reworked, was_here, free_here, working_staff, keeping_staff}
 use Rattle.ns_audit.proofs.ValidWorkers.Once.{is_once, once_append, once_filter, has_key_last, has_key_other, without_it, without_other}
-use Rattle.ns_audit.proofs.ValidWorkers.Quiet.{Grows, Quiet, quiet_stays, held_at_first, stays_held}
+use Rattle.ns_audit.proofs.ValidWorkers.Quiet.{Grows, Quiet, quiet_carries, quiet_stays, held_at_first, stays_held}
 use Rattle.ns_audit.proofs.ValidWorkers.Staff.{IsAbleSnapshot, IsAbleWorker, IsStaffed, Stays, IsHeldAt, IsHeldFrom, sound_staffed, looks_same, staffed_stays}
 use Rattle.ns_audit.proofs.ValidWorkers.Staff.{snapshot_still}
 use Rattle.std.proofs.Math.Nat.{le_refl}
@@ -479,4 +479,4 @@ apply_well w s q ns number = keeping_staff w number ns (apply_for number ns w) (
     leads_if (IsWell w) (is_submitted worker.phase && is_served w w.plans (ns, worker.evaluation)) (applied number ns worker e (commit kept (plan kept) w t))
     NotEnabled
     (λ may. applied_well w s q ns number t worker e kept is has at k_is (first_of_both (is_submitted worker.phase) _ may) (commit kept (plan kept) w t)
-    (commit_quiet kept (plan kept) w t)) (λ _. tt))
+    (commit_carries quiet_carries kept (plan kept) w t)) (λ _. tt))
