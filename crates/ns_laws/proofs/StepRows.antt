@@ -36,11 +36,11 @@ use Rattle.ns_types.proofs.Named.{names, one_name, numbers, one_number}
 use Rattle.ns_types.proofs.TableRows.{get_put, get_other, row_of_insert, row_of_remove}
 use Rattle.ns_types.proofs.Tables.{tied}
 use Rattle.ns_types.proofs.Tests.{not_Some, same_Some}
+use Rattle.ns_audit.proofs.Carries.{ask_carries, ask_pool_carries, commit_carries}
 use Rattle.ns_audit.proofs.StepLemmas.{made, refusal_leaves_all}
 use Rattle.ns_audit.proofs.ValidAllocations.Work.{unlisted_tenants}
-use Rattle.ns_audit.proofs.ValidWorkers.Asks.{ask_quiet, ask_pool_quiet, commit_quiet}
 use Rattle.ns_audit.proofs.ValidWorkers.Busy.{IsNumbered}
-use Rattle.ns_audit.proofs.ValidWorkers.Quiet.{Quiet}
+use Rattle.ns_audit.proofs.ValidWorkers.Quiet.{Quiet, quiet_carries}
 use Rattle.ns_laws.proofs.EffectRows.{settled_rows, settled_tenant}
 use Rattle.ns_laws.proofs.ServingClosing.{promote_tenants}
 use Rattle.ns_laws.proofs.ServingLists.{queued_of}
@@ -316,7 +316,7 @@ module _ (w : World) (sound : IsSound w) where
       apply_walks = leads_keeping (Walks w) number ns w (apply_for number ns w) (λ t worker e kept is has _ _.
           leads_if (Walks w) (is_submitted worker.phase && is_served w w.plans (ns, worker.evaluation))
           (applied number ns worker e (commit kept (plan kept) w t)) NotEnabled
-          (λ _. applied_walks t worker e is has (commit kept (plan kept) w t) (commit_quiet kept (plan kept) w t)) (λ _. tt))
+          (λ _. applied_walks t worker e is has (commit kept (plan kept) w t) (commit_carries quiet_carries kept (plan kept) w t)) (λ _. tt))
 
       -- the namespace is put with these rows, and the next one of a job moves up
       walks_rows : (t u : Tenant) → get w.tenants ns ≡ Some t → Rows t u → (job : Name) (y : World) → y.tenants ≡ insert w.tenants ns u →
@@ -468,10 +468,10 @@ module _ (s : State) (sound : IsSound s.world) where
 
   pub act_walks : (step : Step) → Leads WalksIn (act step s)
   unfolding act
-  act_walks (Step.Ask ns secret command) = of_quiet _ (ask_quiet s.world ns command)
+  act_walks (Step.Ask ns secret command) = of_quiet _ (ask_carries quiet_carries s.world ns command)
   act_walks (Step.Admin secret command) =
       leads_of (LeavesIn s) WalksIn (λ x h. walks_left s.world x.world h) (administer secret command s) (admin_leaves s secret command)
-  act_walks (Step.Node pool secret command) = of_quiet _ (ask_pool_quiet s.world pool command)
+  act_walks (Step.Node pool secret command) = of_quiet _ (ask_pool_carries quiet_carries s.world pool command)
   act_walks (Step.Dequeue worker ns n) = of_world _ (dequeue_walks s.world sound worker (ns, n))
   act_walks (Step.Snap worker ns) = of_world _ (snap_walks s.world sound worker ns)
   act_walks (Step.Submit worker ns) = of_world _ (submit_walks s.world sound worker ns)
