@@ -93,12 +93,12 @@ module _ (ns : Name) (t : Tenant) where
 
   -- the namespace after an evaluation is made in some namespace
   module _ (k : Name) (f : Tenant → Evaluation) (x : World) (rows : Tenant) (there : get x.tenants ns ≡ Some rows) where
-    made_at : same_name ns k ≡ true → get (make k f x).tenants ns ≡ Some (with_evaluation (f rows) rows)
+    pub made_at : same_name ns k ≡ true → get (make k f x).tenants ns ≡ Some (with_evaluation (f rows) rows)
     made_at e = ap (λ o. get (option_map_or (λ t. make_in k (f t) x t) o x).tenants ns) (sym (ap (get x.tenants) (same_name_is ns k e)) ∙ there)
         ∙ ap (λ m. get m ns) (made_in_tenants x k (f rows) rows) ∙ ap (get (insert x.tenants k (with_evaluation (f rows) rows))) (same_name_is ns k e)
         ∙ get_put names one_name x.tenants k (with_evaluation (f rows) rows)
 
-    made_apart : same_name ns k ≡ false → get (make k f x).tenants ns ≡ Some rows
+    pub made_apart : same_name ns k ≡ false → get (make k f x).tenants ns ≡ Some rows
     made_apart e = by (get x.tenants k)
       where
         by : (o : Option Tenant) → get (option_map_or (λ t. make_in k (f t) x t) o x).tenants ns ≡ Some rows

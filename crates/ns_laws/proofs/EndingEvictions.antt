@@ -60,7 +60,7 @@ use Rattle.ns_laws.proofs.EndingRows.{moves_put}
 -- ---- elements of lists
 
 module _ {A : Type 0} where
-  any_before : (p : A → Bool) (xs ys : List A) → list_any p xs ≡ true → list_any p (xs ++ ys) ≡ true
+  pub any_before : (p : A → Bool) (xs ys : List A) → list_any p xs ≡ true → list_any p (xs ++ ys) ≡ true
   any_before p [] ys e = absurd (subst T (sym e) tt)
   any_before p (x ∷ xs) ys e = by (any_before p xs ys) (p x) e
     where
@@ -68,7 +68,7 @@ module _ {A : Type 0} where
       by later true e = refl
       by later false e = later e
 
-  any_last : (p : A → Bool) (xs : List A) (y : A) → p y ≡ true → list_any p (xs ++ y ∷ []) ≡ true
+  pub any_last : (p : A → Bool) (xs : List A) (y : A) → p y ≡ true → list_any p (xs ++ y ∷ []) ≡ true
   any_last p [] y e = ap (λ b. b || false) e
   any_last p (x ∷ xs) y e = by (any_last p xs y e) (p x)
     where
@@ -76,7 +76,7 @@ module _ {A : Type 0} where
       by later true = refl
       by later false = later
 
-  one_filter : (p : A → Bool) (xs : List A) (x : A) → IsOneOf x xs → p x ≡ true → IsOneOf x (filter p xs)
+  pub one_filter : (p : A → Bool) (xs : List A) (x : A) → IsOneOf x xs → p x ≡ true → IsOneOf x (filter p xs)
   one_filter p [] x h passes = absurd h
   one_filter p (y ∷ ys) x h passes = by (one_filter p ys x) (p y) refl h
     where
@@ -87,7 +87,7 @@ module _ {A : Type 0} where
       by later false t (inl e) = not_both (ap p (sym e) ∙ passes) t
       by later false t (inr h) = later h passes
 
-one_filter_map : {A B : Type 0} (f : A → Option B) (xs : List A) (x : A) (y : B) → IsOneOf x xs → f x ≡ Some y → IsOneOf y (filter_map f xs)
+pub one_filter_map : {A B : Type 0} (f : A → Option B) (xs : List A) (x : A) (y : B) → IsOneOf x xs → f x ≡ Some y → IsOneOf y (filter_map f xs)
 one_filter_map f [] x y h e = absurd h
 one_filter_map {B = B} f (z ∷ xs) x y (inl same) e = subst (λ (o : Option B). IsOneOf y (cons_option o (filter_map f xs))) (sym (ap f (sym same) ∙ e)) (inl refl)
 one_filter_map {B = B} f (z ∷ xs) x y (inr h) e = by (f z) (one_filter_map f xs x y h e)
@@ -121,7 +121,7 @@ one_first (x ∷ xs) v (inr h) = by (one_first xs v h)
         )
         which false t = (r.0, inr (one_filter (λ y. not (same_victim_job x y)) (first_each same_victim_job xs) r.0 r.1 (ap not t)), r.2, r.3)
 
-least_job : (victims : List Victim) (v : Victim) → (least_of_job victims v).job ≡ v.1.1.job
+pub least_job : (victims : List Victim) (v : Victim) → (least_of_job victims v).job ≡ v.1.1.job
 least_job victims v = by (least (map (λ x. x.1) (filter (same_victim_job v) victims))) refl
   where
     of_job : Each (λ (e : ℕ × Allocation). e.1.job ≡ v.1.1.job) (map (λ (x : Victim). x.1) (filter (same_victim_job v) victims))
@@ -136,7 +136,7 @@ least_job victims v = by (least (map (λ x. x.1) (filter (same_victim_job v) vic
 
 -- ---- evictions that count
 
-counted_live : (x : World) (pool node : Name) (e : Eviction) → counts x pool node e ≡ true →
+pub counted_live : (x : World) (pool node : Name) (e : Eviction) → counts x pool node e ≡ true →
     (a : Allocation) × (allocation_at x (victim_key e) ≡ Some a) × (is_live a ≡ true)
 unfolding counts
 counted_live x pool node e h = by (allocation_at x (victim_key e)) refl h
@@ -146,7 +146,7 @@ counted_live x pool node e h = by (allocation_at x (victim_key e)) refl h
     by None at h = absurd (subst T (sym h) tt)
     by (Some a) at h = (a, at, first_of_both (is_live a) _ (first_of_both (is_live_on pool node a) _ h))
 
-counts_as : (x y : World) (pool node : Name) (e : Eviction) → allocation_at x (victim_key e) ≡ allocation_at y (victim_key e) →
+pub counts_as : (x y : World) (pool node : Name) (e : Eviction) → allocation_at x (victim_key e) ≡ allocation_at y (victim_key e) →
     counts x pool node e ≡ true → counts y pool node e ≡ true
 unfolding counts
 counts_as x y pool node e same h = ap (λ o. option_map_or (λ a. is_live_on pool node a && same_number a.priority e.priority) o false) (sym same) ∙ h
@@ -370,7 +370,7 @@ module _ (w : World) (step : Step) (kept : Snapshot) (applies : AppliesPlan w st
 
   -- ---- placements leave what is there
 
-  abbrev Keeps : World → World → Type 0
+  abbrev pub Keeps : World → World → Type 0
   Keeps x y = (key : Key) (b : Allocation) → allocation_at x key ≡ Some b → allocation_at y key ≡ Some b
 
   placed_keeps : (p : Placement) (x : World) → Onward Counts w x → Keeps x (place_one kept x p)
@@ -410,7 +410,7 @@ module _ (w : World) (step : Step) (kept : Snapshot) (applies : AppliesPlan w st
       job None = λ key b at. at
       job (Some j) = node j (node_at x kept.pool (node_name kept p.node))
 
-  all_keep : (qs : List Placement) (x : World) → Onward Counts w x → Keeps x (place_all kept x qs)
+  pub all_keep : (qs : List Placement) (x : World) → Onward Counts w x → Keeps x (place_all kept x qs)
   all_keep [] x numbered key b at = at
   all_keep (q ∷ qs) x numbered key b at = all_keep qs (place_one kept x q)
       (onward_then Counts counts_still counts_then w x (place_one kept x q) numbered (placed_count w step kept applies t is below q x))

@@ -113,7 +113,7 @@ ask_moves w ns secret command = leads_found (Moves w (Step.Ask ns secret command
 
 -- ---- a node goes down
 
-lost_at : (pool node : Name) (w : World) (key : Key) → allocation_at (lose pool node w) key ≡ option_map (lost pool node) (allocation_at w key)
+pub lost_at : (pool node : Name) (w : World) (key : Key) → allocation_at (lose pool node w) key ≡ option_map (lost pool node) (allocation_at w key)
 lost_at pool node w key =
     ap (row_at key.1) (get-map_rows names one_name (λ _ t. record t { allocations = map_rows (λ _ a. lost pool node a) t.allocations }) w.tenants key.0)
     ∙ by (get w.tenants key.0)
@@ -123,7 +123,7 @@ lost_at pool node w key =
     by None = refl
     by (Some t) = get-map_rows numbers one_number (λ _ a. lost pool node a) t.allocations key.1
 
-losses_same : (ls : List (Name × Allocation)) (x : World) → Same x (fold (λ x loss. make loss.0 (λ t. evaluation_for t loss.1 Trigger.NodeUpdate) x) x ls)
+pub losses_same : (ls : List (Name × Allocation)) (x : World) → Same x (fold (λ x loss. make loss.0 (λ t. evaluation_for t loss.1 Trigger.NodeUpdate) x) x ls)
 losses_same [] x = same_still x
 losses_same (l ∷ ls) x = same_then x y (fold (λ x loss. make loss.0 (λ t. evaluation_for t loss.1 Trigger.NodeUpdate) x) y ls)
     (same_make l.0 (λ t. evaluation_for t l.1 Trigger.NodeUpdate) x) (losses_same ls y)

@@ -65,3 +65,7 @@ pub mod WorkPlacesLemmas
 pub mod StepRows
 pub mod UnchangedRows
 pub mod OwnJobs
+pub mod AddedLists
+pub mod AddedSteps
+pub mod AddedApply
+pub mod AddedLaws

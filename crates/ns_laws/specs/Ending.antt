@@ -1,5 +1,5 @@
 -- Laws of the life of an allocation: how it comes, what it keeps, which steps end it, and when it is gone.
-use Rattle.std.specs.Prelude.{◌≡◌, ◌⊎◌, ◌<◌, ℕ, true, false, List, [], ◌∷◌, Option, Some, None, Ok}
+use Rattle.std.specs.Prelude.{◌≡◌, ◌⊎◌, ◌<◌, ℕ, Bool, true, false, List, [], ◌∷◌, Option, Some, None, Ok}
 use Rattle.std.specs.FinMap.{get}
 use Rattle.std.specs.Option.{option_and_then}
 use Rattle.ns_types.specs.declared.allocation.Allocation.{Allocation}
@@ -10,6 +10,7 @@ use Rattle.ns_types.specs.declared.evaluation.Evaluation.{Evaluation}
 use Rattle.ns_types.specs.declared.evaluation.Status.TheVariants as Status
 use Rattle.ns_types.specs.declared.evaluation.Trigger.{Trigger}
 use Rattle.ns_types.specs.declared.job.Job.{Job}
+use Rattle.ns_types.specs.declared.job.Registration.{Registration}
 use Rattle.ns_types.specs.declared.node.Node.{Node}
 use Rattle.ns_types.specs.declared.node.NodeStatus.TheVariants as NodeStatus
 use Rattle.ns_types.specs.declared.plan.Eviction.{Eviction}
@@ -22,7 +23,7 @@ use Rattle.ns_types.specs.declared.step.NodeCommand.TheVariants as NodeCommand
 use Rattle.ns_types.specs.declared.step.Step.{Step}
 use Rattle.ns_types.specs.Placing.Plan.{plan}
 use Rattle.ns_types.specs.State.Names.{Key, Name}
-use Rattle.ns_types.specs.State.Rows.{State, World, Tenant, is_held, is_live, allocation_at, node_at}
+use Rattle.ns_types.specs.State.Rows.{State, World, Tenant, is_held, is_live, allocation_at, evaluation_at, node_at}
 use Rattle.ns_types.specs.Steps.{Answer, said, after}
 use Rattle.ns_types.specs.Validity.{IsLiveAt, IsValid}
 use Rattle.ns_types.specs.Working.Commit.{node_name, group_name}
@@ -232,6 +233,57 @@ EvictedIsEvaluated = (number : ℕ) (ns : Name) (s s' : State) (reply : Reply) (
     IsValid s → after (Step.Apply number ns) s ≡ said (Ok reply) s' → IsLiveAt s.world key a →
     allocation_at s'.world key ≡ Some b → b.desired ≡ DesiredStatus.Evict →
     IsEvaluatedAnew key.0 a.job Trigger.Preemption s s'
+
+-- ---- the evaluations that a step adds
+
+-- no evaluation had the key before the step, and this one has it after it
+abbrev pub IsAdded : World → World → Key → Evaluation → Type 0
+IsAdded w x key e = (evaluation_at w key ≡ None) × (evaluation_at x key ≡ Some e)
+
+-- From a valid state, a step adds at most one evaluation of a job of a namespace, however many allocations the job
+-- loses.
+abbrev pub OneIsAdded : Type 0
+OneIsAdded = (s s' : State) (step : Step) (answer : Answer) (ns : Name) (m n : ℕ) (d e : Evaluation) → IsValid s →
+    after step s ≡ said answer s' → IsAdded s.world s'.world (ns, m) d → IsAdded s.world s'.world (ns, n) e →
+    d.job ≡ e.job → m ≡ n
+
+-- the triggers of evaluations for jobs that lose an allocation
+abbrev pub is_for_loss : Trigger → Bool
+is_for_loss Trigger.NodeUpdate = true
+is_for_loss Trigger.AllocStop = true
+is_for_loss Trigger.AllocFailure = true
+is_for_loss Trigger.Preemption = true
+is_for_loss _ = false
+
+-- an allocation of the job was live before the step, and is not live after it
+pub record HasLost (w x : World) (ns job : Name) : Type 0 where
+  pub number : ℕ
+  pub before : Allocation
+  pub was_live : IsLiveAt w (ns, number) before
+  pub of_job : before.job ≡ job
+  pub later : Allocation
+  pub is_there : allocation_at x (ns, number) ≡ Some later
+  pub has_ended : is_live later ≡ false
+
+-- Why the evaluation e is added: its job is registered or deregistered; a worker finishes an evaluation of its job, and
+-- it is the follower; or its job loses an allocation.
+pub data AddedFor (w x : World) (step : Step) (ns : Name) (e : Evaluation) : Type 0 where
+  registers : (secret : Option Name) (r : Registration) → step ≡ Step.Ask ns secret (AskCommand.Register r) →
+      e.job ≡ r.id → e.trigger ≡ Trigger.JobRegister → AddedFor w x step ns e
+  deregisters : (secret : Option Name) (id : Name) (purge : Bool) →
+      step ≡ Step.Ask ns secret (AskCommand.Deregister id purge) → e.job ≡ id → e.trigger ≡ Trigger.JobDeregister →
+      AddedFor w x step ns e
+  follows : (number : ℕ) (worker : Worker) (a : Evaluation) → step ≡ Step.Finish number ns →
+      worker_at w number ns ≡ Some worker → evaluation_at w (ns, worker.evaluation) ≡ Some a → e.job ≡ a.job →
+      e.previous ≡ Some worker.evaluation → AddedFor w x step ns e
+  for_loss : is_for_loss e.trigger ≡ true → HasLost w x ns e.job → AddedFor w x step ns e
+
+-- From a valid state, a step adds an evaluation only of a job that the step registers or deregisters, of one of which a
+-- worker finishes an evaluation, as its follower, or of one that had a live allocation before the step which is not
+-- live after it. So a step of a node, or an Apply, adds none of a job that loses no allocation.
+abbrev pub AddedOnlySo : Type 0
+AddedOnlySo = (s s' : State) (step : Step) (answer : Answer) (ns : Name) (n : ℕ) (e : Evaluation) → IsValid s →
+    after step s ≡ said answer s' → IsAdded s.world s'.world (ns, n) e → AddedFor s.world s'.world step ns e
 
 -- ---- when an allocation is gone
 

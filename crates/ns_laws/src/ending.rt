@@ -7,6 +7,8 @@ ghost use Rattle.ns_laws.specs.Ending.{
   ComesOnlyByPlan,
   LostIsEvaluated,
   EvictedIsEvaluated,
+  OneIsAdded,
+  AddedOnlySo,
   GoneWithNamespace,
 };
 
@@ -47,6 +49,19 @@ pub fn lost_is_evaluated()
 /// has a new evaluation, which is pending in the job's namespace.
 pub fn evicted_is_evaluated()
     ensures { EvictedIsEvaluated }
+{}
+
+/// From a valid state, a step adds at most one evaluation of a job of a namespace, however many allocations the job
+/// loses.
+pub fn one_is_added()
+    ensures { OneIsAdded }
+{}
+
+/// From a valid state, a step adds an evaluation only of a job that the step registers or deregisters, of one of which a
+/// worker finishes an evaluation, as its follower, or of one that had a live allocation before the step which is not
+/// live after it. So a step of a node, or an Apply, adds none of a job that loses no allocation.
+pub fn added_only_so()
+    ensures { AddedOnlySo }
 {}
 
 /// From a valid state, an allocation is gone only once it is not live, and only with its namespace, which is deleted.
