@@ -1,9 +1,8 @@
 -- The laws of the evaluations that a step adds: each step, and its end.
-use Rattle.std.specs.Prelude.{◌≡◌, ◌⊎◌, ℕ, ◌+◌, Bool, true, false, cond, List, Option, Some, None, option_map}
+use Rattle.std.specs.Prelude.{◌≡◌, ◌⊎◌, ℕ, ◌+◌, Bool, true, false, cond, List, Option, Some, None}
 use Rattle.std.proofs.Common.{inl, inr, refl, sym, ap, subst, ◌∙◌}
 use Rattle.std.specs.FinMap.{get}
 use Rattle.std.specs.Option.{option_and_then}
-use Rattle.ns_types.specs.declared.allocation.Allocation.{Allocation}
 use Rattle.ns_types.specs.declared.evaluation.Evaluation.{Evaluation}
 use Rattle.ns_types.specs.declared.step.Step.{Step}
 use Rattle.ns_types.specs.Asking.Policies.{administer, with_world}
@@ -21,8 +20,8 @@ use Rattle.ns_audit.proofs.Steady.Keeping.{row_of_map}
 use Rattle.ns_laws.specs.Ending as law
 use Rattle.ns_laws.specs.Ending.{AddedFor, HasLost, IsAdded, deregisters, follows, for_loss, is_for_loss, registers}
 use Rattle.ns_laws.proofs.AddedApply.{apply_adds}
-use Rattle.ns_laws.proofs.AddedSteps.{Adds, AddsAt, AddsIn, adds, adds_left, ask_adds, ask_pool_adds, dequeue_adds, empty, finish_adds, nack_adds, snap_adds, submit_adds}
-use Rattle.ns_laws.proofs.EffectRows.{settled_rows, settled_there}
+use Rattle.ns_laws.proofs.AddedSteps.{Adds, AddsAt, adds, adds_left, ask_adds, ask_pool_adds, dequeue_adds, empty, finish_adds, nack_adds, snap_adds, submit_adds}
+use Rattle.ns_laws.proofs.EffectRows.{settled_there}
 use Rattle.ns_laws.proofs.EndingChange.{Settled, nothing, redated, settled_at}
 use Rattle.ns_laws.proofs.ServingLists.{evaluation_in}
 use Rattle.ns_laws.proofs.StepRows.{Closes, LeavesIn, admin_leaves, closes}

@@ -1,8 +1,8 @@
 -- Evaluations that are made one after the other, one for each job of a list in which no job is twice.
-use Rattle.std.specs.Prelude.{◌≡◌, ◌⊎◌, ℕ, ◌+◌, Bool, true, false, cond, not, T, ◌&&◌, List, [], ◌∷◌, ◌++◌, Option, Some, None, filter, flat_map, fold, map}
+use Rattle.std.specs.Prelude.{◌≡◌, ◌⊎◌, ℕ, ◌+◌, Bool, true, false, cond, not, T, ◌&&◌, List, [], ◌∷◌, ◌++◌, Some, None, filter, flat_map, fold, map}
 use Rattle.std.proofs.Common.{inl, inr, refl, sym, ap, subst, ◌∙◌}
 use Rattle.std.specs.Cmp.{tied_itself}
-use Rattle.std.specs.FinMap.{FinMap, get, insert, entries, entries_sorted, from_entries, get-from_entries}
+use Rattle.std.specs.FinMap.{FinMap, get, entries, entries_sorted, from_entries, get-from_entries}
 use Rattle.std.specs.FinMap.Entries as Entries
 use Rattle.std.specs.Ordering.{is_lt}
 use Rattle.ns_types.specs.declared.allocation.Allocation.{Allocation}
@@ -10,7 +10,7 @@ use Rattle.ns_types.specs.declared.evaluation.Evaluation.{Evaluation}
 use Rattle.ns_types.specs.Asking.Nodes.{losing_jobs, losses}
 use Rattle.ns_types.specs.Settling.Making.{make, with_evaluation}
 use Rattle.ns_types.specs.State.Lists.{Each, first_each}
-use Rattle.ns_types.specs.State.Names.{ByNumber, Name, name_cmp, same_name}
+use Rattle.ns_types.specs.State.Names.{Name, name_cmp, same_name}
 use Rattle.ns_types.specs.State.Rows.{World, Tenant, is_live_on}
 use Rattle.ns_types.specs.Working.Commit.{Victim, same_victim_job}
 use Rattle.ns_types.proofs.Elements.{each_append, each_both, each_flat, each_found, each_mapped, each_of, each_passes, each_still}
@@ -18,7 +18,7 @@ use Rattle.ns_types.proofs.Lists.{each, not_both}
 use Rattle.ns_types.proofs.Named.{names, numbers, one_name, one_number, same_name_is, same_name_refl}
 use Rattle.ns_types.proofs.TableRows.{row_of_insert}
 use Rattle.ns_types.proofs.Tables.{each_row}
-use Rattle.ns_types.proofs.Tests.{first, is_no, not_Some, same_Some, second}
+use Rattle.ns_types.proofs.Tests.{first, is_no, not_Some, second}
 use Rattle.ns_laws.proofs.EndingEvaluations.{made_apart, made_at}
 
 -- ---- no job twice

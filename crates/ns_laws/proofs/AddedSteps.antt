@@ -13,7 +13,6 @@ use Rattle.ns_types.specs.declared.evaluation.Status.{Status}
 use Rattle.ns_types.specs.declared.evaluation.Status.TheVariants as Statuses
 use Rattle.ns_types.specs.declared.evaluation.Trigger.{Trigger}
 use Rattle.ns_types.specs.declared.job.Job.{Job}
-use Rattle.ns_types.specs.declared.job.Registration.{Registration}
 use Rattle.ns_types.specs.declared.node.NodeStatus.TheVariants as NodeStatus
 use Rattle.ns_types.specs.declared.refusal.Refusal.{Refusal}
 use Rattle.ns_types.specs.declared.reply.Content.TheVariants as Content
@@ -23,55 +22,43 @@ use Rattle.ns_types.specs.declared.step.NodeCommand.{NodeCommand}
 use Rattle.ns_types.specs.declared.step.Report.{Report}
 use Rattle.ns_types.specs.declared.step.Step.{Step}
 use Rattle.ns_types.specs.declared.worker.Phase.TheVariants as Phase
-use Rattle.ns_types.specs.Asking.Admins.{new_tenant}
 use Rattle.ns_types.specs.Asking.Asks.{ask, asked_in, deregistered, document_of, first_refusal, registered_job}
 use Rattle.ns_types.specs.Asking.Nodes.{ask_pool, asked_in_pool, calls_for_one, go_down, is_on, lose, losing_jobs, losses, lost, may_become, report, report_of, reported, same_client}
-use Rattle.ns_types.specs.Asking.Policies.{administer, with_world}
 use Rattle.ns_types.specs.Settling.Making.{change_tenant, evaluation_for, evaluation_of, make, make_in, put_pool, put_tenant, with_client, with_desired, with_evaluation, with_job}
 use Rattle.ns_types.specs.Settling.Making.{with_node, with_status}
-use Rattle.ns_types.specs.Settling.Outcome.{Outcome, NotEnabled, Done, lift, unless}
-use Rattle.ns_types.specs.Settling.Releases.{missed, woken}
-use Rattle.ns_types.specs.Settling.Settle.{changes_evaluation, created_at, is_touched, pending, settle, stamp_tenant, stamped, stamped_evaluation, unblocked_in, woken_row}
+use Rattle.ns_types.specs.Settling.Outcome.{NotEnabled, Done, unless}
+use Rattle.ns_types.specs.Settling.Releases.{missed}
 use Rattle.ns_types.specs.State.Lists.{Each}
-use Rattle.ns_types.specs.State.Names.{Key, Name, has_key, same_name}
-use Rattle.ns_types.specs.State.Rows.{State, World, Tenant, PoolRows, allocation_at, evaluation_at, is_held, is_live, is_live_on, is_run}
+use Rattle.ns_types.specs.State.Names.{Name}
+use Rattle.ns_types.specs.State.Rows.{World, Tenant, PoolRows, allocation_at, is_held, is_live, is_run}
 use Rattle.ns_types.specs.State.Sums.{names_quota}
 use Rattle.ns_types.specs.State.Tables.{map_rows}
-use Rattle.ns_types.specs.Steps.{Answer, act, after, said}
-use Rattle.ns_types.specs.Validity.{IsSound, IsValid}
-use Rattle.ns_types.specs.Working.Looks.{worker_at}
 use Rattle.ns_types.specs.Working.Queue.{is_served, promote}
 use Rattle.ns_types.specs.Working.Snapshot.{snapshot_of}
-use Rattle.ns_types.specs.Working.Work.{with_worker, without_worker, without_key, workers_end, is_idle, new_worker, taken, dequeue_in, dequeue, may_snap}
+use Rattle.ns_types.specs.Working.Work.{with_worker, without_worker, workers_end, is_idle, new_worker, taken, dequeue_in, dequeue, may_snap}
 use Rattle.ns_types.specs.Working.Work.{with_snapshot, snap_for, snap, may_submit, submitted, submit_for, submit, is_submitted, most_nacks, with_nack}
 use Rattle.ns_types.specs.Working.Work.{given_up, given_back, nack_for, nack, end_of, may_finish, needs_follower, follower_of, blocked_of, cancel_blocked}
 use Rattle.ns_types.specs.Working.Work.{without_blocked, ended, tied_to, with_follower, followed, finished, finish_for, finish}
 use Rattle.ns_types.specs.Working.Worker.{Worker}
 use Rattle.ns_types.proofs.Elements.{each_flat, each_mapped, each_of}
-use Rattle.ns_types.proofs.Leads.{Leads, leads_of, leads_unless, leads_refused, leads_found, leads_there, leads_if, leads_lift, leads_at_work, leads_keeping}
-use Rattle.ns_types.proofs.Lists.{not_both}
-use Rattle.ns_types.proofs.Named.{first_of_both, names, numbers, one_name, one_number, second_of_both}
+use Rattle.ns_types.proofs.Leads.{Leads, leads_unless, leads_refused, leads_found, leads_there, leads_if, leads_at_work, leads_keeping}
+use Rattle.ns_types.proofs.Named.{first_of_both, names, numbers, one_name, one_number}
 use Rattle.ns_types.proofs.TableRows.{get_put, row_of_insert}
-use Rattle.ns_types.proofs.Tables.{each_row, get-map_rows}
+use Rattle.ns_types.proofs.Tables.{each_row}
 use Rattle.ns_types.proofs.Tests.{is_yes, not_Some, same_Some}
-use Rattle.ns_audit.proofs.Steady.Keeping.{row_of_map}
 use Rattle.ns_audit.proofs.Steady.Nodes.{held_before}
 use Rattle.ns_audit.proofs.ValidAllocations.Going.{Onward, onward_change, onward_map}
 use Rattle.ns_audit.proofs.ValidAllocations.Sound.{allocation_row}
 use Rattle.ns_audit.proofs.ValidAllocations.Work.{unlisted_tenants}
 use Rattle.ns_audit.proofs.ValidWorkers.Quiet.{Quiet, quiet_each, quiet_make}
-use Rattle.ns_laws.specs.Ending as law
 use Rattle.ns_laws.specs.Ending.{AddedFor, HasLost, for_loss, deregisters, follows, is_for_loss, registers}
 use Rattle.ns_laws.proofs.AddedLists.{Distinct, Made, losses_distinct, made_each, made_first}
-use Rattle.ns_laws.proofs.EffectRows.{settled_rows, settled_there}
-use Rattle.ns_laws.proofs.EndingChange.{Settled, nothing, redated, settled_at}
 use Rattle.ns_laws.proofs.EndingEvaluations.{for_its_job}
 use Rattle.ns_laws.proofs.EndingRows.{Same, made_in_tenants, same_make}
 use Rattle.ns_laws.proofs.EndingSteps.{losses_same, lost_at}
 use Rattle.ns_laws.proofs.OrderedLemmas.{losers_are_first}
 use Rattle.ns_laws.proofs.ServingClosing.{promote_tenants}
-use Rattle.ns_laws.proofs.ServingLists.{evaluation_in}
-use Rattle.ns_laws.proofs.StepRows.{Closes, Left, LeavesIn, Leaves, added, admin_leaves, closes, stayed}
+use Rattle.ns_laws.proofs.StepRows.{Left, Leaves, added, stayed}
 use Rattle.ns_laws.specs.Nodes.{IsFirstOfJob}
 
 -- ---- what is added in a namespace

@@ -1,11 +1,10 @@
 -- A job's own allocations in a snapshot, and what an Apply stops: they are of the job, in each state that is reached.
-use Rattle.std.specs.Prelude.{◌≡◌, ◌⊎◌, ℕ, Bool, true, false, ◌&&◌, ◌||◌, T, List, [], ◌∷◌, Option, Some, None, Ok, Err, filter}
+use Rattle.std.specs.Prelude.{◌≡◌, ◌⊎◌, ℕ, Bool, true, false, ◌&&◌, ◌||◌, List, [], ◌∷◌, Option, Some, None, Ok, Err, filter}
 use Rattle.std.proofs.Common.{inl, inr, refl, sym, ap, subst, ◌∙◌}
 use Rattle.std.specs.FinMap.{get, entries, get-empty}
 use Rattle.std.specs.Option.{option_and_then}
 use Rattle.std.specs.Ordering.{nat_cmp}
 use Rattle.ns_types.specs.declared.allocation.Allocation.{Allocation}
-use Rattle.ns_types.specs.declared.evaluation.Evaluation.{Evaluation}
 use Rattle.ns_types.specs.declared.snapshot.OwnAllocation.{OwnAllocation}
 use Rattle.ns_types.specs.declared.snapshot.Snapshot.{Snapshot}
 use Rattle.ns_types.specs.declared.step.Step.{Step}
@@ -19,8 +18,7 @@ use Rattle.ns_types.specs.Steps.{Answer, Run, after, opening, opening_tenant, sa
 use Rattle.ns_types.specs.Validity.{IsSoundSnapshot, IsValid}
 use Rattle.ns_types.specs.Within.{IsGoodStep}
 use Rattle.ns_types.specs.Working.Looks.{worker_at}
-use Rattle.ns_types.specs.Working.Snapshot.{is_done_for, own_allocations, snapshot_of}
-use Rattle.ns_types.specs.Working.Worker.{Worker}
+use Rattle.ns_types.specs.Working.Snapshot.{is_done_for}
 use Rattle.ns_types.proofs.Elements.{each_kept, each_mapped, each_of}
 use Rattle.ns_types.proofs.Lists.{not_both}
 use Rattle.ns_types.proofs.Named.{first_of_both, numbers, one_number, same_name_is}
@@ -29,8 +27,7 @@ use Rattle.ns_types.proofs.Tests.{not_Some, same_Some}
 use Rattle.ns_audit.proofs.Steady.Opening.{only_row}
 use Rattle.ns_audit.proofs.StepLemmas.{refusal_leaves_all}
 use Rattle.ns_audit.proofs.Valid.{opening_is_valid, reached_is_valid, valid_step}
-use Rattle.ns_audit.proofs.ValidAllocations.Sound.{allocation_row}
-use Rattle.ns_laws.specs.Ending.{AppliesPlan, Ends, IsDeletionOf, IsOneOf, IsPlannedStop, IsSameAllocation, evicted, lost, planned, reported, requested}
+use Rattle.ns_laws.specs.Ending.{Ends, IsDeletionOf, IsOneOf, IsPlannedStop, IsSameAllocation, evicted, lost, planned, reported, requested}
 use Rattle.ns_laws.specs.Planning as law
 use Rattle.ns_laws.specs.Planning.{EndsInApply, IsOwnStill, IsOwnStop, IsToStop, SnapshotsAreOwn}
 use Rattle.ns_laws.proofs.AdminEffectsLemmas.{deleted_namespace_is_gone}

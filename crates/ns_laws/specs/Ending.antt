@@ -1,4 +1,5 @@
--- Laws of the life of an allocation: how it comes, what it keeps, which steps end it, and when it is gone.
+-- Laws of the life of an allocation: how it comes, what it keeps, which steps end it, and when it is gone. Also: which
+-- evaluations a step adds.
 use Rattle.std.specs.Prelude.{◌≡◌, ◌⊎◌, ◌<◌, ℕ, Bool, true, false, List, [], ◌∷◌, Option, Some, None, Ok}
 use Rattle.std.specs.FinMap.{get}
 use Rattle.std.specs.Option.{option_and_then}

@@ -331,7 +331,7 @@ SnapshotsAreOwn w = (ns : Name) (t : Tenant) (number : ℕ) (worker : Worker) (k
 
 -- In every state that the server reaches from its opening state, by steps within the limits: each allocation that a
 -- worker's snapshot has as its job's own is there still, under its number in the namespace. It is of that job, and all
--- but its statuses and its modify index is as it was in the snapshot.
+-- but its statuses and its modify index is as it was in the snapshot. `IsValid` does not ask this of a snapshot.
 abbrev pub SnapshotsKeepOwnJob : Type 0
 SnapshotsKeepOwnJob = (secret : Name) (s : State) (steps : List Step) (answers : List Answer) →
     IsTrue (is_name NameKind.Secret secret) → Each IsGoodStep steps → Run (opening secret) steps answers s →

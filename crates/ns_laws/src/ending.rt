@@ -1,4 +1,5 @@
-//! Laws of the life of an allocation: how it comes, what it keeps, which steps end it, and when it is gone.
+//! Laws of the life of an allocation: how it comes, what it keeps, which steps end it, and when it is gone. Also: which
+//! evaluations a step adds.
 
 ghost use Rattle.ns_laws.specs.Ending.{
   EndsOnlySo,
