@@ -52,18 +52,18 @@ as_many : (w : World) (pool : Name) (p q : PoolRows) (n : ℕ) → get w.pools p
 as_many w pool p q n is same q_is = let e = ap (λ (p : PoolRows). p.release) (same_Some _ _ (sym q_is ∙ is)) in omega (arith, e, same)
 
 module _ {R : World → World → Type 0} {S : Tenant → Tenant → Type 0} (h : Carries R S) where
-  carries_each : {A : Type 0} (f : World → A → World) → ((w : World) (x : A) → R w (f w x)) → (xs : List A) (w : World) → R w (fold f w xs)
+  pub carries_each : {A : Type 0} (f : World → A → World) → ((w : World) (x : A) → R w (f w x)) → (xs : List A) (w : World) → R w (fold f w xs)
   carries_each f g [] w = h.same w
   carries_each f g (x ∷ xs) w = h.then w (f w x) (fold f (f w x) xs) (g w x) (carries_each f g xs (f w x))
 
-  carries_change : (ns : Name) (f : Tenant → Tenant) → ((t : Tenant) → S t (f t)) → (w : World) → R w (change_tenant ns f w)
+  pub carries_change : (ns : Name) (f : Tenant → Tenant) → ((t : Tenant) → S t (f t)) → (w : World) → R w (change_tenant ns f w)
   carries_change ns f g w = by (get w.tenants ns) refl
     where
       by : (o : Option Tenant) → get w.tenants ns ≡ o → R w (option_map_or (λ t. put_tenant ns (f t) w) o w)
       by None is = h.same w
       by (Some t) is = h.put ns t (f t) w is (g t)
 
-  carries_make : (ns : Name) (evaluation : Tenant → Evaluation) (w : World) → R w (make ns evaluation w)
+  pub carries_make : (ns : Name) (evaluation : Tenant → Evaluation) (w : World) → R w (make ns evaluation w)
   carries_make ns evaluation w = by (get w.tenants ns) refl
     where
       by : (o : Option Tenant) → get w.tenants ns ≡ o → R w (option_map_or (λ t. make_in ns (evaluation t) w t) o w)

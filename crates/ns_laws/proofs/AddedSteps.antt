@@ -46,11 +46,12 @@ use Rattle.ns_types.proofs.Named.{first_of_both, names, numbers, one_name, one_n
 use Rattle.ns_types.proofs.TableRows.{get_put, row_of_insert}
 use Rattle.ns_types.proofs.Tables.{each_row}
 use Rattle.ns_types.proofs.Tests.{is_yes, not_Some, same_Some}
+use Rattle.ns_audit.proofs.Carries.{carries_each, carries_make}
 use Rattle.ns_audit.proofs.Steady.Nodes.{held_before}
 use Rattle.ns_audit.proofs.ValidAllocations.Going.{Onward, onward_change, onward_map}
 use Rattle.ns_audit.proofs.ValidAllocations.Sound.{allocation_row}
 use Rattle.ns_audit.proofs.ValidAllocations.Work.{unlisted_tenants}
-use Rattle.ns_audit.proofs.ValidWorkers.Quiet.{Quiet, quiet_each, quiet_make}
+use Rattle.ns_audit.proofs.ValidWorkers.Quiet.{Quiet, quiet_carries}
 use Rattle.ns_laws.specs.Ending.{AddedFor, HasLost, for_loss, deregisters, follows, is_for_loss, registers}
 use Rattle.ns_laws.proofs.AddedLists.{Distinct, Made, losses_distinct, made_each, made_first}
 use Rattle.ns_laws.proofs.EndingEvaluations.{for_its_job}
@@ -180,7 +181,7 @@ module _ (w : World) (step : Step) where
         last = fold (λ x a. make (space a) (reason a) x) y as_
 
         quiet : Quiet y last
-        quiet = quiet_each (λ x a. make (space a) (reason a) x) (λ x a. quiet_make (space a) (reason a) x) as_ y
+        quiet = carries_each quiet_carries (λ x a. make (space a) (reason a) x) (λ x a. carries_make quiet_carries (space a) (reason a) x) as_ y
 
         there : get last.tenants ns ≡ Some u
         there = ap (λ (x : World). get x.tenants ns) is ∙ at
