@@ -22,7 +22,8 @@ use Rattle.ns_types.specs.State.Names.{Key, Name, has_key, has_number, same_key,
 use Rattle.ns_types.specs.State.Resources.{plus}
 use Rattle.ns_types.specs.State.Rows.{PoolRows, Tenant, World, allocation_at, is_held, is_live, is_run, node_at}
 use Rattle.ns_types.specs.Validity.{IsLiveAt, IsSound}
-use Rattle.ns_types.specs.Working.Commit.{Applied, Commit, Victim, accepts_at, applied, applied_worker, apply, apply_for, begun, commit, committed_placements, counts}
+use Rattle.ns_types.specs.Working.Commit.{Applied, Commit, Victim, accepts_at, applied, applied_worker}
+use Rattle.ns_types.specs.Working.Commit.{apply, apply_for, begun, commit, committed_placements, counts}
 use Rattle.ns_types.specs.Working.Commit.{decide, done, evict, evict_all, evicted_rows, least_of_job, live_stops, make_up, new_allocation, node_name, nodes_in}
 use Rattle.ns_types.specs.Working.Commit.{part_of, place_all, place_one, place_with, refused_whole, same_victim_job, size_of, still_stands, stop_all, victim_at}
 use Rattle.ns_types.specs.Working.Commit.{victim_key, victims_in, victims_of, with_allocation, with_place}
@@ -42,7 +43,8 @@ use Rattle.ns_audit.proofs.ValidAllocations.Going.{Onward, onward_change, onward
 use Rattle.ns_laws.specs.Ending.{AddedFor, AppliesPlan, HasLost, IsOneOf}
 use Rattle.ns_laws.proofs.AddedLists.{victims_distinct}
 use Rattle.ns_laws.proofs.AddedSteps.{Adds, SameRows, adds_made, adds_same, adds_then, for_lost, rows_still}
-use Rattle.ns_laws.proofs.EndingApply.{Below, Counts, applies_plan, counts_still, decided_count, made_up_same, of_filter, of_flat_map, same_change, stale_leaves, stops_count}
+use Rattle.ns_laws.proofs.EndingApply.{Below, Counts, applies_plan, counts_still, decided_count, made_up_same}
+use Rattle.ns_laws.proofs.EndingApply.{of_filter, of_flat_map, same_change, stale_leaves, stops_count}
 use Rattle.ns_laws.proofs.EndingEvaluations.{for_its_job, one_flat_map}
 use Rattle.ns_laws.proofs.EndingEvictions.{all_keep, counted_live, counts_as, least_job, one_filter}
 use Rattle.ns_laws.proofs.EndingRows.{Same}
@@ -121,7 +123,8 @@ stops_leave (n ∷ stops) t = stops_leave stops (with_desired n DesiredStatus.St
 
 evicted_leave : (vs : List Eviction) (x : World) → Onward SameRows x (evict_all x vs)
 evicted_leave vs x = onward_each SameRows rows_still rows_then evict
-    (λ x v. onward_change SameRows rows_still x v.namespace (with_desired v.number DesiredStatus.Evict) (λ t _. desired_leaves v.number DesiredStatus.Evict t)) vs x
+    (λ x v. onward_change SameRows rows_still x v.namespace (with_desired v.number DesiredStatus.Evict)
+    (λ t _. desired_leaves v.number DesiredStatus.Evict t)) vs x
 
 placed_leaves : (kept : Snapshot) (p : Placement) (x : World) → Onward SameRows x (place_one kept x p)
 unfolding place_one
@@ -138,7 +141,8 @@ placed_leaves kept p x = job kept.job
         let y = change_tenant kept.namespace (with_allocation (new_allocation kept j p n)) x in
         counted y n (onward_change SameRows rows_still x kept.namespace (with_allocation (new_allocation kept j p n)) (λ u _. refl)) (get y.pools kept.pool)
 
-    job : (o : Option Job) → Onward SameRows x (option_map_or (λ job. option_map_or (place_with kept p x job) (node_at x kept.pool (node_name kept p.node)) x) o x)
+    job : (o : Option Job) →
+        Onward SameRows x (option_map_or (λ job. option_map_or (place_with kept p x job) (node_at x kept.pool (node_name kept p.node)) x) o x)
     job None = onward_same SameRows rows_still x x refl
     job (Some j) = node j (node_at x kept.pool (node_name kept p.node))
 
@@ -227,7 +231,10 @@ module _ (w : World) (step : Step) (kept : Snapshot) (applies : AppliesPlan w st
   decided_falls (k ∷ ks) c h = decided_falls ks (decide kept ps c k) (decide_falls c k h)
 
   all_fall : Falls decided.committed decided.world
-  all_fall = decided_falls (nodes_in ps) (begun stopped) (record { turns = λ key. inl refl; done_ = λ p planned on e is_one counted. absurd (subst T (sym on) tt) })
+  all_fall = decided_falls (nodes_in ps) (begun stopped) (record {
+    turns = λ key. inl refl;
+    done_ = λ p planned on e is_one counted. absurd (subst T (sym on) tt);
+  })
 
   -- ---- the jobs that lose an allocation
 
@@ -290,14 +297,16 @@ module _ (w : World) (step : Step) (kept : Snapshot) (applies : AppliesPlan w st
 
   placed_rows : Onward SameRows w y
   placed_rows = onward_then SameRows rows_still rows_then w decided.world y
-      (decided_world (Onward SameRows w) (λ vs x h. onward_then SameRows rows_still rows_then w x (evict_all x vs) h (evicted_leave vs x)) kept ps (nodes_in ps) (begun stopped)
+      (decided_world (Onward SameRows w) (λ vs x h. onward_then SameRows rows_still rows_then w x (evict_all x vs) h (evicted_leave vs x))
+      kept ps (nodes_in ps) (begun stopped)
       (onward_change SameRows rows_still w kept.namespace (λ u. fold (λ x n. with_desired n DesiredStatus.Stop x) u live) (λ u _. stops_leave live u)))
       (all_leave kept placed decided.world)
 
   done_adds : Adds w step (make_up victims y)
   unfolding make_up
   done_adds = adds_made w step (λ (v : Victim). v.0) (λ (v : Victim). v.1.1.job) (λ v u. evaluation_for u (least_of_job victims v) Trigger.Preemption)
-      (λ v u. (for_its_job u (least_of_job victims v) Trigger.Preemption).of_job ∙ least_job victims v) y (first_each same_victim_job victims) (make_up victims y) refl
+      (λ v u. (for_its_job u (least_of_job victims v) Trigger.Preemption).of_job ∙ least_job victims v)
+      y (first_each same_victim_job victims) (make_up victims y) refl
       placed_rows (victims_distinct victims) (victims_fit (make_up victims y) (made_up_same w step kept applies t is below victims y))
 
   commit_adds : Adds w step (commit kept (plan kept) w t).world
@@ -331,6 +340,7 @@ apply_adds w sound ns number = leads_keeping (Adds w step) number ns w (apply_fo
         its = (((sound.tenant ns t is).worker number worker has).snapshot kept keeps).namespace
 
         which : (b : Bool) → still_stands kept.job (get t.jobs kept.evaluation.job) ≡ b → Adds w step (commit kept (plan kept) w t).world
-        which true stands = commit_adds w step kept (subst (λ k. AppliesPlan w step k kept) (sym its) (applies_plan w ns number t worker kept is has keeps stands)) t
+        which true stands = commit_adds w step kept
+            (subst (λ k. AppliesPlan w step k kept) (sym its) (applies_plan w ns number t worker kept is has keeps stands)) t
             (ap (get w.tenants) its ∙ is) (λ k u at n a row. ((sound.tenant k u at).allocation n a row).below)
         which false stale = subst (Adds w step) (sym (stale_leaves kept w t stale)) (adds_same w step w refl)

@@ -8,7 +8,8 @@ use Rattle.ns_types.specs.declared.step.Step.{Step}
 use Rattle.ns_types.specs.Asking.Policies.{administer, with_world}
 use Rattle.ns_types.specs.Settling.Outcome.{Outcome, lift}
 use Rattle.ns_types.specs.Settling.Releases.{woken}
-use Rattle.ns_types.specs.Settling.Settle.{changes_evaluation, created_at, is_touched, pending, settle, stamp_tenant, stamped, stamped_evaluation, unblocked_in, woken_row}
+use Rattle.ns_types.specs.Settling.Settle.{changes_evaluation, created_at, is_touched, pending, settle}
+use Rattle.ns_types.specs.Settling.Settle.{stamp_tenant, stamped, stamped_evaluation, unblocked_in, woken_row}
 use Rattle.ns_types.specs.State.Names.{Key, Name, has_key}
 use Rattle.ns_types.specs.State.Rows.{State, Tenant, World, allocation_at, evaluation_at, is_live}
 use Rattle.ns_types.specs.Steps.{Answer, act, after, said}
@@ -20,7 +21,8 @@ use Rattle.ns_audit.proofs.Steady.Keeping.{row_of_map}
 use Rattle.ns_laws.specs.Ending as law
 use Rattle.ns_laws.specs.Ending.{AddedFor, HasLost, IsAdded, deregisters, follows, for_loss, is_for_loss, registers}
 use Rattle.ns_laws.proofs.AddedApply.{apply_adds}
-use Rattle.ns_laws.proofs.AddedSteps.{Adds, AddsAt, adds, adds_left, ask_adds, ask_pool_adds, dequeue_adds, empty, finish_adds, nack_adds, snap_adds, submit_adds}
+use Rattle.ns_laws.proofs.AddedSteps.{Adds, AddsAt, adds, adds_left, ask_adds, ask_pool_adds}
+use Rattle.ns_laws.proofs.AddedSteps.{dequeue_adds, empty, finish_adds, nack_adds, snap_adds, submit_adds}
 use Rattle.ns_laws.proofs.EffectRows.{settled_there}
 use Rattle.ns_laws.proofs.EndingChange.{Settled, nothing, redated, settled_at}
 use Rattle.ns_laws.proofs.ServingLists.{evaluation_in}
@@ -169,7 +171,8 @@ module _ (s s' : State) (step : Step) (answer : Answer) (valid : IsValid s) (lea
     one_added m n d e first second same = by (c.holds ns c.rows c.is_own) (own_row m d first) (own_row n e second)
       where
         by : AddsAt s.world step c.own.world ns c.rows → Was c.rows m d → Was c.rows n e → m ≡ n
-        by (adds t t_is a) v w = a.once m n v.row w.row (none_before t t_is m first.0) (none_before t t_is n second.0) v.is_row w.is_row (sym v.job ∙ same ∙ w.job)
+        by (adds t t_is a) v w = a.once m n v.row w.row (none_before t t_is m first.0) (none_before t t_is n second.0)
+            v.is_row w.is_row (sym v.job ∙ same ∙ w.job)
         by (empty none) v w = absurd (none m v.row v.is_row)
 
 pub one_is_added : law.OneIsAdded

@@ -165,7 +165,8 @@ unfolding losers
 one_for_job pool node ns t = of_entries ns (entries (losers pool node t)) (entries_sorted (losers pool node t))
     (each_row names one_name (λ k (a : Allocation). k ≡ a.job) (losers pool node t) (λ k a at.
     each_found one_name (λ (e : Name × Allocation). e.0 ≡ e.1.job) (map (λ a. (a.1.job, a.1)) live)
-    (each_mapped (λ (e : Name × Allocation). e.0 ≡ e.1.job) (λ (a : ℕ × Allocation). (a.1.job, a.1)) live (each (λ (a : ℕ × Allocation). a.1.job ≡ a.1.job) (λ a. refl) live)) k a
+    (each_mapped (λ (e : Name × Allocation). e.0 ≡ e.1.job) (λ (a : ℕ × Allocation). (a.1.job, a.1)) live
+    (each (λ (a : ℕ × Allocation). a.1.job ≡ a.1.job) (λ a. refl) live)) k a
     (sym (get-from_entries names (map (λ a. (a.1.job, a.1)) live) k) ∙ at)))
   where
     live : List (ℕ × Allocation)
@@ -197,7 +198,8 @@ pub victims_distinct : (xs : List Victim) → Distinct (λ (v : Victim). v.0) (�
 victims_distinct [] = tt
 victims_distinct (x ∷ xs) = (
   each_of (λ (y : Victim). not (same_victim_job x y) ≡ true) (Apart (λ (v : Victim). v.0) (λ (v : Victim). v.1.1.job) x)
-      (λ y other same job. not_both (λ i. (ap (same_name x.0) (sym same) ∙ same_name_refl x.0) i && (ap (same_name x.1.1.job) (sym job) ∙ same_name_refl x.1.1.job) i)
+      (λ y other same job. not_both
+      (λ i. (ap (same_name x.0) (sym same) ∙ same_name_refl x.0) i && (ap (same_name x.1.1.job) (sym job) ∙ same_name_refl x.1.1.job) i)
       (is_no (same_victim_job x y) other)) _
       (each_passes (λ y. not (same_victim_job x y)) (first_each same_victim_job xs)),
   distinct_filter (λ (v : Victim). v.0) (λ (v : Victim). v.1.1.job) (λ y. not (same_victim_job x y)) (first_each same_victim_job xs) (victims_distinct xs),

@@ -1,5 +1,6 @@
 -- Which evaluations each step adds.
-use Rattle.std.specs.Prelude.{◌≡◌, ◌⊎◌, ℕ, ◌+◌, Bool, true, false, cond, not, T, ◌&&◌, List, [], ◌∷◌, ◌++◌, Option, Some, None, fold, map, nat_le, nat_lt, option_map}
+use Rattle.std.specs.Prelude.{◌≡◌, ◌⊎◌, ℕ, ◌+◌, Bool, true, false, cond, not, T, ◌&&◌, List, []}
+use Rattle.std.specs.Prelude.{◌∷◌, ◌++◌, Option, Some, None, fold, map, nat_le, nat_lt, option_map}
 use Rattle.std.proofs.Common.{inl, inr, refl, sym, ap, subst, ◌∙◌}
 use Rattle.std.specs.FinMap.{get, insert, entries, get-empty}
 use Rattle.std.specs.Option.{option_map_or, option_and_then}
@@ -23,8 +24,10 @@ use Rattle.ns_types.specs.declared.step.Report.{Report}
 use Rattle.ns_types.specs.declared.step.Step.{Step}
 use Rattle.ns_types.specs.declared.worker.Phase.TheVariants as Phase
 use Rattle.ns_types.specs.Asking.Asks.{ask, asked_in, deregistered, document_of, first_refusal, registered_job}
-use Rattle.ns_types.specs.Asking.Nodes.{ask_pool, asked_in_pool, calls_for_one, go_down, is_on, lose, losing_jobs, losses, lost, may_become, report, report_of, reported, same_client}
-use Rattle.ns_types.specs.Settling.Making.{change_tenant, evaluation_for, evaluation_of, make, make_in, put_pool, put_tenant, with_client, with_desired, with_evaluation, with_job}
+use Rattle.ns_types.specs.Asking.Nodes.{ask_pool, asked_in_pool, calls_for_one, go_down, is_on, lose, losing_jobs}
+use Rattle.ns_types.specs.Asking.Nodes.{losses, lost, may_become, report, report_of, reported, same_client}
+use Rattle.ns_types.specs.Settling.Making.{change_tenant, evaluation_for, evaluation_of, make, make_in, put_pool}
+use Rattle.ns_types.specs.Settling.Making.{put_tenant, with_client, with_desired, with_evaluation, with_job}
 use Rattle.ns_types.specs.Settling.Making.{with_node, with_status}
 use Rattle.ns_types.specs.Settling.Outcome.{NotEnabled, Done, unless}
 use Rattle.ns_types.specs.Settling.Releases.{missed}
@@ -173,7 +176,8 @@ module _ (w : World) (step : Step) where
 
   -- the namespaces of y are those of w with the same evaluations, and evaluations are made there one after the other
   module _ {A : Type 0} (space job : A → Name) (reason : A → Tenant → Evaluation) (of_job : (a : A) (u : Tenant) → (reason a u).job ≡ job a) where
-    pub adds_made : (y : World) (as_ : List A) (x : World) → fold (λ x a. make (space a) (reason a) x) y as_ ≡ x → Onward SameRows w y → Distinct space job as_ →
+    pub adds_made : (y : World) (as_ : List A) (x : World) → fold (λ x a. make (space a) (reason a) x) y as_ ≡ x →
+        Onward SameRows w y → Distinct space job as_ →
         ((ns : Name) → Each (λ a. space a ≡ ns → (u : Tenant) → AddedFor w x step ns (reason a u)) as_) → Adds x
     adds_made y as_ x is onward distinct fits ns u at = by (quiet.came ns u there).0 (quiet.came ns u there).1
       where
@@ -236,7 +240,9 @@ module _ (w : World) (ns : Name) (secret : Option Name) (t : Tenant) (is : get w
     of_job = refl;
     later = record a { desired = DesiredStatus.Stop };
     is_there = make_in_row w ns e (with_desired n DesiredStatus.Stop t) n
-        ∙ ap (λ o. get (option_map_or (λ a. record t { allocations = insert t.allocations n (record a { desired = DesiredStatus.Stop }) }) o t).allocations n) at
+        ∙ ap (λ o. get (option_map_or (λ a. record t {
+          allocations = insert t.allocations n (record a { desired = DesiredStatus.Stop });
+        }) o t).allocations n) at
         ∙ get_put numbers one_number t.allocations n (record a { desired = DesiredStatus.Stop });
     has_ended = refl;
   }
@@ -248,7 +254,8 @@ module _ (w : World) (ns : Name) (secret : Option Name) (t : Tenant) (is : get w
     where
       by : (job : Job) → Adds w (Step.Ask ns secret (AskCommand.Register r))
           (make_in ns (evaluation_of r.id job.document Trigger.JobRegister) w (with_job r.id job t))
-      by job = adds_make_in w (Step.Ask ns secret (AskCommand.Register r)) ns t (with_job r.id job t) (evaluation_of r.id job.document Trigger.JobRegister) is refl
+      by job = adds_make_in w (Step.Ask ns secret (AskCommand.Register r)) ns t (with_job r.id job t)
+          (evaluation_of r.id job.document Trigger.JobRegister) is refl
           (registers secret r refl refl refl)
   asked_adds (AskCommand.ReadJob id) = leads_found (Adds w (Step.Ask ns secret (AskCommand.ReadJob id))) (get t.jobs id) _ (λ job _. still _)
   asked_adds (AskCommand.Deregister id purge) = leads_found (Adds w (Step.Ask ns secret (AskCommand.Deregister id purge))) (get t.jobs id) _ (λ job at.
@@ -367,7 +374,9 @@ module _ (w : World) (pool : Name) (secret : Option Name) (name : Name) (r : Rep
   changed_row : allocation_at changed (r.namespace, r.number) ≡ Some new_row
   changed_row = ap (λ o. allocation_at (option_map_or (λ t. put_tenant r.namespace (with_client r.number r.client t) w) o w) (r.namespace, r.number)) is
       ∙ row_there w r.namespace (with_client r.number r.client t) r.number
-      ∙ ap (λ o. get (option_map_or (λ a. record t { allocations = insert t.allocations r.number (record a { client = r.client }) }) o t).allocations r.number) at
+      ∙ ap (λ o. get (option_map_or (λ a. record t {
+        allocations = insert t.allocations r.number (record a { client = r.client });
+      }) o t).allocations r.number) at
       ∙ get_put numbers one_number t.allocations r.number new_row
 
   report_loses : (x : World) → Same changed x → calls_for_one t a r.client ≡ true → HasLost w x r.namespace a.job
@@ -494,8 +503,8 @@ module _ (w : World) (number : ℕ) where
             y.tenants ≡ insert w.tenants ns (with_follower worker.evaluation f rest) → Adds w finishes (promote ns e.job y)
         with_one f of_job previous y put =
             adds_put w finishes (promote ns e.job y) ns t (with_follower worker.evaluation f rest) is (promote_tenants ns e.job y ∙ put)
-            (one_added w finishes (promote ns e.job y) ns t (tied_to worker.evaluation (rest.evaluation_number + 1) rest) (with_follower worker.evaluation f rest)
-            (rest.evaluation_number + 1) f
+            (one_added w finishes (promote ns e.job y) ns t (tied_to worker.evaluation (rest.evaluation_number + 1) rest)
+            (with_follower worker.evaluation f rest) (rest.evaluation_number + 1) f
             (back_then w finishes t rest (tied_to worker.evaluation (rest.evaluation_number + 1) rest) (back_ended w finishes number worker e (end_of worker) t)
             (back_tied w finishes worker.evaluation (rest.evaluation_number + 1) rest)) refl
             (follows number worker e refl (ap (option_and_then (λ (t : Tenant). get t.workers number)) is ∙ has)
@@ -525,7 +534,8 @@ module _ (w : World) (number : ℕ) where
             let t' : Tenant = with_nack worker.evaluation e t in
             let u : Tenant = without_worker number t' in
             let v : Tenant = with_status worker.evaluation Statuses.Failed u in
-            let back : Back w nacks t u = back_then w nacks t t' u (back_row w nacks t worker.evaluation e (record e { nacks = e.nacks + 1 }) at) (back_same w nacks t' u refl) in
+            let back : Back w nacks t u = back_then w nacks t t' u
+            (back_row w nacks t worker.evaluation e (record e { nacks = e.nacks + 1 }) at) (back_same w nacks t' u refl) in
             leads_if (Adds w nacks) (is_submitted worker.phase) NotEnabled
             (cond (nat_le most_nacks (e.nacks + 1)) (given_up number ns w t' worker e) (given_back number ns w t' worker)) (λ _. tt) (λ _.
             leads_if (Adds w nacks) (nat_le most_nacks (e.nacks + 1)) (given_up number ns w t' worker e) (given_back number ns w t' worker)

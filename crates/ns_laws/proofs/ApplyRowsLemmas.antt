@@ -34,7 +34,8 @@ use Rattle.ns_types.specs.State.Sums.{node_load}
 use Rattle.ns_types.specs.Validity.{IsValid}
 use Rattle.ns_types.specs.Working.Commit.{Commit, Victim, accepts, accepts_at, applied_worker, begun, commit, committed_placements, counted}
 use Rattle.ns_types.specs.Working.Commit.{decide, done, evict, evict_all, evicted_rows, least_of_job, live_stops, make_up, new_allocation}
-use Rattle.ns_types.specs.Working.Commit.{names_in, node_name, nodes_in, numbers_after, part_of, place_all, place_one, place_with, refused_whole, same_victim_job}
+use Rattle.ns_types.specs.Working.Commit.{names_in, node_name, nodes_in, numbers_after, part_of}
+use Rattle.ns_types.specs.Working.Commit.{place_all, place_one, place_with, refused_whole, same_victim_job}
 use Rattle.ns_types.specs.Working.Commit.{size_of, still_stands, stop_all, victims_of, with_allocation, with_place}
 use Rattle.ns_types.specs.Working.Work.{with_worker}
 use Rattle.ns_types.specs.Working.Worker.{Worker}

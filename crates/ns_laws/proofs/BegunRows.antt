@@ -15,7 +15,8 @@ use Rattle.ns_types.specs.declared.refusal.Refusal.{Refusal}
 use Rattle.ns_types.specs.declared.step.AdminCommand.{AdminCommand}
 use Rattle.ns_types.specs.declared.step.AskCommand.{AskCommand}
 use Rattle.ns_types.specs.declared.step.Step.{Step}
-use Rattle.ns_types.specs.Asking.Admins.{new_tenant, with_namespace, put_namespace, delete_namespace, put_quota, delete_quota, read_quota, put_pool_record, delete_pool}
+use Rattle.ns_types.specs.Asking.Admins.{new_tenant, with_namespace, put_namespace, delete_namespace}
+use Rattle.ns_types.specs.Asking.Admins.{put_quota, delete_quota, read_quota, put_pool_record, delete_pool}
 use Rattle.ns_types.specs.Asking.Asks.{ask, asked_in, document_of, registered_job, first_refusal, stopped_job, deregistered}
 use Rattle.ns_types.specs.Asking.Policies.{administer, with_acl, with_world}
 use Rattle.ns_types.specs.Settling.Making.{put_tenant, with_job, with_desired, make_in}

@@ -29,7 +29,8 @@ use Rattle.ns_types.specs.Steps.{act}
 use Rattle.ns_types.specs.Validity.{IsSound, IsLiveAt}
 use Rattle.ns_types.specs.Working.Commit.{still_stands, live_stops, stop_all, node_name, nodes_in, part_of, counts, victims_in, victims_of, evict, evict_all}
 use Rattle.ns_types.specs.Working.Commit.{Commit, begun, decide, new_allocation, with_allocation, with_place, place_with, place_one, committed_placements}
-use Rattle.ns_types.specs.Working.Commit.{place_all, evicted_rows, Victim, victim_at, victim_key, same_victim_job, least_of_job, make_up, Applied, refused_whole, done}
+use Rattle.ns_types.specs.Working.Commit.{place_all, evicted_rows, Victim, victim_at, victim_key}
+use Rattle.ns_types.specs.Working.Commit.{same_victim_job, least_of_job, make_up, Applied, refused_whole, done}
 use Rattle.ns_types.specs.Working.Commit.{commit, applied_worker, applied, apply_for, apply, accepts_at, size_of}
 use Rattle.ns_types.specs.Working.Queue.{is_served}
 use Rattle.ns_types.specs.Working.Work.{with_worker, without_key, is_submitted}

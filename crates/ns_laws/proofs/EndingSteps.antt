@@ -24,7 +24,8 @@ use Rattle.ns_types.specs.Asking.Asks.{asked_in, ask}
 use Rattle.ns_types.specs.Asking.Nodes.{losses, lost, lose, go_down, may_become, same_client, calls_for_one, reported, is_on, report_of, report}
 use Rattle.ns_types.specs.Asking.Nodes.{asked_in_pool, ask_pool}
 use Rattle.ns_types.specs.Asking.Policies.{with_world, with_acl, administer}
-use Rattle.ns_types.specs.Settling.Making.{put_pool, put_tenant, with_node, change_tenant, with_desired, with_client, with_evaluation, evaluation_for, make_in, make}
+use Rattle.ns_types.specs.Settling.Making.{put_pool, put_tenant, with_node, change_tenant, with_desired}
+use Rattle.ns_types.specs.Settling.Making.{with_client, with_evaluation, evaluation_for, make_in, make}
 use Rattle.ns_types.specs.Settling.Outcome.{Outcome, NotEnabled, Refused, Done, unless, lift}
 use Rattle.ns_types.specs.Settling.Settle.{settle}
 use Rattle.ns_types.specs.State.Names.{Name, Key, ByNumber, same_name, same_number}

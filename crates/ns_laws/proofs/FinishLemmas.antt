@@ -1,5 +1,6 @@
 -- What a finish changes, and what it leaves as it was.
-use Rattle.std.specs.Prelude.{◌≡◌, ◌≢◌, ◌⊎◌, ℕ, suc, ◌<◌, nat_lt, ◌+◌, ◌≤◌, Bool, true, false, cond, ◌&&◌, List, [], ◌∷◌, ◌++◌, Option, Some, None, find, nat_eq, option_map}
+use Rattle.std.specs.Prelude.{◌≡◌, ◌≢◌, ◌⊎◌, ℕ, suc, ◌<◌, nat_lt, ◌+◌, ◌≤◌, Bool, true, false, cond}
+use Rattle.std.specs.Prelude.{◌&&◌, List, [], ◌∷◌, ◌++◌, Option, Some, None, find, nat_eq, option_map}
 use Rattle.std.proofs.Common.{refl, sym, ap, subst, ◌∙◌, inl, inr, arith}
 use Rattle.std.proofs.lemmas.Bool.Decides.{eqb_tells, leb_tells}
 use Rattle.std.specs.FinMap.{get, insert, remove, entries, get-entries}
@@ -40,7 +41,8 @@ use Rattle.ns_laws.specs.Workers.{Cancels, none_there, one_there, EndsAs, is_fai
 use Rattle.ns_laws.specs.Workers.{follower_pending, HasEvaluation, IsFinished, IsFollower, MayEnd, nothing_to_do, all_done, no_try_left, NeedsFollower}
 use Rattle.ns_laws.proofs.ApplyStepLemmas.{does_or}
 use Rattle.ns_laws.proofs.EffectRows.{Does, does_if, put_there}
-use Rattle.ns_laws.proofs.NackLemmas.{ends, ends_evaluation, ends_former, ends_idle, ends_number, may_promote, number_there, number_elsewhere, pending_is, promote_part}
+use Rattle.ns_laws.proofs.NackLemmas.{ends, ends_evaluation, ends_former, ends_idle, ends_number}
+use Rattle.ns_laws.proofs.NackLemmas.{may_promote, number_there, number_elsewhere, pending_is, promote_part}
 use Rattle.ns_laws.proofs.OrderedLemmas.{first_row, none_passes}
 use Rattle.ns_laws.proofs.WorkingRows.{at_work_does, settles_one, stays_in, taken_out, wakes_nothing, work_does}
 

@@ -22,7 +22,8 @@ use Rattle.ns_types.specs.declared.step.Step.{Step}
 use Rattle.ns_types.specs.Asking.Admins.{new_tenant}
 use Rattle.ns_types.specs.Settling.Releases.{woken}
 use Rattle.ns_types.specs.Settling.Same.{same_job, same_evaluation, same_allocation, same_document, same_flag}
-use Rattle.ns_types.specs.Settling.Settle.{unblocked_in, woken_row, is_changed, changes_job, changes_evaluation, changes_allocation, is_touched, topics_of, events_of, created_at}
+use Rattle.ns_types.specs.Settling.Settle.{unblocked_in, woken_row, is_changed, changes_job, changes_evaluation}
+use Rattle.ns_types.specs.Settling.Settle.{changes_allocation, is_touched, topics_of, events_of, created_at}
 use Rattle.ns_types.specs.Settling.Settle.{stamped_evaluation, stamped_allocation, stamped, stamp_tenant, job_ids, job_topic}
 use Rattle.ns_types.specs.State.Lists.{Each, is_empty, last}
 use Rattle.ns_types.specs.State.Names.{Name, Key, ByName, same_name, same_number, name_cmp, default_name}

@@ -39,7 +39,8 @@ use Rattle.ns_laws.specs.Effects as law
 use Rattle.ns_laws.specs.Effects.{HasRows, IsEvaluated, IsReported, HasFormer, HasOffer, HasNode, KeepsOtherNodes, IsLost}
 use Rattle.ns_laws.proofs.DocumentLemmas.{client_is}
 use Rattle.ns_laws.proofs.EffectsLemmas.{is_for}
-use Rattle.ns_laws.proofs.EffectRows.{Does, does_unless, does_found, does_if, does_of, does_lift, after_does, put_there, put_elsewhere, removed, removed_elsewhere}
+use Rattle.ns_laws.proofs.EffectRows.{Does, does_unless, does_found, does_if, does_of, does_lift}
+use Rattle.ns_laws.proofs.EffectRows.{after_does, put_there, put_elsewhere, removed, removed_elsewhere}
 use Rattle.ns_laws.proofs.EffectRows.{settled_rows, settled_there, settled_jobs, settled_pending, settled_allocated, settled_former, settled_node}
 use Rattle.ns_laws.proofs.EffectRows.{made_there, number_there}
 

@@ -74,7 +74,8 @@ same_on a b c p q = record {
 own_now : (w : World) (ns : Name) (t : Tenant) (kept : Snapshot) → IsSnapOf w ns t kept → Each (IsOwnStill t kept.evaluation.job) kept.own
 own_now w ns t kept snap = subst (λ (k : Snapshot). Each (IsOwnStill t k.evaluation.job) k.own) snap.is_snap
     (each_mapped (IsOwnStill t id) (λ (a : ℕ × Allocation). record { number = a.0; row = a.1 }) (filter p (entries t.allocations))
-    (each_of (λ (a : ℕ × Allocation). (get t.allocations a.0 ≡ Some a.1) × (p a ≡ true)) (λ (a : ℕ × Allocation). IsOwnStill t id (record { number = a.0; row = a.1 }))
+    (each_of (λ (a : ℕ × Allocation). (get t.allocations a.0 ≡ Some a.1) × (p a ≡ true))
+    (λ (a : ℕ × Allocation). IsOwnStill t id (record { number = a.0; row = a.1 }))
     (λ a h. record { row = a.1; is_row = h.0; of_job = sym (same_name_is id a.1.job (first_of_both (same_name id a.1.job) _ h.1)); same = same_one a.1 })
     (filter p (entries t.allocations)) (each_kept (λ (a : ℕ × Allocation). get t.allocations a.0 ≡ Some a.1) p (entries t.allocations)
     (each_row numbers one_number (λ n a. get t.allocations n ≡ Some a) t.allocations (λ n a at. at)))))
@@ -118,15 +119,18 @@ module _ (step : Step) (s s' : State) (answer : Answer) (valid : IsValid s) (e :
       let b = allocation_on own.number o.row o.is_row in
       record { row = b.0; is_row = b.1; of_job = b.2.job ∙ o.of_job; same = same_on own.row o.row b.0 o.same b.2 }
 
-snapshots_stay_own : (step : Step) (s s' : State) (answer : Answer) → IsValid s → after step s ≡ said answer s' → SnapshotsAreOwn s.world → SnapshotsAreOwn s'.world
+snapshots_stay_own : (step : Step) (s s' : State) (answer : Answer) → IsValid s → after step s ≡ said answer s' →
+    SnapshotsAreOwn s.world → SnapshotsAreOwn s'.world
 snapshots_stay_own step s s' answer valid e all ns now number worker kept at has keeps =
     by (closes step s s' answer (WalksIn s valid.world) ns now (act_walks s valid.world step) e at)
   where
-    on : (old : Tenant) → get s.world.tenants ns ≡ Some old → Each (IsOwnStill old kept.evaluation.job) kept.own → Each (IsOwnStill now kept.evaluation.job) kept.own
+    on : (old : Tenant) → get s.world.tenants ns ≡ Some old → Each (IsOwnStill old kept.evaluation.job) kept.own →
+        Each (IsOwnStill now kept.evaluation.job) kept.own
     on old was h = each_of (IsOwnStill old kept.evaluation.job) (IsOwnStill now kept.evaluation.job)
         (own_on step s s' answer valid e ns old now was at kept.evaluation.job) kept.own h
 
-    kept_or_taken : (t : Tenant) → get s.world.tenants ns ≡ Some t → IsKept t kept ⊎ IsSnapOf s.world ns t kept → Each (IsOwnStill now kept.evaluation.job) kept.own
+    kept_or_taken : (t : Tenant) → get s.world.tenants ns ≡ Some t → IsKept t kept ⊎ IsSnapOf s.world ns t kept →
+        Each (IsOwnStill now kept.evaluation.job) kept.own
     kept_or_taken t is (inl k) = on t is (all ns t k.number k.worker kept is k.is_worker k.keeps)
     kept_or_taken t is (inr snap) = on t is (own_now s.world ns t kept snap)
 
@@ -197,7 +201,8 @@ module _ (s : State) (valid : IsValid s) (all : SnapshotsAreOwn s.world) (number
       ((valid.world.tenant key.0 t.0 t.1).worker p.applies.number p.applies.worker t.2).snapshot p.kept p.applies.is_kept in
       let stop : IsToStop p.kept key.1 = each_one (IsToStop p.kept) (plan p.kept).stops key.1 p.is_stop (stops_not_wanted p.kept) in
       let own : IsOwnStill t.0 p.kept.evaluation.job stop.row =
-      each_slice (IsOwnStill t.0 p.kept.evaluation.job) p.kept.own (all key.0 t.0 p.applies.number p.applies.worker p.kept t.1 t.2 p.applies.is_kept) stop.place stop.row stop.is_row in
+      each_slice (IsOwnStill t.0 p.kept.evaluation.job) p.kept.own
+      (all key.0 t.0 p.applies.number p.applies.worker p.kept t.1 t.2 p.applies.is_kept) stop.place stop.row stop.is_row in
       let row : own.row ≡ a = same_Some own.row a (sym own.is_row ∙ ap (get t.0.allocations) stop.number
       ∙ sym (ap (option_and_then (λ (t : Tenant). get t.allocations key.1)) t.1) ∙ at) in
       record {

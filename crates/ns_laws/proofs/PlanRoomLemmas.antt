@@ -21,8 +21,8 @@ use Rattle.ns_types.specs.declared.snapshot.QuotaSeen.{QuotaSeen}
 use Rattle.ns_types.specs.declared.snapshot.Snapshot.{Snapshot}
 use Rattle.ns_types.specs.Placing.Placement.{Candidate}
 use Rattle.ns_types.specs.Placing.Plan.{candidate_of, is_among, no_quota, opening, placing_of, plan, quota_of, stays, staying}
-use Rattle.ns_types.specs.Placing.Planning.{Choice, Site, after, choice, counts_for, ended_by_quota, eviction_of, place, placed_on, placement_of, then_rest, update}
-use Rattle.ns_types.specs.Placing.Planning.{without_one}
+use Rattle.ns_types.specs.Placing.Planning.{Choice, Site, after, choice, counts_for, ended_by_quota}
+use Rattle.ns_types.specs.Placing.Planning.{eviction_of, place, placed_on, placement_of, then_rest, update, without_one}
 use Rattle.ns_types.specs.Placing.Wanted.{demands, demands_from, stopping}
 use Rattle.ns_types.specs.State.Lists.{Each}
 use Rattle.ns_types.specs.State.Names.{has_number, same_number}

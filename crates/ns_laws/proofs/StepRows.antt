@@ -13,7 +13,8 @@ use Rattle.ns_types.specs.declared.snapshot.Snapshot.{Snapshot}
 use Rattle.ns_types.specs.declared.step.AdminCommand.{AdminCommand}
 use Rattle.ns_types.specs.declared.step.Step.{Step}
 use Rattle.ns_types.specs.declared.worker.Phase.TheVariants as Phase
-use Rattle.ns_types.specs.Asking.Admins.{new_tenant, with_namespace, put_namespace, delete_namespace, put_quota, delete_quota, read_quota, put_pool_record, delete_pool}
+use Rattle.ns_types.specs.Asking.Admins.{new_tenant, with_namespace, put_namespace, delete_namespace}
+use Rattle.ns_types.specs.Asking.Admins.{put_quota, delete_quota, read_quota, put_pool_record, delete_pool}
 use Rattle.ns_types.specs.Asking.Policies.{administer, with_acl, with_world}
 use Rattle.ns_types.specs.Placing.Plan.{plan}
 use Rattle.ns_types.specs.Settling.Making.{put_tenant, with_status, with_evaluation}
@@ -214,7 +215,8 @@ module _ (w : World) (ns : Name) (t : Tenant) where
     rows = g.rows;
   }
     where
-      by : (kept : Snapshot) (k : IsKept (with_worker number new u) kept) → ((k.number ≡ number) × (new ≡ k.worker)) ⊎ (get u.workers k.number ≡ Some k.worker) →
+      by : (kept : Snapshot) (k : IsKept (with_worker number new u) kept) →
+          ((k.number ≡ number) × (new ≡ k.worker)) ⊎ (get u.workers k.number ≡ Some k.worker) →
           IsKept t kept ⊎ IsSnapOf w ns t kept
       by kept k (inl e) = h kept (ap (λ (v : Worker). v.kept) e.1 ∙ k.keeps)
       by kept k (inr old) = g.snapshots kept (record { number = k.number; worker = k.worker; is_worker = old; keeps = k.keeps })
@@ -279,8 +281,8 @@ module _ (w : World) (sound : IsSound w) where
           let snapshot : Snapshot = snapshot_of w ns t worker.evaluation e in
           leads_if (Walks w) (may_snap worker.tries worker.phase)
           (Done (Content.Snapped worker.evaluation) (put_tenant ns (with_worker number (with_snapshot snapshot worker) t) w)) NotEnabled
-          (λ _. walks_put w (put_tenant ns (with_worker number (with_snapshot snapshot worker) t) w) w ns t (with_worker number (with_snapshot snapshot worker) t)
-          (walks_same w w refl) is refl
+          (λ _. walks_put w (put_tenant ns (with_worker number (with_snapshot snapshot worker) t) w) w ns t
+          (with_worker number (with_snapshot snapshot worker) t) (walks_same w w refl) is refl
           (goes_worker w ns t t (goes_same w ns t t refl refl) number (with_snapshot snapshot worker) (λ kept keeps.
           inr (record { number = worker.evaluation; row = e; is_snap = same_Some snapshot kept keeps })))) (λ _. tt))
 
@@ -288,7 +290,8 @@ module _ (w : World) (sound : IsSound w) where
       unfolding submit
       submit_walks = leads_keeping (Walks w) number ns w (λ t worker e. submit_for number ns w t worker) (λ t worker e kept is has _ _.
           leads_if (Walks w) (may_submit worker kept) (Done (Content.Queued worker.evaluation) (submitted number ns w t worker)) NotEnabled
-          (λ _. walks_put w (submitted number ns w t worker) w ns t (with_worker number (record worker { phase = Phase.Submitted }) t) (walks_same w w refl) is refl
+          (λ _. walks_put w (submitted number ns w t worker) w ns t
+          (with_worker number (record worker { phase = Phase.Submitted }) t) (walks_same w w refl) is refl
           (goes_worker w ns t t (goes_same w ns t t refl refl) number (record worker { phase = Phase.Submitted }) (kept_by t worker has))) (λ _. tt))
 
       applied_walks : (t : Tenant) (worker : Worker) (e : Evaluation) → get w.tenants ns ≡ Some t → get t.workers number ≡ Some worker → (a : Applied) →

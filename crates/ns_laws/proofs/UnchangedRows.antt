@@ -220,7 +220,8 @@ unchanged_allocations_keep_indexes step s s' ns old now n c valid h at was =
             ap (option_and_then (λ (t : Tenant). get t.allocations n)) h.was_there ∙ was.was in
             let b_at : allocation_at k.own.world (ns, n) ≡ Some b =
             ap (option_and_then (λ (t : Tenant). get t.allocations n)) k.is_own ∙ is in
-            let first = own_times s.world step (ns, n) (allocation_at s.world (ns, n)) (allocation_at k.own.world (ns, n)) was.before b a_at b_at (k.holds (ns, n)) in
+            let first = own_times s.world step (ns, n) (allocation_at s.world (ns, n)) (allocation_at k.own.world (ns, n))
+            was.before b a_at b_at (k.holds (ns, n)) in
             let last = allocation_kept old u n was.before b c was.was is there (was_the_same_allocation old n c was) in
             (last.created ∙ first.created, last.modified ∙ first.modified)
 

@@ -18,7 +18,8 @@ use Rattle.ns_types.specs.Steps.{reply_of}
 use Rattle.ns_types.specs.Validity.{IsValid}
 use Rattle.ns_types.specs.Working.Queue.{is_served}
 use Rattle.ns_types.specs.Working.Snapshot.{snapshot_of}
-use Rattle.ns_types.specs.Working.Work.{dequeue, dequeue_in, is_idle, is_snapped, may_snap, may_submit, new_worker, snap, snap_for, submit, submit_for, submitted}
+use Rattle.ns_types.specs.Working.Work.{dequeue, dequeue_in, is_idle, is_snapped, may_snap, may_submit}
+use Rattle.ns_types.specs.Working.Work.{new_worker, snap, snap_for, submit, submit_for, submitted}
 use Rattle.ns_types.specs.Working.Work.{taken, tries_for, with_snapshot, with_worker, workers_end}
 use Rattle.ns_types.specs.Working.Worker.{Worker}
 use Rattle.ns_types.proofs.Lists.{not_both}
