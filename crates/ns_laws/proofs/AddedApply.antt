@@ -1,8 +1,7 @@
 -- Apply: it adds one evaluation for each job of which it evicts an allocation, and no other.
-use Rattle.std.specs.Prelude.{◌≡◌, ◌⊎◌, ℕ, Bool, true, false, cond, T, ◌&&◌, ◌||◌, List, [], ◌∷◌, ◌++◌, Option, Some, None, filter_map, fold, map, option_map}
+use Rattle.std.specs.Prelude.{◌≡◌, ◌⊎◌, ℕ, Bool, true, false, cond, T, ◌&&◌, ◌||◌, List, [], ◌∷◌, ◌++◌, Option, Some, None, fold, map, option_map}
 use Rattle.std.proofs.Common.{inl, inr, refl, sym, ap, subst, ◌∙◌}
 use Rattle.std.specs.FinMap.{get, insert}
-use Rattle.std.specs.List.{cons_option}
 use Rattle.std.specs.Option.{option_map_or}
 use Rattle.ns_types.specs.declared.allocation.Allocation.{Allocation}
 use Rattle.ns_types.specs.declared.allocation.DesiredStatus.{DesiredStatus}
@@ -40,34 +39,21 @@ use Rattle.ns_types.proofs.Named.{same_key_refl}
 use Rattle.ns_types.proofs.TableRows.{any_append}
 use Rattle.ns_types.proofs.Tests.{not_Some, or_none, same_Some}
 use Rattle.ns_audit.proofs.ValidAllocations.Going.{Onward, onward_change, onward_each, onward_same, onward_then}
-use Rattle.ns_laws.specs.Ending.{AddedFor, AppliesPlan, HasLost, IsOneOf}
+use Rattle.ns_laws.specs.Ending.{AddedFor, AppliesPlan, HasLost}
 use Rattle.ns_laws.proofs.AddedLists.{victims_distinct}
 use Rattle.ns_laws.proofs.AddedSteps.{Adds, SameRows, adds_made, adds_same, adds_then, for_lost, rows_still}
+use Rattle.ns_laws.proofs.Elements.{Has, each_from_has, filter_has, flat_has, has_filter, has_filter_map, has_flat}
 use Rattle.ns_laws.proofs.EndingApply.{Below, Counts, applies_plan, counts_still, decided_count, made_up_same}
-use Rattle.ns_laws.proofs.EndingApply.{of_filter, of_flat_map, same_change, stale_leaves, stops_count}
-use Rattle.ns_laws.proofs.EndingEvaluations.{for_its_job, one_flat_map}
-use Rattle.ns_laws.proofs.EndingEvictions.{all_keep, counted_live, counts_as, least_job, one_filter}
+use Rattle.ns_laws.proofs.EndingApply.{same_change, stale_leaves, stops_count}
+use Rattle.ns_laws.proofs.EndingEvaluations.{for_its_job}
+use Rattle.ns_laws.proofs.EndingEvictions.{all_keep, counted_live, counts_as, least_job}
 use Rattle.ns_laws.proofs.EndingRows.{Same}
 
 -- ---- elements of lists
 
-of_filter_map : {A B : Type 0} (f : A → Option B) (xs : List A) (y : B) → IsOneOf y (filter_map f xs) → (x : A) × IsOneOf x xs × (f x ≡ Some y)
-of_filter_map f [] y h = absurd h
-of_filter_map {A = A} {B = B} f (x ∷ xs) y h = by (f x) refl (of_filter_map f xs y) h
-  where
-    by : (o : Option B) → f x ≡ o → (IsOneOf y (filter_map f xs) → (z : A) × IsOneOf z xs × (f z ≡ Some y)) → IsOneOf y (cons_option o (filter_map f xs)) →
-        (z : A) × IsOneOf z (x ∷ xs) × (f z ≡ Some y)
-    by None is later h = let r = later h in (r.0, inr r.1, r.2)
-    by (Some b) is later (inl e) = (x, inl refl, is ∙ ap Some (sym e))
-    by (Some b) is later (inr h) = let r = later h in (r.0, inr r.1, r.2)
-
-each_from_one : {A : Type 0} (P : A → Type 0) (xs : List A) → ((x : A) → IsOneOf x xs → P x) → Each P xs
-each_from_one P [] h = tt
-each_from_one P (x ∷ xs) h = (h x (inl refl), each_from_one P xs (λ y is. h y (inr is)))
-
-key_among : {A : Type 0} (f : A → Key) (xs : List A) (x : A) → IsOneOf x xs → has_key (map f xs) (f x) ≡ true
+key_among : {A : Type 0} (f : A → Key) (xs : List A) (x : A) → Has xs x → has_key (map f xs) (f x) ≡ true
 key_among f [] x h = absurd h
-key_among f (y ∷ xs) x (inl e) = ap (λ b. b || has_key (map f xs) (f x)) (ap (λ z. same_key (f x) (f z)) (sym e) ∙ same_key_refl (f x))
+key_among f (y ∷ xs) x (inl e) = ap (λ b. b || has_key (map f xs) (f x)) (ap (λ z. same_key (f x) (f z)) e ∙ same_key_refl (f x))
 key_among f (y ∷ xs) x (inr h) = ap (λ b. same_key (f x) (f y) || b) (key_among f xs x h) ∙ or_true (same_key (f x) (f y))
   where
     or_true : (b : Bool) → (b || true) ≡ true
@@ -172,7 +158,7 @@ module _ (w : World) (step : Step) (kept : Snapshot) (applies : AppliesPlan w st
   -- each allocation is as the stops left it, or is evicted; those that a committed node evicts are
   record Falls (committed : List ℕ) (x : World) : Type 0 where
     turns : (key : Key) → (allocation_at x key ≡ allocation_at stopped key) ⊎ HasFallen x key
-    done_ : (p : Placement) → IsOneOf p ps → has_number committed p.node ≡ true → (e : Eviction) → IsOneOf e p.evictions →
+    done_ : (p : Placement) → Has ps p → has_number committed p.node ≡ true → (e : Eviction) → Has p.evictions e →
         counts stopped kept.pool (node_name kept p.node) e ≡ true → HasFallen x (victim_key e)
 
   module _ (c : Commit) (k : ℕ) (h : Falls c.committed c.world) where
@@ -190,7 +176,7 @@ module _ (w : World) (step : Step) (kept : Snapshot) (applies : AppliesPlan w st
         by (inl same) (Some a) at true e = inr (falls_now c.world vs key a at e)
         by (inl same) (Some a) at false e = inl (evicted_at c.world vs key a at false e ∙ sym at ∙ same)
 
-    evicted_done : (p : Placement) → IsOneOf p ps → has_number (c.committed ++ k ∷ []) p.node ≡ true → (e : Eviction) → IsOneOf e p.evictions →
+    evicted_done : (p : Placement) → Has ps p → has_number (c.committed ++ k ∷ []) p.node ≡ true → (e : Eviction) → Has p.evictions e →
         counts stopped kept.pool (node_name kept p.node) e ≡ true → HasFallen (evict_all c.world vs) (victim_key e)
     evicted_done p planned on e is_one counted = by (any_append (same_number p.node) c.committed (k ∷ []) on)
       where
@@ -201,8 +187,8 @@ module _ (w : World) (step : Step) (kept : Snapshot) (applies : AppliesPlan w st
             let counts_here = counts_as stopped c.world kept.pool (node_name kept p.node) e (sym rests) counted in
             let l = counted_live c.world kept.pool (node_name kept p.node) e counts_here in
             falls_now c.world vs (victim_key e) l.0 l.1 (key_among victim_key vs e
-            (one_flat_map (victims_in c.world kept) (part_of k ps) p e (one_filter (λ p. same_number p.node k) ps p planned same)
-            (one_filter (counts c.world kept.pool (node_name kept p.node)) p.evictions e is_one counts_here)))
+            (flat_has (victims_in c.world kept) e (part_of k ps) p (filter_has (λ p. same_number p.node k) ps p planned same)
+            (filter_has (counts c.world kept.pool (node_name kept p.node)) p.evictions e is_one counts_here)))
 
         by : (has_number c.committed p.node ≡ true) ⊎ ((same_number p.node k || false) ≡ true) → HasFallen (evict_all c.world vs) (victim_key e)
         by (inl before) = fallen_stays c.world vs (victim_key e) (h.done_ p planned before e is_one counted)
@@ -266,12 +252,12 @@ module _ (w : World) (step : Step) (kept : Snapshot) (applies : AppliesPlan w st
     fallen_ends : (d : DesiredStatus) (b : Bool) → d ≡ DesiredStatus.Evict → (is_run d && b) ≡ false
     fallen_ends d b e = ap (λ d. is_run d && b) e
 
-    victim_loses : (v : Victim) → IsOneOf v victims → HasLost w x v.0 v.1.1.job
+    victim_loses : (v : Victim) → Has victims v → HasLost w x v.0 v.1.1.job
     victim_loses v among =
-        let e = of_filter_map (victim_at stopped) (victims_of stopped kept placed) v among in
-        let p = of_flat_map (victims_in stopped kept) placed e.0 e.1 in
-        let q = of_filter (λ p. has_number decided.committed p.node) ps p.0 p.1 in
-        let r = of_filter (counts stopped kept.pool (node_name kept p.0.node)) p.0.evictions e.0 p.2 in
+        let e = has_filter_map (victim_at stopped) (victims_of stopped kept placed) v among in
+        let p = has_flat (victims_in stopped kept) e.0 placed e.1 in
+        let q = has_filter (λ p. has_number decided.committed p.node) ps p.0 p.1 in
+        let r = has_filter (counts stopped kept.pool (node_name kept p.0.node)) p.0.evictions e.0 p.2 in
         let l = counted_live stopped kept.pool (node_name kept p.0.node) e.0 r.1 in
         let f = all_fall.done_ p.0 q.0 q.1 e.0 r.0 r.1 in
         subst (λ (v : Victim). HasLost w x v.0 v.1.1.job) {x = (e.0.namespace, (e.0.number, l.0))}
@@ -293,7 +279,7 @@ module _ (w : World) (step : Step) (kept : Snapshot) (applies : AppliesPlan w st
     victims_fit ns = each_first (Fit ns) same_victim_job victims (each_of (λ (v : Victim). HasLost w x v.0 v.1.1.job) (Fit ns)
         (λ v lost own u. for_lost w x step ns u (least_of_job victims v) Trigger.Preemption refl
         (subst (HasLost w x ns) (sym (least_job victims v)) (subst (λ k. HasLost w x k v.1.1.job) own lost))) victims
-        (each_from_one (λ (v : Victim). HasLost w x v.0 v.1.1.job) victims victim_loses))
+        (each_from_has (λ (v : Victim). HasLost w x v.0 v.1.1.job) victims victim_loses))
 
   placed_rows : Onward SameRows w y
   placed_rows = onward_then SameRows rows_still rows_then w decided.world y

@@ -37,7 +37,7 @@ use Rattle.ns_audit.proofs.Alone.Fixed.{SameIn}
 use Rattle.ns_audit.proofs.Alone.Sides.{change, act_is}
 use Rattle.ns_audit.proofs.ValidAllocations.Going.{Onward, onward_same, onward_make_in}
 use Rattle.ns_laws.specs.Indexes as law
-use Rattle.ns_laws.specs.Indexes.{Spans, Rests, Rises, Ascends, IsStamped, WasEvaluation, WasAllocation}
+use Rattle.ns_laws.specs.Indexes.{Spans}
 use Rattle.ns_laws.proofs.EffectRows.{settled_rows, settled_tenant}
 use Rattle.ns_laws.proofs.OwnChanges.{is_ask, change_fixed, ask_fixed}
 use Rattle.ns_audit.proofs.StepLemmas.{made, refusal_leaves_all}

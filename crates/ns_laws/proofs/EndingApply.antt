@@ -1,6 +1,6 @@
 -- Apply: which allocations a plan stops and evicts, and which it places.
 use Rattle.std.specs.Prelude.{◌≡◌, ◌⊎◌, ℕ, ◌+◌, ◌≤◌, Bool, true, false, cond, not, T, List, [], ◌∷◌, ◌++◌, Option, Some, None, ◌&&◌, ◌||◌}
-use Rattle.std.specs.Prelude.{filter, flat_map, fold, map, option_map}
+use Rattle.std.specs.Prelude.{fold, map, option_map}
 use Rattle.std.proofs.Common.{inl, inr, refl, sym, ap, subst, ◌∙◌, arith}
 use Rattle.std.specs.FinMap.{get, insert}
 use Rattle.std.specs.Option.{option_map_or, option_and_then}
@@ -46,7 +46,8 @@ use Rattle.ns_types.proofs.TableRows.{any_append, get_put, get_other, row_of_ins
 use Rattle.ns_types.proofs.Tables.{tied}
 use Rattle.ns_types.proofs.Tests.{not_Some, same_Some, is_no}
 use Rattle.ns_audit.proofs.ValidAllocations.Going.{Onward, onward_same, onward_change, onward_then, onward_each}
-use Rattle.ns_laws.specs.Ending.{AppliesPlan, HasEnded, IsUnchangedJob, runs, ended, IsOneOf, IsPlacedBy}
+use Rattle.ns_laws.specs.Ending.{AppliesPlan, HasEnded, IsUnchangedJob, runs, ended, IsPlacedBy}
+use Rattle.ns_laws.proofs.Elements.{Has, contains_from, has_filter, has_flat}
 use Rattle.ns_laws.proofs.EndingRows.{moves_put, Same, same_still, same_then, same_put, same_make}
 use Rattle.ns_laws.proofs.EndingChange.{PlanEnds, left, stops, evicts, PlanChange, cuts, places, Moves, moves_same, moves_then, plans}
 
@@ -54,38 +55,14 @@ use Rattle.ns_laws.proofs.EndingChange.{PlanEnds, left, stops, evicts, PlanChang
 
 module _ {A : Type 0} where
   -- a key of a list of elements' keys is the key of one of them
-  pub of_keys : (f : A → Key) (xs : List A) (key : Key) → has_key (map f xs) key ≡ true → (x : A) × IsOneOf x xs × (key ≡ f x)
+  pub of_keys : (f : A → Key) (xs : List A) (key : Key) → has_key (map f xs) key ≡ true → (x : A) × Has xs x × (key ≡ f x)
   of_keys f [] key e = absurd (subst T (sym e) tt)
   of_keys f (x ∷ xs) key e = by (of_keys f xs key) (same_key key (f x)) refl e
     where
-      by : (has_key (map f xs) key ≡ true → (y : A) × IsOneOf y xs × (key ≡ f y)) → (b : Bool) → same_key key (f x) ≡ b →
-          (b || has_key (map f xs) key) ≡ true → (y : A) × IsOneOf y (x ∷ xs) × (key ≡ f y)
+      by : (has_key (map f xs) key ≡ true → (y : A) × Has xs y × (key ≡ f y)) → (b : Bool) → same_key key (f x) ≡ b →
+          (b || has_key (map f xs) key) ≡ true → (y : A) × Has (x ∷ xs) y × (key ≡ f y)
       by later true t e = (x, inl refl, key_is key (f x) t)
       by later false t e = let r = later e in (r.0, inr r.1, r.2)
-
-  pub of_filter : (p : A → Bool) (xs : List A) (x : A) → IsOneOf x (filter p xs) → IsOneOf x xs × (p x ≡ true)
-  of_filter p [] x h = absurd h
-  of_filter p (y ∷ ys) x h = by (of_filter p ys x) (p y) refl h
-    where
-      by : (IsOneOf x (filter p ys) → IsOneOf x ys × (p x ≡ true)) → (b : Bool) → p y ≡ b → IsOneOf x (cond b (y ∷ filter p ys) (filter p ys)) →
-          IsOneOf x (y ∷ ys) × (p x ≡ true)
-      by later true t (inl e) = (inl e, ap p e ∙ t)
-      by later true t (inr h) = let r = later h in (inr r.0, r.1)
-      by later false t h = let r = later h in (inr r.0, r.1)
-
-  of_append : (x : A) (xs ys : List A) → IsOneOf x (xs ++ ys) → IsOneOf x xs ⊎ IsOneOf x ys
-  of_append x [] ys h = inr h
-  of_append x (z ∷ xs) ys (inl e) = inl (inl e)
-  of_append x (z ∷ xs) ys (inr h) = elim (of_append x xs ys h) [ inl h ↦ inl (inr h) | inr h ↦ inr h ]
-
-pub of_flat_map : {A B : Type 0} (f : A → List B) (xs : List A) (y : B) → IsOneOf y (flat_map f xs) → (x : A) × IsOneOf x xs × IsOneOf y (f x)
-of_flat_map f [] y h = absurd h
-of_flat_map {A = A} f (x ∷ xs) y h = by (of_flat_map f xs y) (of_append y (f x) (flat_map f xs) h)
-  where
-    by : (IsOneOf y (flat_map f xs) → (z : A) × IsOneOf z xs × IsOneOf y (f z)) → IsOneOf y (f x) ⊎ IsOneOf y (flat_map f xs) →
-        (z : A) × IsOneOf z (x ∷ xs) × IsOneOf y (f z)
-    by later (inl h) = (x, inl refl, h)
-    by later (inr h) = let r = later h in (r.0, inr r.1, r.2)
 
 -- ---- numbers of allocations
 
@@ -166,7 +143,7 @@ module _ (w : World) (step : Step) (kept : Snapshot) (applies : AppliesPlan w st
   stop_at key (Some a) at false e = left refl
   stop_at key (Some a) at true e =
       let r = of_keys (λ n. (kept.namespace, n)) live key e in
-      let q = of_filter (λ n. option_map_or is_live (get t.allocations n) false) (plan kept).stops r.0 r.1 in
+      let q = has_filter (λ n. option_map_or is_live (get t.allocations n) false) (plan kept).stops r.0 r.1 in
       let ns_is : key.0 ≡ kept.namespace = ap (λ k. k.0) r.2 in
       let n_is : key.1 ≡ r.0 = ap (λ k. k.1) r.2 in
       let row : get t.allocations r.0 ≡ Some a =
@@ -174,7 +151,7 @@ module _ (w : World) (step : Step) (kept : Snapshot) (applies : AppliesPlan w st
       stops a refl (ap (λ o. option_map_or is_live o false) (sym row) ∙ q.1) refl (record {
         kept = kept;
         applies = subst (λ k. AppliesPlan w step k kept) (sym ns_is) applies;
-        is_stop = subst (λ n. IsOneOf n (plan kept).stops) (sym n_is) q.0;
+        is_stop = contains_from (plan kept).stops key.1 (subst (Has (plan kept).stops) (sym n_is) q.0);
       })
 
   stopped_cuts : Cuts stopped
@@ -211,8 +188,8 @@ module _ (w : World) (step : Step) (kept : Snapshot) (applies : AppliesPlan w st
     evict_at key (Some a) at false e was = was
     evict_at key (Some a) at true e was =
         let r = of_keys victim_key vs key e in
-        let p = of_flat_map (victims_in x kept) (part_of k ps) r.0 r.1 in
-        let q = of_filter (counts x kept.pool (node_name kept p.0.node)) p.0.evictions r.0 p.2 in
+        let p = has_flat (victims_in x kept) r.0 (part_of k ps) r.1 in
+        let q = has_filter (counts x kept.pool (node_name kept p.0.node)) p.0.evictions r.0 p.2 in
         let c = count_at key a r.0 (node_name kept p.0.node) r.2 at q.1 in
         let on = first_of_both (is_live_on kept.pool (node_name kept p.0.node) a) _ c in
         let there = second_of_both (is_live a) _ on in
@@ -222,11 +199,11 @@ module _ (w : World) (step : Step) (kept : Snapshot) (applies : AppliesPlan w st
           kept = kept;
           applies = applies;
           placement = p.0;
-          is_planned = (of_filter (λ p. same_number p.node k) ps p.0 p.1).0;
+          is_planned = contains_from ps p.0 (has_filter (λ p. same_number p.node k) ps p.0 p.1).0;
           pool = sym (same_name_is kept.pool a.pool (first_of_both (same_name kept.pool a.pool) _ there));
           node = sym (same_name_is (node_name kept p.0.node) a.node (second_of_both (same_name kept.pool a.pool) _ there));
           eviction = r.0;
-          is_evicted = q.0;
+          is_evicted = contains_from p.0.evictions r.0 q.0;
           namespace = ap (λ k. k.0) (sym r.2);
           number = ap (λ k. k.1) (sym r.2);
           priority = sym (tied one_number a.priority r.0.priority
@@ -259,7 +236,7 @@ module _ (w : World) (step : Step) (kept : Snapshot) (applies : AppliesPlan w st
     eligible : node.eligible ≡ true
 
   record MayPlace (p : Placement) : Type 0 where
-    planned : IsOneOf p ps
+    planned : Has ps p
     free : IsFreeAt p.node
     fresh : (j : Job) → kept.job ≡ Some j → IsFresh j
 
@@ -336,15 +313,15 @@ module _ (w : World) (step : Step) (kept : Snapshot) (applies : AppliesPlan w st
       ap (λ b. (place (quota_of kept) (cond b [] (demands_from 0 i kept.own i.document.groups)) (opening kept i own)).placements)
       (ap (λ (j : Job). j.stop) (same_Some i j is) ∙ stop)
 
-  planned_runs : (p : Placement) → IsOneOf p ps → (j : Job) → kept.job ≡ Some j → j.stop ≡ false
+  planned_runs : (p : Placement) → Has ps p → (j : Job) → kept.job ≡ Some j → j.stop ≡ false
   unfolding plan
   planned_runs p planned j is = by j.stop refl
     where
       by : (b : Bool) → j.stop ≡ b → b ≡ false
       by false e = refl
-      by true e = absurd (subst (IsOneOf p) (stopped_places_none kept.job j is e (stopping kept.job kept.own)) planned)
+      by true e = absurd (subst (λ qs. Has qs p) (stopped_places_none kept.job j is e (stopping kept.job kept.own)) planned)
 
-  stands_fresh : still_stands kept.job (get t.jobs kept.evaluation.job) ≡ true → (p : Placement) → IsOneOf p ps → (j : Job) → kept.job ≡ Some j → IsFresh j
+  stands_fresh : still_stands kept.job (get t.jobs kept.evaluation.job) ≡ true → (p : Placement) → Has ps p → (j : Job) → kept.job ≡ Some j → IsFresh j
   stands_fresh stands p planned j is = by (get t.jobs kept.evaluation.job) refl
       (ap (λ b. cond b (has_ended (get t.jobs kept.evaluation.job)) (not (has_ended (get t.jobs kept.evaluation.job)) &&
       same_version (Some j) (get t.jobs kept.evaluation.job))) (sym (planned_runs p planned j is))
@@ -397,7 +374,7 @@ module _ (w : World) (step : Step) (kept : Snapshot) (applies : AppliesPlan w st
             kept = kept;
             applies = applies;
             placement = p;
-            is_planned = may.planned;
+            is_planned = contains_from ps p may.planned;
             planned = j;
             is_in_snapshot = is_job;
             job = fresh.present;
@@ -486,7 +463,7 @@ module _ (w : World) (step : Step) (kept : Snapshot) (applies : AppliesPlan w st
         job None e = h
         job (Some j) e = node j e (node_at x kept.pool (node_name kept p.node))
 
-  all_placed : (qs : List Placement) → ((q : Placement) → IsOneOf q qs → MayPlace q) → (x : World) → Onward Counts w x → Plans x →
+  all_placed : (qs : List Placement) → ((q : Placement) → Has qs q → MayPlace q) → (x : World) → Onward Counts w x → Plans x →
       Plans (place_all kept x qs)
   all_placed [] planned x counts h = h
   all_placed (q ∷ qs) planned x counts h = all_placed qs (λ p is. planned p (inr is)) (place_one kept x q)
@@ -525,9 +502,9 @@ module _ (w : World) (step : Step) (kept : Snapshot) (applies : AppliesPlan w st
       (λ key. cuts (decided_cuts (nodes_in ps) (begun stopped) stopped_cuts key)))
       (made_up_same (evicted_rows stopped kept placed) (place_all kept decided.world placed))
     where
-      may : (q : Placement) → IsOneOf q placed → MayPlace q
+      may : (q : Placement) → Has placed q → MayPlace q
       may q is =
-          let r = of_filter (λ p. has_number decided.committed p.node) ps q is in
+          let r = has_filter (λ p. has_number decided.committed p.node) ps q is in
           record { planned = r.0; free = (decided_free (nodes_in ps) (begun stopped) begun_free).free q.node r.1; fresh = stands_fresh stands q r.0 }
 
   pub commit_plans : Plans (commit kept (plan kept) w t).world

@@ -1,6 +1,6 @@
 -- Evaluations for jobs that lose allocations: each is made in its own namespace, and is there in the end.
-use Rattle.std.specs.Prelude.{◌≡◌, ℕ, ◌+◌, ◌≤◌, ◌<◌, Bool, true, false, T, List, [], ◌∷◌, ◌++◌, Option, Some, None, ◌&&◌, ◌||◌}
-use Rattle.std.specs.Prelude.{flat_map, fold, map, option_map}
+use Rattle.std.specs.Prelude.{◌≡◌, ℕ, ◌+◌, ◌≤◌, ◌<◌, Bool, true, false, T, List, [], ◌∷◌, Option, Some, None, ◌&&◌}
+use Rattle.std.specs.Prelude.{fold, map, option_map}
 use Rattle.std.proofs.Common.{inl, inr, refl, sym, ap, subst, ◌∙◌, arith}
 use Rattle.std.specs.FinMap.{get, insert, entries}
 use Rattle.std.specs.List.{list_any}
@@ -22,44 +22,13 @@ use Rattle.ns_types.proofs.TableRows.{apart, get_put, get_other, some_row}
 use Rattle.ns_types.proofs.Tables.{get-map_rows}
 use Rattle.ns_audit.proofs.ValidAllocations.Sound.{allocation_row}
 use Rattle.ns_laws.specs.Ending as law
-use Rattle.ns_laws.specs.Ending.{IsOneOf, IsEvaluatedAnew}
+use Rattle.ns_laws.specs.Ending.{IsEvaluatedAnew}
+use Rattle.ns_laws.proofs.Elements.{Has, any_has, flat_has, map_has}
 use Rattle.ns_laws.proofs.EffectsLemmas.{is_for}
 use Rattle.ns_laws.proofs.EffectRows.{does_found, settled_rows, settled_there, settled_pending}
 use Rattle.ns_laws.proofs.EndingRows.{made_in_tenants}
 use Rattle.ns_laws.proofs.NodeEffectsLemmas.{pool_does}
 use Rattle.ns_laws.proofs.OrderedLemmas.{each_job_loses}
-
--- ---- elements of lists
-
-module _ {A : Type 0} where
-  pub any_one : (p : A → Bool) (xs : List A) → list_any p xs ≡ true → (x : A) × IsOneOf x xs × (p x ≡ true)
-  any_one p [] e = absurd (subst T (sym e) tt)
-  any_one p (x ∷ xs) e = by (any_one p xs) (p x) refl e
-    where
-      by : (list_any p xs ≡ true → (y : A) × IsOneOf y xs × (p y ≡ true)) → (b : Bool) → p x ≡ b → (b || list_any p xs) ≡ true →
-          (y : A) × IsOneOf y (x ∷ xs) × (p y ≡ true)
-      by later true t e = (x, inl refl, t)
-      by later false t e = let r = later e in (r.0, inr r.1, r.2)
-
-  one_before : (x : A) (xs ys : List A) → IsOneOf x xs → IsOneOf x (xs ++ ys)
-  one_before x [] ys h = absurd h
-  one_before x (z ∷ xs) ys (inl e) = inl e
-  one_before x (z ∷ xs) ys (inr h) = inr (one_before x xs ys h)
-
-  one_after : (x : A) (xs ys : List A) → IsOneOf x ys → IsOneOf x (xs ++ ys)
-  one_after x [] ys h = h
-  one_after x (z ∷ xs) ys h = inr (one_after x xs ys h)
-
-module _ {A B : Type 0} where
-  pub one_map : (f : A → B) (xs : List A) (x : A) → IsOneOf x xs → IsOneOf (f x) (map f xs)
-  one_map f [] x h = absurd h
-  one_map f (y ∷ xs) x (inl e) = inl (ap f e)
-  one_map f (y ∷ xs) x (inr h) = inr (one_map f xs x h)
-
-  pub one_flat_map : (f : A → List B) (xs : List A) (x : A) (y : B) → IsOneOf x xs → IsOneOf y (f x) → IsOneOf y (flat_map f xs)
-  one_flat_map f [] x y h k = absurd h
-  one_flat_map f (z ∷ xs) x y (inl e) k = one_before y (f z) (flat_map f xs) (subst (λ z. IsOneOf y (f z)) e k)
-  one_flat_map f (z ∷ xs) x y (inr h) k = one_after y (f z) (flat_map f xs) (one_flat_map f xs x y h k)
 
 -- ---- one evaluation
 
@@ -162,11 +131,11 @@ module _ (ns : Name) (t : Tenant) where
       has_each [] x h = h
       has_each (a ∷ as_) x h = has_each as_ (make (space a) (reason a) x) (has_make (space a) (reason a) x h)
 
-      pub one_made : (as_ : List A) (a : A) → IsOneOf a as_ → space a ≡ ns → ((u : Tenant) → IsPendingFor job trigger (reason a u)) → (x : World) → Grows x →
+      pub one_made : (as_ : List A) (a : A) → Has as_ a → space a ≡ ns → ((u : Tenant) → IsPendingFor job trigger (reason a u)) → (x : World) → Grows x →
           HasOne job trigger (fold (λ x a. make (space a) (reason a) x) x as_)
       one_made [] a is its for_it x g = absurd is
       one_made (b ∷ as_) a (inl e) its for_it x g = has_each as_ (make (space b) (reason b) x)
-          (made_now (space b) (reason b) x (ap space (sym e) ∙ its) (λ u. subst (λ a. IsPendingFor job trigger (reason a u)) e (for_it u)) g)
+          (made_now (space b) (reason b) x (ap space e ∙ its) (λ u. subst (λ a. IsPendingFor job trigger (reason a u)) (sym e) (for_it u)) g)
       one_made (b ∷ as_) a (inr is) its for_it x g =
           one_made as_ a is its for_it (make (space b) (reason b) x) (grows_make (space b) (reason b) x g)
 
@@ -192,17 +161,17 @@ evaluated_anew s x ns t job trigger is h =
 
 -- of each job that had a live allocation there, one is in the list
 lost_one : (pool node : Name) (w : World) (ns : Name) (t : Tenant) (n : ℕ) (a : Allocation) → get w.tenants ns ≡ Some t → get t.allocations n ≡ Some a →
-    is_live_on pool node a ≡ true → (l : Name × Allocation) × IsOneOf l (losses pool node w) × (l.0 ≡ ns) × (l.1.job ≡ a.job)
+    is_live_on pool node a ≡ true → (l : Name × Allocation) × Has (losses pool node w) l × (l.0 ≡ ns) × (l.1.job ≡ a.job)
 unfolding any_row
 lost_one pool node w ns t n a is at lives =
     let its : (same_name ns ns && list_any (λ other. same_name a.job other.job) (losing_jobs pool node t)) ≡ true =
     (λ i. same_name_refl ns i && each_job_loses pool node t n a at lives i) in
-    let k = any_one (λ (e : Name × Tenant). same_name ns e.0 && list_any (λ other. same_name a.job other.job) (losing_jobs pool node e.1)) (entries w.tenants)
+    let k = any_has (λ (e : Name × Tenant). same_name ns e.0 && list_any (λ other. same_name a.job other.job) (losing_jobs pool node e.1)) (entries w.tenants)
     (some_row names one_name (λ k u. same_name ns k && list_any (λ other. same_name a.job other.job) (losing_jobs pool node u)) w.tenants ns t is its) in
-    let l = any_one (λ (other : Allocation). same_name a.job other.job) (losing_jobs pool node k.0.1) (second_of_both (same_name ns k.0.0) _ k.2) in (
+    let l = any_has (λ (other : Allocation). same_name a.job other.job) (losing_jobs pool node k.0.1) (second_of_both (same_name ns k.0.0) _ k.2) in (
       (k.0.0, l.0),
-      one_flat_map (λ (t : Name × Tenant). map (λ a. (t.0, a)) (losing_jobs pool node t.1)) (entries w.tenants) k.0 (k.0.0, l.0) k.1
-          (one_map (λ (a : Allocation). (k.0.0, a)) (losing_jobs pool node k.0.1) l.0 l.1),
+      flat_has (λ (t : Name × Tenant). map (λ a. (t.0, a)) (losing_jobs pool node t.1)) (k.0.0, l.0) (entries w.tenants) k.0 k.1
+          (map_has (λ (a : Allocation). (k.0.0, a)) (losing_jobs pool node k.0.1) l.0 l.1),
       sym (same_name_is ns k.0.0 (first_of_both (same_name ns k.0.0) _ k.2)),
       sym (same_name_is a.job l.0.job l.2),
     )

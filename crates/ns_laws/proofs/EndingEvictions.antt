@@ -1,9 +1,9 @@
 -- Apply: the job of each allocation that is evicted gets an evaluation.
 use Rattle.std.specs.Prelude.{◌≡◌, ◌⊎◌, ℕ, ◌+◌, ◌≤◌, Bool, true, false, cond, not, T, List, [], ◌∷◌, ◌++◌, Option, Some, None, ◌&&◌, ◌||◌}
-use Rattle.std.specs.Prelude.{filter, filter_map, fold, map, option_map}
+use Rattle.std.specs.Prelude.{filter, fold, map, option_map}
 use Rattle.std.proofs.Common.{inl, inr, refl, sym, ap, subst, ◌∙◌, arith}
 use Rattle.std.specs.FinMap.{get, insert}
-use Rattle.std.specs.List.{list_any, cons_option}
+use Rattle.std.specs.List.{list_any}
 use Rattle.std.specs.Option.{option_map_or}
 use Rattle.ns_types.specs.declared.allocation.Allocation.{Allocation}
 use Rattle.ns_types.specs.declared.allocation.DesiredStatus.{DesiredStatus}
@@ -49,12 +49,13 @@ use Rattle.ns_audit.proofs.Steady.Apply.{least_is}
 use Rattle.ns_audit.proofs.ValidAllocations.Going.{Onward, onward_change, onward_then}
 use Rattle.ns_audit.proofs.ValidAllocations.Sound.{allocation_row}
 use Rattle.ns_laws.specs.Ending as law
-use Rattle.ns_laws.specs.Ending.{AppliesPlan, IsOneOf, IsEvaluatedAnew}
+use Rattle.ns_laws.specs.Ending.{AppliesPlan, IsEvaluatedAnew}
+use Rattle.ns_laws.proofs.Elements.{Has, filter_has, filter_map_has, flat_has, has_filter, has_flat}
 use Rattle.ns_laws.proofs.EffectRows.{Does, after_does}
-use Rattle.ns_laws.proofs.EndingApply.{of_keys, of_filter, of_flat_map, Below, Counts, counts_still, counts_then, decided_count, stops_count, placed_count}
+use Rattle.ns_laws.proofs.EndingApply.{of_keys, Below, Counts, counts_still, counts_then, decided_count, stops_count, placed_count}
 use Rattle.ns_laws.proofs.EndingApply.{made_up_same, same_change, applies_plan, stale_leaves}
 use Rattle.ns_laws.proofs.EndingChange.{settled_at}
-use Rattle.ns_laws.proofs.EndingEvaluations.{one_flat_map, IsPendingFor, for_its_job, Grows, HasOne, one_made, evaluated_anew}
+use Rattle.ns_laws.proofs.EndingEvaluations.{IsPendingFor, for_its_job, Grows, HasOne, one_made, evaluated_anew}
 use Rattle.ns_laws.proofs.EndingLemmas.{comes, desired_kept}
 use Rattle.ns_laws.proofs.EndingRows.{moves_put}
 
@@ -77,50 +78,30 @@ module _ {A : Type 0} where
       by later true = refl
       by later false = later
 
-  pub one_filter : (p : A → Bool) (xs : List A) (x : A) → IsOneOf x xs → p x ≡ true → IsOneOf x (filter p xs)
-  one_filter p [] x h passes = absurd h
-  one_filter p (y ∷ ys) x h passes = by (one_filter p ys x) (p y) refl h
-    where
-      by : (IsOneOf x ys → p x ≡ true → IsOneOf x (filter p ys)) → (b : Bool) → p y ≡ b → IsOneOf x (y ∷ ys) →
-          IsOneOf x (cond b (y ∷ filter p ys) (filter p ys))
-      by later true t (inl e) = inl e
-      by later true t (inr h) = inr (later h passes)
-      by later false t (inl e) = not_both (ap p (sym e) ∙ passes) t
-      by later false t (inr h) = later h passes
-
-pub one_filter_map : {A B : Type 0} (f : A → Option B) (xs : List A) (x : A) (y : B) → IsOneOf x xs → f x ≡ Some y → IsOneOf y (filter_map f xs)
-one_filter_map f [] x y h e = absurd h
-one_filter_map {B = B} f (z ∷ xs) x y (inl same) e = subst (λ (o : Option B). IsOneOf y (cons_option o (filter_map f xs))) (sym (ap f (sym same) ∙ e)) (inl refl)
-one_filter_map {B = B} f (z ∷ xs) x y (inr h) e = by (f z) (one_filter_map f xs x y h e)
-  where
-    by : (o : Option B) → IsOneOf y (filter_map f xs) → IsOneOf y (cons_option o (filter_map f xs))
-    by None h = h
-    by (Some b) h = inr h
-
 -- ---- victims by job
 
 -- of each victim's job one is kept
-one_first : (xs : List Victim) (v : Victim) → IsOneOf v xs → (u : Victim) × IsOneOf u (first_each same_victim_job xs) × (u.0 ≡ v.0) × (u.1.1.job ≡ v.1.1.job)
+one_first : (xs : List Victim) (v : Victim) → Has xs v → (u : Victim) × Has (first_each same_victim_job xs) u × (u.0 ≡ v.0) × (u.1.1.job ≡ v.1.1.job)
 one_first [] v h = absurd h
-one_first (x ∷ xs) v (inl e) = (x, inl refl, ap (λ (v : Victim). v.0) (sym e), ap (λ (v : Victim). v.1.1.job) (sym e))
+one_first (x ∷ xs) v (inl e) = (x, inl refl, ap (λ (v : Victim). v.0) e, ap (λ (v : Victim). v.1.1.job) e)
 one_first (x ∷ xs) v (inr h) = by (one_first xs v h)
   where
     rest : List Victim
     rest = first_each same_victim_job xs
 
-    by : (u : Victim) × IsOneOf u (first_each same_victim_job xs) × (u.0 ≡ v.0) × (u.1.1.job ≡ v.1.1.job) →
-        (u : Victim) × IsOneOf u (x ∷ filter (λ y. not (same_victim_job x y)) (first_each same_victim_job xs)) × (u.0 ≡ v.0) × (u.1.1.job ≡ v.1.1.job)
+    by : (u : Victim) × Has (first_each same_victim_job xs) u × (u.0 ≡ v.0) × (u.1.1.job ≡ v.1.1.job) →
+        (u : Victim) × Has (x ∷ filter (λ y. not (same_victim_job x y)) (first_each same_victim_job xs)) u × (u.0 ≡ v.0) × (u.1.1.job ≡ v.1.1.job)
     by r = which (same_victim_job x r.0) refl
       where
         which : (b : Bool) → same_victim_job x r.0 ≡ b →
-            (u : Victim) × IsOneOf u (x ∷ filter (λ y. not (same_victim_job x y)) (first_each same_victim_job xs)) × (u.0 ≡ v.0) × (u.1.1.job ≡ v.1.1.job)
+            (u : Victim) × Has (x ∷ filter (λ y. not (same_victim_job x y)) (first_each same_victim_job xs)) u × (u.0 ≡ v.0) × (u.1.1.job ≡ v.1.1.job)
         which true t = (
           x,
           inl refl,
           same_name_is x.0 r.0.0 (first_of_both (same_name x.0 r.0.0) _ t) ∙ r.2,
           same_name_is x.1.1.job r.0.1.1.job (second_of_both (same_name x.0 r.0.0) _ t) ∙ r.3,
         )
-        which false t = (r.0, inr (one_filter (λ y. not (same_victim_job x y)) (first_each same_victim_job xs) r.0 r.1 (ap not t)), r.2, r.3)
+        which false t = (r.0, inr (filter_has (λ y. not (same_victim_job x y)) (first_each same_victim_job xs) r.0 r.1 (ap not t)), r.2, r.3)
 
 pub least_job : (victims : List Victim) (v : Victim) → (least_of_job victims v).job ≡ v.1.1.job
 least_job victims v = by (least (map (λ x. x.1) (filter (same_victim_job v) victims))) refl
@@ -289,10 +270,10 @@ module _ (w : World) (step : Step) (kept : Snapshot) (applies : AppliesPlan w st
   -- a placement on a committed node evicts the allocation at the key
   record Falls (committed : List ℕ) (key : Key) : Type 0 where
     placement : Placement
-    planned : IsOneOf placement ps
+    planned : Has ps placement
     on : has_number committed placement.node ≡ true
     eviction : Eviction
-    is_one : IsOneOf eviction placement.evictions
+    is_one : Has placement.evictions eviction
     counted : counts stopped kept.pool (node_name kept placement.node) eviction ≡ true
     of_it : key ≡ victim_key eviction
 
@@ -333,9 +314,9 @@ module _ (w : World) (step : Step) (kept : Snapshot) (applies : AppliesPlan w st
         by false e (inl same) = inl (at_key key false e ∙ same_row (allocation_at c.world key) ∙ same)
         by true e (inl same) =
             let r = of_keys victim_key vs key e in
-            let p = of_flat_map (victims_in c.world kept) (part_of k ps) r.0 r.1 in
-            let q = of_filter (counts c.world kept.pool (node_name kept p.0.node)) p.0.evictions r.0 p.2 in
-            let part = of_filter (λ p. same_number p.node k) ps p.0 p.1 in
+            let p = has_flat (victims_in c.world kept) r.0 (part_of k ps) r.1 in
+            let q = has_filter (counts c.world kept.pool (node_name kept p.0.node)) p.0.evictions r.0 p.2 in
+            let part = has_filter (λ p. same_number p.node k) ps p.0 p.1 in
             inr (record {
               placement = p.0;
               planned = part.0;
@@ -460,10 +441,10 @@ module _ (w : World) (step : Step) (kept : Snapshot) (applies : AppliesPlan w st
         let job : c.0.job ≡ a.job = ap (λ (a : Allocation). a.job)
         (same_Some c.0 (row (has_key stop_keys key)) (sym c.1 ∙ ap (allocation_at stopped) (sym f.of_it) ∙ after_stops)) ∙ its_job (has_key stop_keys key) in
         let v : Victim = (f.eviction.namespace, (f.eviction.number, c.0)) in
-        let among : IsOneOf v victims = one_filter_map (victim_at stopped) (victims_of stopped kept placed) f.eviction v
-        (one_flat_map (victims_in stopped kept) placed f.placement f.eviction
-        (one_filter (λ p. has_number decided.committed p.node) ps f.placement f.planned f.on)
-        (one_filter (counts stopped kept.pool (node_name kept f.placement.node)) f.placement.evictions f.eviction f.is_one f.counted))
+        let among : Has victims v = filter_map_has (victim_at stopped) (victims_of stopped kept placed) f.eviction v
+        (flat_has (victims_in stopped kept) f.eviction placed f.placement
+        (filter_has (λ p. has_number decided.committed p.node) ps f.placement f.planned f.on)
+        (filter_has (counts stopped kept.pool (node_name kept f.placement.node)) f.placement.evictions f.eviction f.is_one f.counted))
         (ap (option_map (λ a. (f.eviction.namespace, (f.eviction.number, a)))) c.1) in
         let r = one_first victims v among in
         let its = allocation_row w key a lives.0 in (

@@ -47,12 +47,12 @@ use Rattle.ns_types.proofs.Tests.{not_Some, same_Some, is_yes}
 use Rattle.ns_audit.proofs.Steady.Keeping.{row_of_map}
 use Rattle.ns_audit.proofs.Valid.{opening_is_valid, valid_step}
 use Rattle.ns_laws.specs.Indexes as law
-use Rattle.ns_laws.specs.Indexes.{Spans, Rests, Rises, Ascends, IsStamped, WasEvaluation, WasAllocation}
+use Rattle.ns_laws.specs.Indexes.{Rests, Rises, Ascends, IsStamped, WasEvaluation, WasAllocation}
 use Rattle.ns_laws.proofs.BegunRows.{BeginsIn, Begun, Ends, IsDated, act_begins, ends, goes, stays}
 use Rattle.ns_laws.proofs.DocumentLemmas.{document_is, client_is}
 use Rattle.ns_laws.proofs.EffectRows.{settled_rows, settled_tenant}
-use Rattle.ns_laws.proofs.ReadsLemmas.{has_row, map_has}
-use Rattle.ns_laws.proofs.SecretsLemmas.{Has, append_has, contains_from, filter_has}
+use Rattle.ns_laws.proofs.Elements.{Has, append_has, contains_from, filter_has, map_has}
+use Rattle.ns_laws.proofs.ReadsLemmas.{has_row}
 use Rattle.ns_audit.proofs.StepLemmas.{made, refusal_leaves_all}
 
 -- ---- rows that are not changed
@@ -121,9 +121,6 @@ flag_one true false e = not_both e refl
 flag_one false true e = not_both e refl
 flag_one false false e = refl
 
-number_one : (a b : ℕ) → same_number a b ≡ true → a ≡ b
-number_one a b e = tied one_number a b e
-
 option_one : {X : Type 0} (same : X → X → Bool) → ((a b : X) → same a b ≡ true → a ≡ b) → (a b : Option X) → option_eq same a b ≡ true → a ≡ b
 option_one same is None None e = refl
 option_one same is None (Some b) e = not_both e refl
@@ -131,7 +128,7 @@ option_one same is (Some a) None e = not_both e refl
 option_one same is (Some a) (Some b) e = ap Some (is a b e)
 
 resources_one : (a b : Resources) → same_resources a b ≡ true → a ≡ b
-resources_one a b e = same_amounts a b (λ r. number_one (quantity r a) (quantity r b) (true_at (λ r. same_number (quantity r a) (quantity r b)) e r))
+resources_one a b e = same_amounts a b (λ r. tied one_number (quantity r a) (quantity r b) (true_at (λ r. same_number (quantity r a) (quantity r b)) e r))
 
 -- the last of several tests, and those before it
 module _ (a b : Bool) (e : (a && b) ≡ true) where
@@ -154,9 +151,9 @@ same_job_is a b e =
     let two = former (d && s) v three in
     let document = document_is a.document b.document (former d s two) in
     let stop = flag_one a.stop b.stop (latter d s two) in
-    let version = number_one a.version b.version (latter (d && s) v three) in
-    let created = number_one a.create_index b.create_index (latter (d && s && v) c four) in
-    let modified = number_one a.modify_index b.modify_index (latter (d && s && v && c) m e) in
+    let version = tied one_number a.version b.version (latter (d && s) v three) in
+    let created = tied one_number a.create_index b.create_index (latter (d && s && v) c four) in
+    let modified = tied one_number a.modify_index b.modify_index (latter (d && s && v && c) m e) in
     λ i. record { document = document i; stop = stop i; version = version i; create_index = created i; modify_index = modified i }
 
 same_evaluation_was : (old : Tenant) (n : ℕ) (a b : Evaluation) → get old.evaluations n ≡ Some a → same_evaluation a b ≡ true → WasEvaluation old n b
@@ -184,12 +181,12 @@ same_evaluation_was old n a b was e =
       was = was;
       job = sym (same_name_is a.job b.job (former j k two));
       kind = sym (kind_one a.kind b.kind (latter j k two));
-      priority = sym (number_one a.priority b.priority (latter (j && k) p three));
+      priority = sym (tied one_number a.priority b.priority (latter (j && k) p three));
       pool = sym (same_name_is a.pool b.pool (latter (j && k && p) o four));
       trigger = sym (trigger_one a.trigger b.trigger (latter (j && k && p && o) t five));
       status = sym (status_one a.status b.status (latter (j && k && p && o && t) s six));
-      previous = sym (option_one same_number number_one a.previous b.previous (latter (j && k && p && o && t && s) r seven));
-      follower = sym (option_one same_number number_one a.follower b.follower (latter (j && k && p && o && t && s && r) f eight));
+      previous = sym (option_one same_number (tied one_number) a.previous b.previous (latter (j && k && p && o && t && s) r seven));
+      follower = sym (option_one same_number (tied one_number) a.follower b.follower (latter (j && k && p && o && t && s && r) f eight));
       quota = sym (option_one same_name same_name_is a.quota b.quota (latter (j && k && p && o && t && s && r && f) q nine));
       escapes = sym (flag_one a.escapes b.escapes (latter (j && k && p && o && t && s && r && f && q) x e));
     }
@@ -219,12 +216,12 @@ same_allocation_was old n a b was e =
       was = was;
       job = sym (same_name_is a.job b.job (former j g two));
       group = sym (same_name_is a.group b.group (latter j g two));
-      evaluation = sym (number_one a.evaluation b.evaluation (latter (j && g) v three));
+      evaluation = sym (tied one_number a.evaluation b.evaluation (latter (j && g) v three));
       pool = sym (same_name_is a.pool b.pool (latter (j && g && v) o four));
       node = sym (same_name_is a.node b.node (latter (j && g && v && o) d five));
       size = sym (resources_one a.size b.size (latter (j && g && v && o && d) z six));
-      priority = sym (number_one a.priority b.priority (latter (j && g && v && o && d && z) p seven));
-      job_modify_index = sym (number_one a.job_modify_index b.job_modify_index (latter (j && g && v && o && d && z && p) m eight));
+      priority = sym (tied one_number a.priority b.priority (latter (j && g && v && o && d && z) p seven));
+      job_modify_index = sym (tied one_number a.job_modify_index b.job_modify_index (latter (j && g && v && o && d && z && p) m eight));
       desired = sym (desired_one a.desired b.desired (latter (j && g && v && o && d && z && p && m) w nine));
       client = sym (client_is a.client b.client (latter (j && g && v && o && d && z && p && m && w) c e));
     }

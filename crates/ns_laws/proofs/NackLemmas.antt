@@ -26,7 +26,7 @@ use Rattle.ns_types.proofs.TableRows.{apart, get_other, get_put}
 use Rattle.ns_types.proofs.Tables.{get-map_rows}
 use Rattle.ns_audit.proofs.Alone.Sides.{act_is}
 use Rattle.ns_laws.specs.Workers as law
-use Rattle.ns_laws.specs.Workers.{GivesUp, HasEvaluation, IsNacked, KeepsOtherWorkers, MayPromote, next, none_pending, one_taken, NackLeads, again, fails}
+use Rattle.ns_laws.specs.Workers.{GivesUp, HasEvaluation, IsNacked, MayPromote, next, none_pending, one_taken, NackLeads, again, fails}
 use Rattle.ns_laws.proofs.EffectRows.{Does, does_if, put_there, stamp_keeps, stamped_former}
 use Rattle.ns_laws.specs.Woken.{IsTaken}
 use Rattle.ns_laws.proofs.OrderedLemmas.{first_waiting_is_least, none_waits_of_none}

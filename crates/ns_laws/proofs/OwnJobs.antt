@@ -27,11 +27,12 @@ use Rattle.ns_types.proofs.Tests.{not_Some, same_Some}
 use Rattle.ns_audit.proofs.Steady.Opening.{only_row}
 use Rattle.ns_audit.proofs.StepLemmas.{refusal_leaves_all}
 use Rattle.ns_audit.proofs.Valid.{opening_is_valid, reached_is_valid, valid_step}
-use Rattle.ns_laws.specs.Ending.{Ends, IsDeletionOf, IsOneOf, IsPlannedStop, IsSameAllocation, evicted, lost, planned, reported, requested}
+use Rattle.ns_laws.specs.Ending.{Ends, IsDeletionOf, IsPlannedStop, IsSameAllocation, evicted, lost, planned, reported, requested}
 use Rattle.ns_laws.specs.Planning as law
 use Rattle.ns_laws.specs.Planning.{EndsInApply, IsOwnStill, IsOwnStop, IsToStop, SnapshotsAreOwn}
 use Rattle.ns_laws.proofs.AdminEffectsLemmas.{deleted_namespace_is_gone}
 use Rattle.ns_laws.proofs.ApplyRowsLemmas.{each_slice}
+use Rattle.ns_laws.proofs.Elements.{each_has, has_from}
 use Rattle.ns_laws.proofs.EndingLemmas.{allocation_is_fixed, ends_only_so, gone_with_namespace}
 use Rattle.ns_laws.proofs.PlanningLemmas.{stops_not_wanted}
 use Rattle.ns_laws.proofs.ServingLists.{worker_in}
@@ -172,11 +173,6 @@ snapshots_keep_own_job secret s steps answers named good run =
 
 -- ---- Apply
 
-each_one : {A : Type 0} (P : A → Type 0) (xs : List A) (x : A) → IsOneOf x xs → Each P xs → P x
-each_one P [] x h all = absurd h
-each_one P (y ∷ xs) x (inl e) all = subst P (sym e) all.0
-each_one P (y ∷ xs) x (inr h) all = each_one P xs x h all.1
-
 is_apply : Step → Bool
 is_apply (Step.Apply number ns) = true
 is_apply _ = false
@@ -199,7 +195,8 @@ module _ (s : State) (valid : IsValid s) (all : SnapshotsAreOwn s.world) (number
       let t = worker_in s.world p.applies.number key.0 p.applies.worker p.applies.is_worker in
       let sound : IsSoundSnapshot s.world key.0 t.0 p.applies.worker p.kept =
       ((valid.world.tenant key.0 t.0 t.1).worker p.applies.number p.applies.worker t.2).snapshot p.kept p.applies.is_kept in
-      let stop : IsToStop p.kept key.1 = each_one (IsToStop p.kept) (plan p.kept).stops key.1 p.is_stop (stops_not_wanted p.kept) in
+      let stop : IsToStop p.kept key.1 = each_has (IsToStop p.kept) (plan p.kept).stops key.1
+      (has_from (plan p.kept).stops key.1 p.is_stop.0 p.is_stop.1 p.is_stop.2) (stops_not_wanted p.kept) in
       let own : IsOwnStill t.0 p.kept.evaluation.job stop.row =
       each_slice (IsOwnStill t.0 p.kept.evaluation.job) p.kept.own
       (all key.0 t.0 p.applies.number p.applies.worker p.kept t.1 t.2 p.applies.is_kept) stop.place stop.row stop.is_row in

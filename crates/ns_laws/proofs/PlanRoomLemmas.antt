@@ -1,12 +1,11 @@
--- The limits that a plan reports, and that it keeps to the nodes' capacities and to the quota.
-use Rattle.std.specs.Prelude.{◌≡◌, ◌≢◌, ◌⊎◌, ℕ, zero, suc, ◌+◌, ◌-◌, ◌<◌, ◌≤◌, ◌==◌, Bool, true, false, cond, not, ◌&&◌}
+-- The limits that a plan reports, and that it keeps to the quota.
+use Rattle.std.specs.Prelude.{◌≡◌, ◌≢◌, ◌⊎◌, ℕ, zero, suc, ◌+◌, ◌-◌, ◌<◌, ◌==◌, Bool, true, false, cond, not, ◌&&◌}
 use Rattle.std.specs.Prelude.{List, [], ◌∷◌, Option, Some, None, count_by, filter, length, map, option_map, slice_get, sum_by}
 use Rattle.std.specs.Option.{option_map_or, unwrap_or}
 use Rattle.std.specs.Str.{bytes_eq}
 use Rattle.std.proofs.Common.{refl, sym, ap, subst, ◌∙◌, arith, inl, inr}
-use Rattle.std.proofs.lemmas.Bool.{eq-eqb, eqb-true, eqb-false}
+use Rattle.std.proofs.lemmas.Bool.{eq-eqb}
 use Rattle.std.proofs.lemmas.List.Sums.{sum_by-cons}
-use Rattle.std.proofs.lemmas.Option.{slice_get-map}
 use Rattle.ns_types.specs.declared.job.Group.{Group}
 use Rattle.ns_types.specs.declared.job.Job.{Job}
 use Rattle.ns_types.specs.declared.plan.Demand.{Demand}
@@ -19,25 +18,21 @@ use Rattle.ns_types.specs.declared.snapshot.LiveAllocation.{LiveAllocation}
 use Rattle.ns_types.specs.declared.snapshot.OwnAllocation.{OwnAllocation}
 use Rattle.ns_types.specs.declared.snapshot.QuotaSeen.{QuotaSeen}
 use Rattle.ns_types.specs.declared.snapshot.Snapshot.{Snapshot}
-use Rattle.ns_types.specs.Placing.Placement.{Candidate}
-use Rattle.ns_types.specs.Placing.Plan.{candidate_of, is_among, no_quota, opening, placing_of, plan, quota_of, stays, staying}
+use Rattle.ns_types.specs.Placing.Plan.{is_among, no_quota, opening, placing_of, plan, quota_of, stays}
 use Rattle.ns_types.specs.Placing.Planning.{Choice, Site, after, choice, counts_for, ended_by_quota}
-use Rattle.ns_types.specs.Placing.Planning.{eviction_of, place, placed_on, placement_of, then_rest, update, without_one}
+use Rattle.ns_types.specs.Placing.Planning.{eviction_of, place, placement_of, then_rest, update, without_one}
 use Rattle.ns_types.specs.Placing.Wanted.{demands, demands_from, stopping}
 use Rattle.ns_types.specs.State.Lists.{Each}
 use Rattle.ns_types.specs.State.Names.{has_number, same_number}
 use Rattle.ns_types.specs.State.Resources.{Resource, limit_allows, limit_on, limits_allow, plus, quantity, total}
-use Rattle.ns_types.proofs.Amounts.{quantity_of, true_at, within_at}
+use Rattle.ns_types.proofs.Amounts.{quantity_of, true_at}
 use Rattle.ns_types.proofs.Elements.{any_map, any_same}
 use Rattle.ns_types.proofs.Lists.{each_map, not_both}
-use Rattle.ns_types.proofs.Named.{number_ties, one_number, other_number, second_of_both, same_number_refl}
-use Rattle.ns_types.proofs.Sums.{sum_kept}
+use Rattle.ns_types.proofs.Named.{number_ties, one_number, other_number, same_number_refl}
 use Rattle.ns_types.proofs.Tables.{tied}
 use Rattle.ns_types.proofs.Tests.{not_Some, same_Some}
 use Rattle.ns_audit.proofs.ValidAllocations.Sound.{le_by}
-use Rattle.ns_laws.specs.Placement as chosen
 use Rattle.ns_laws.specs.Planning as law
-use Rattle.ns_laws.proofs.PlacementLemmas.{room_before_victims, victims_are_fewest}
 use Rattle.ns_laws.proofs.PlanningLemmas.{places_count, wanted_at, missing_is, placing_is, all_demands_of}
 
 -- ---- limits
@@ -167,7 +162,7 @@ limits_are_real s = record { one = one; quota = quota; short = short }
     short : ((plan s).placing.quota_limited ≡ true) ⊎ ((plan s).placing.class_limited ≡ true) → law.StaysShort s
     short l = short_of s.job refl l
 
--- ---- room
+-- ---- what a plan changes, and what it stops
 
 module _ {X : Type 0} where
   -- another element than the one that is changed stays
@@ -190,72 +185,6 @@ none_mapped f (x ∷ xs) e = absurd (some_length e)
     some_length : f x ∷ map f xs ≡ [] → ⊥
     some_length e = let l = ap length e in omega (arith, l)
 
-module _ (q : QuotaSeen) (r : Resource) (k : ℕ) where
-  abbrev on_it : List Placement → List Placement
-  on_it ps = filter (λ p. p.node == k) ps
-
-  abbrev taken_of : List Placement → ℕ
-  taken_of ps = sum_by (λ p. quantity r p.size) (on_it ps)
-
-  -- a choice without victims is a node with room
-  room_without : (size : Resources) (cs : List Candidate) (ch : Choice) (c : Candidate) → choice size cs ≡ Some ch → slice_get cs ch.node ≡ Some c
-      → ch.victims ≡ [] → quantity r size ≤ quantity r c.left
-  room_without size cs ch c e at none = by (room_before_victims size cs ch e) at none
-    where
-      by : {ch : Choice} → chosen.IsChoice size cs ch → slice_get cs ch.node ≡ Some c → ch.victims ≡ [] → quantity r size ≤ quantity r c.left
-      by (chosen.room k is) at none = subst (λ (c : Candidate). quantity r size ≤ quantity r c.left) (same_Some is.node c (sym is.there ∙ at))
-          (within_at size is.node.left (second_of_both is.node.feasible _ is.fitting) r)
-      by (chosen.preempted k is none_fit) at none =
-          let are = victims_are_fewest size is.node is.gone is.give_way in
-          let room = within_at size (plus is.node.left (total (λ a. a.size) is.gone)) are.make_room r in
-          let sum = quantity_of (λ r. quantity r is.node.left + sum_by (λ (a : LiveAllocation). quantity r a.size) is.gone) r in
-          let nothing : sum_by (λ (a : LiveAllocation). quantity r a.size) is.gone ≡ 0 = ap (sum_by (λ (a : LiveAllocation). quantity r a.size)) none in
-          let left : quantity r is.node.left ≡ quantity r c.left = ap (λ (c : Candidate). quantity r c.left) (same_Some is.node c (sym is.there ∙ at)) in
-          let whole = quantity_of (λ r. sum_by (λ (a : LiveAllocation). quantity r a.size) is.gone) r in
-          omega (arith, room, sum, nothing, left, whole)
-
-  left_after : (size : Resources) (gone : List LiveAllocation) (c : Candidate) → gone ≡ [] → quantity r (placed_on size gone c).left ≡ quantity r c.left - quantity r size
-  left_after size gone c none =
-      let less = quantity_of (λ r. quantity r (plus c.left (total (λ (a : LiveAllocation). a.size) gone)) - quantity r size) r in
-      let sum = quantity_of (λ r. quantity r c.left + quantity r (total (λ (a : LiveAllocation). a.size) gone)) r in
-      let whole = quantity_of (λ r. sum_by (λ (a : LiveAllocation). quantity r a.size) gone) r in
-      let nothing : sum_by (λ (a : LiveAllocation). quantity r a.size) gone ≡ 0 = ap (sum_by (λ (a : LiveAllocation). quantity r a.size)) none in
-      omega (arith, less, sum, whole, nothing)
-
-  -- without evictions there, what is placed on a node is within what is left of it
-  places_within : (ds : List Demand) (w : Site) (c : Candidate) → slice_get w.candidates k ≡ Some c → Each (λ p. p.evictions ≡ []) (on_it (place q ds w).placements)
-      → taken_of (place q ds w).placements ≤ quantity r c.left
-  places_within [] w c at none = omega arith
-  places_within (d ∷ ds) w c at none = by (limits_allow q.limits (plus w.used d.size)) (choice d.size w.candidates) refl (places_within ds) none
-    where
-      one : (ch : Choice) → choice d.size w.candidates ≡ Some ch → (b : Bool) → (ch.node == k) ≡ b
-          → ((w : Site) (c : Candidate) → slice_get w.candidates k ≡ Some c → Each (λ p. p.evictions ≡ []) (on_it (place q ds w).placements)
-          → taken_of (place q ds w).placements ≤ quantity r c.left)
-          → let rest = on_it (place q ds (after q d.size ch w)).placements in
-          Each (λ p. p.evictions ≡ []) (cond b (placement_of d ch ∷ rest) rest)
-          → sum_by (λ p. quantity r p.size) (cond b (placement_of d ch ∷ rest) rest) ≤ quantity r c.left
-      one ch is true same later none =
-          let here : ch.node ≡ k = eqb-true ch.node k same in
-          let no_victims = none_mapped eviction_of ch.victims none.0 in
-          let fits = room_without d.size w.candidates ch c is (ap (slice_get w.candidates) here ∙ at) no_victims in
-          let left = left_after d.size ch.victims c no_victims in
-          let rest = later (after q d.size ch w) (placed_on d.size ch.victims c)
-          (ap (λ i. slice_get (update i (placed_on d.size ch.victims) w.candidates) k) here ∙ this_changed (placed_on d.size ch.victims) k w.candidates c at) none.1 in
-          let whole = sum_by-cons (λ (p : Placement). quantity r p.size) (placement_of d ch) (on_it (place q ds (after q d.size ch w)).placements) in
-          omega (arith, fits, left, rest, whole)
-      one ch is false other later none = later (after q d.size ch w) c (other_stays (placed_on d.size ch.victims) ch.node k (eqb-false ch.node k other) w.candidates ∙ at) none
-
-      by : (b : Bool) (o : Option Choice) → choice d.size w.candidates ≡ o
-          → ((w : Site) (c : Candidate) → slice_get w.candidates k ≡ Some c → Each (λ p. p.evictions ≡ []) (on_it (place q ds w).placements)
-          → taken_of (place q ds w).placements ≤ quantity r c.left)
-          → Each (λ p. p.evictions ≡ []) (on_it (cond b (option_map_or (λ (s : Placement × Site). then_rest s.0 (place q ds s.1)) (option_map (λ ch. (placement_of d ch, after q d.size ch w)) o)
-          (without_one (place q ds w))) ended_by_quota).placements)
-          → taken_of (cond b (option_map_or (λ (s : Placement × Site). then_rest s.0 (place q ds s.1)) (option_map (λ ch. (placement_of d ch, after q d.size ch w)) o)
-          (without_one (place q ds w))) ended_by_quota).placements ≤ quantity r c.left
-      by false o is later none = omega arith
-      by true None is later none = later w c at none
-      by true (Some ch) is later none = one ch is (ch.node == k) refl later none
-
 -- the stops are known by their numbers
 pub stopped_is : (s : Snapshot) (a : LiveAllocation) → stays s.namespace (stopping s.job s.own) a ≡ not (law.is_stopped s a)
 unfolding plan
@@ -272,49 +201,7 @@ stopped_is s a = ap (λ b. not (bytes_eq a.namespace s.namespace && b)) (among (
             by true e = ap (same_number m) (tied one_number n m e) ∙ same_number_refl m
             by false e = other_number m n (λ same. not_both (ap (same_number n) same ∙ same_number_refl n) e)
 
-pub plans_within_capacity : law.PlansWithinCapacity
-unfolding plan
-plans_within_capacity s k node r at room none = by s.job refl
-  where
-    load : sum_by (λ a. quantity r a.size) (staying s.namespace (stopping s.job s.own) node.live) ≤ sum_by (λ a. quantity r a.size) node.live
-    load = sum_kept (λ (a : LiveAllocation). quantity r a.size) (stays s.namespace (stopping s.job s.own)) node.live
-
-    same_load : filter (λ a. not (law.is_stopped s a)) node.live ≡ staying s.namespace (stopping s.job s.own) node.live
-    same_load = filter_same (λ a. not (law.is_stopped s a)) (stays s.namespace (stopping s.job s.own)) (λ a. sym (stopped_is s a)) node.live
-      where
-        filter_same : (f g : LiveAllocation → Bool) → ((a : LiveAllocation) → f a ≡ g a) → (xs : List LiveAllocation) → filter f xs ≡ filter g xs
-        filter_same f g e [] = refl
-        filter_same f g e (x ∷ xs) = λ i. cond (e x i) (x ∷ filter_same f g e xs i) (filter_same f g e xs i)
-
-    whole : (ps : List Placement) → sum_by (λ a. quantity r a.size) (staying s.namespace (stopping s.job s.own) node.live) + sum_by (λ p. quantity r p.size)
-        (filter (λ p. p.node == k) ps) ≤ quantity r node.row.offer.capacity
-        → sum_by (λ a. quantity r a.size) (filter (λ a. not (law.is_stopped s a)) node.live) + sum_by (λ p. quantity r p.size) (filter (λ p. p.node == k) ps)
-        ≤ quantity r node.row.offer.capacity
-    whole ps h = subst (λ xs. sum_by (λ (a : LiveAllocation). quantity r a.size) xs + sum_by (λ p. quantity r p.size) (filter (λ p. p.node == k) ps)
-        ≤ quantity r node.row.offer.capacity) (sym same_load) h
-
-    placing : (o : Option Job) → s.job ≡ o → (plan s).placing.placements ≡ (placing_of s o (stopping s.job s.own)).placements
-    placing o is = ap (λ o. (placing_of s o (stopping s.job s.own)).placements) is
-
-    fit : (o : Option Job) → s.job ≡ o → Each (λ p. p.evictions ≡ []) (filter (λ p. p.node == k) (placing_of s o (stopping s.job s.own)).placements)
-        → sum_by (λ a. quantity r a.size) (staying s.namespace (stopping s.job s.own) node.live)
-        + sum_by (λ p. quantity r p.size) (filter (λ p. p.node == k) (placing_of s o (stopping s.job s.own)).placements) ≤ quantity r node.row.offer.capacity
-    fit None is none = let l = load in omega (arith, l, room)
-    fit (Some j) is none =
-        let c = candidate_of j s.namespace (stopping s.job s.own) node in
-        let there = slice_get-map (candidate_of j s.namespace (stopping s.job s.own)) s.nodes k ∙ ap (option_map (candidate_of j s.namespace (stopping s.job s.own))) at in
-        let within = places_within (quota_of s) r k (demands (Some j) s.own) (opening s j (stopping s.job s.own)) c there none in
-        let left = quantity_of (λ r. quantity r node.row.offer.capacity - quantity r (total (λ (a : LiveAllocation). a.size)
-        (staying s.namespace (stopping s.job s.own) node.live))) r in
-        let sum = quantity_of (λ r. sum_by (λ (a : LiveAllocation). quantity r a.size) (staying s.namespace (stopping s.job s.own) node.live)) r in
-        let l = load in
-        omega (arith, within, left, sum, l, room)
-
-    by : (o : Option Job) → s.job ≡ o → sum_by (λ a. quantity r a.size) (filter (λ a. not (law.is_stopped s a)) node.live)
-        + sum_by (λ p. quantity r p.size) (law.placed_at s k) ≤ quantity r node.row.offer.capacity
-    by o is = whole (plan s).placing.placements (subst (λ ps. sum_by (λ a. quantity r a.size) (staying s.namespace (stopping s.job s.own) node.live)
-        + sum_by (λ p. quantity r p.size) (filter (λ p. p.node == k) ps) ≤ quantity r node.row.offer.capacity) (sym (placing o is))
-        (fit o is (subst (λ ps. Each (λ (p : Placement). p.evictions ≡ []) (filter (λ p. p.node == k) ps)) (placing o is) none)))
+-- ---- the quota
 
 pub allows_is : (limit : Limit) (n : ℕ) → limit_allows limit n ≡ true → law.Allows limit n
 allows_is Unlimited n e = tt

@@ -1,7 +1,7 @@
 -- What reads answer and show.
 use Rattle.std.specs.Prelude.{◌≡◌, ℕ, Bool, true, false, cond, ◌&&◌, ◌||◌, T, List, [], ◌∷◌, Option, Some, None, Ok, Err, filter, map}
 use Rattle.std.specs.Prelude.{flat_map, is_some, option_map, sum_by, nat_le, nat_eq, drop, length}
-use Rattle.std.proofs.Common.{refl, sym, ap, subst, ◌∙◌, inl, inr}
+use Rattle.std.proofs.Common.{refl, sym, ap, subst, ◌∙◌}
 use Rattle.std.specs.FinMap.{FinMap, IsAntisymmetric, get, entries, entries_sorted, get-entries, values}
 use Rattle.std.specs.FinMap.Entries.{below_all, is_sorted}
 use Rattle.std.specs.Cmp.{IsTotalOrder}
@@ -61,11 +61,11 @@ use Rattle.ns_types.proofs.Sums.{sum_filter, sum_flat, sum_map, sum_same}
 use Rattle.ns_types.proofs.Tables.{each_row, less_by, none_of_any}
 use Rattle.ns_types.proofs.Tests.{first, second}
 use Rattle.ns_laws.specs.Reads as law
-use Rattle.ns_laws.specs.Reads.{ShowsOf, ShowsOne, ShowsRow, ShowsRows, Rises, BeginsWith, HasLive, HasStatus}
+use Rattle.ns_laws.specs.Reads.{ShowsOf, ShowsOne, ShowsRow, ShowsRows, Rises, BeginsWith, HasLive, HasJobStatus}
 use Rattle.ns_laws.proofs.Elements.{filter_in_order}
 use Rattle.ns_laws.proofs.EffectRows.{Does, does_found, does_if, does_of, does_lift, after_does}
 use Rattle.ns_audit.proofs.RefusalLemmas.{after_allowed, same_refusal}
-use Rattle.ns_laws.proofs.SecretsLemmas.{Has, contains_from, filter_has, has_from}
+use Rattle.ns_laws.proofs.Elements.{Has, contains_from, filter_has, has_each, has_from, map_has}
 use Rattle.ns_audit.proofs.StepLemmas.{not_refused, same_answer}
 use Rattle.ns_laws.proofs.TokenLemmas.{Leaves, idle, settled_idle}
 
@@ -254,16 +254,6 @@ module _ (ns : Name) (secret : Option Name) (command : AskCommand) (s s' : State
 
 -- ---- lists of rows
 
-module _ {X : Type 0} where
-  pub has_each : (xs : List X) → Each (λ x. Has xs x) xs
-  has_each [] = tt
-  has_each (x ∷ xs) = (inl refl, each_map (λ y h. inr h) xs (has_each xs))
-
-pub map_has : {X Y : Type 0} (f : X → Y) (xs : List X) (x : X) → Has xs x → Has (map f xs) (f x)
-map_has f [] x h = absurd h
-map_has f (y ∷ ys) x (inl e) = inl (ap f e)
-map_has f (y ∷ ys) x (inr h) = inr (map_has f ys x h)
-
 pub has_row : {K X : Type 0} {R : K → K → Ordering} → IsAntisymmetric R → (m : FinMap R X) (k : K) (x : X) → get m k ≡ Some x → Has (entries m) (k, x)
 has_row same m k x at = each_found same (Has (entries m)) (entries m) (has_each (entries m)) k x (sym (get-entries m k) ∙ at)
 
@@ -353,12 +343,12 @@ module _ (t : Tenant) (id : Name) where
   has_none e h = not_both (ap (λ b. b && is_live h.row) (ap (same_name id) h.is_its ∙ same_name_refl id) ∙ h.lives)
       (none_of_any one_number is_its_live t.allocations h.number h.row e h.is_row)
 
-  has_status : (job : Job) → HasStatus t id job (job_status t id job)
+  has_status : (job : Job) → HasJobStatus t id job (job_status t id job)
   unfolding is_its_live
   has_status job = by job.stop (any_row is_its_live t.allocations) refl refl
     where
       by : (b c : Bool) → job.stop ≡ b → any_row is_its_live t.allocations ≡ c →
-          HasStatus t id job (cond b JobStatus.Dead (cond c JobStatus.Running JobStatus.Pending))
+          HasJobStatus t id job (cond b JobStatus.Dead (cond c JobStatus.Running JobStatus.Pending))
       by true c e f = e
       by false true e f = (e, has_live f)
       by false false e f = (e, has_none f)

@@ -1,8 +1,6 @@
 -- For whom a secret stands, what its policies grant, and which right each request needs.
-use Rattle.std.specs.Prelude.{◌≡◌, ◌⊎◌, ℕ, zero, suc, ◌<◌, Bool, true, false, cond, ◌||◌, List, [], ◌∷◌}
-use Rattle.std.specs.Prelude.{◌++◌, length, filter, flat_map, slice_index_or, Option, Some, None}
-use Rattle.std.specs.Prelude.{IsFalse}
-use Rattle.std.proofs.Common.{refl, sym, ap, subst, ◌∙◌, inl, inr, arith}
+use Rattle.std.specs.Prelude.{◌≡◌, Bool, true, false, ◌||◌, IsFalse, List, [], flat_map, Option, Some, None}
+use Rattle.std.proofs.Common.{refl, sym, ap, subst, ◌∙◌}
 use Rattle.std.specs.FinMap.{get}
 use Rattle.std.specs.List.{Contains}
 use Rattle.std.specs.Option.{option_map_or}
@@ -24,6 +22,7 @@ use Rattle.ns_types.specs.State.Names.{Name}
 use Rattle.ns_types.specs.State.Rows.{Acl}
 use Rattle.ns_types.proofs.Lists.{not_both}
 use Rattle.ns_laws.specs.Secrets as law
+use Rattle.ns_laws.proofs.Elements.{Has, contains_from, filter_has, flat_has, has_filter, has_flat, has_from}
 use Rattle.ns_audit.proofs.RefusalLemmas.{denied_without_right}
 use Rattle.ns_audit.proofs.RightsLemmas.{denied_without}
 
@@ -109,70 +108,6 @@ pool_rights_are_granted acl secret policies pool has =
     record { read = ap (λ (r : PoolRights). r.read) is; write = ap (λ (r : PoolRights). r.write) is }
 
 -- ---- the rules of policies
-
-module _ {X : Type 0} where
-  abbrev pub Has : List X → X → Type 0
-  Has [] x = ⊥
-  Has (y ∷ ys) x = (y ≡ x) ⊎ Has ys x
-
-  pub has_from : (xs : List X) (x : X) (k : ℕ) → k < length xs → slice_index_or xs k x ≡ x → Has xs x
-  has_from [] x k lt e = absurd (omega (arith, lt))
-  has_from (y ∷ ys) x zero lt e = inl e
-  has_from (y ∷ ys) x (suc k) lt e = inr (has_from ys x k (omega (arith, lt)) e)
-
-  pub contains_from : (xs : List X) (x : X) → Has xs x → Contains xs x
-  contains_from [] x h = absurd h
-  contains_from (y ∷ ys) x (inl e) = (0, omega arith, e)
-  contains_from (y ∷ ys) x (inr h) = let rest = contains_from ys x h in (suc rest.0, omega (arith, rest.1), rest.2)
-
-  has_append : (xs ys : List X) (x : X) → Has (xs ++ ys) x → Has xs x ⊎ Has ys x
-  has_append [] ys x h = inr h
-  has_append (y ∷ xs) ys x (inl e) = inl (inl e)
-  has_append (y ∷ xs) ys x (inr h) = by (has_append xs ys x h)
-    where
-      by : Has xs x ⊎ Has ys x → Has (y ∷ xs) x ⊎ Has ys x
-      by (inl h) = inl (inr h)
-      by (inr h) = inr h
-
-  pub append_has : (xs ys : List X) (x : X) → Has xs x ⊎ Has ys x → Has (xs ++ ys) x
-  append_has [] ys x (inl h) = absurd h
-  append_has [] ys x (inr h) = h
-  append_has (y ∷ xs) ys x (inl (inl e)) = inl e
-  append_has (y ∷ xs) ys x (inl (inr h)) = inr (append_has xs ys x (inl h))
-  append_has (y ∷ xs) ys x (inr h) = inr (append_has xs ys x (inr h))
-
-  has_filter : (p : X → Bool) (xs : List X) (x : X) → Has (filter p xs) x → Has xs x × (p x ≡ true)
-  has_filter p [] x h = absurd h
-  has_filter p (y ∷ ys) x h = by (has_filter p ys x) (p y) refl h
-    where
-      by : (Has (filter p ys) x → Has ys x × (p x ≡ true)) → (b : Bool) → p y ≡ b → Has (cond b (y ∷ filter p ys) (filter p ys)) x →
-          Has (y ∷ ys) x × (p x ≡ true)
-      by later true is (inl e) = (inl e, ap p (sym e) ∙ is)
-      by later true is (inr h) = let rest = later h in (inr rest.0, rest.1)
-      by later false is h = let rest = later h in (inr rest.0, rest.1)
-
-  pub filter_has : (p : X → Bool) (xs : List X) (x : X) → Has xs x → p x ≡ true → Has (filter p xs) x
-  filter_has p [] x h t = absurd h
-  filter_has p (y ∷ ys) x (inl e) t = subst (λ b. Has (cond b (y ∷ filter p ys) (filter p ys)) x) (sym (ap p e ∙ t)) (inl e)
-  filter_has p (y ∷ ys) x (inr h) t = by (p y) (filter_has p ys x h t)
-    where
-      by : (b : Bool) → Has (filter p ys) x → Has (cond b (y ∷ filter p ys) (filter p ys)) x
-      by true h = inr h
-      by false h = h
-
-module _ {A X : Type 0} (f : A → List X) (x : X) where
-  has_flat : (those : List A) → Has (flat_map f those) x → (a : A) × Has those a × Has (f a) x
-  has_flat [] h = absurd h
-  has_flat (a ∷ those) h = by (has_flat those) (has_append (f a) (flat_map f those) x h)
-    where
-      by : (Has (flat_map f those) x → (a : A) × Has those a × Has (f a) x) → Has (f a) x ⊎ Has (flat_map f those) x → (b : A) × Has (a ∷ those) b × Has (f b) x
-      by later (inl h) = (a, inl refl, h)
-      by later (inr h) = let rest = later h in (rest.0, inr rest.1, rest.2)
-
-  pub flat_has : (those : List A) (a : A) → Has those a → Has (f a) x → Has (flat_map f those) x
-  flat_has [] a h k = absurd h
-  flat_has (b ∷ those) a (inl e) k = append_has (f b) (flat_map f those) x (inl (subst (λ a. Has (f a) x) (sym e) k))
-  flat_has (b ∷ those) a (inr h) k = append_has (f b) (flat_map f those) x (inr (flat_has those a h k))
 
 kind_is : (kind : RuleKind) (rule : Rule) → is_of_kind kind rule ≡ true → rule.kind ≡ kind
 kind_is kind rule e = by kind rule.kind refl e

@@ -207,7 +207,7 @@ pub finish_wakes_none : law.FinishWakesNone
 unfolding is_finish
 finish_wakes_none s t number ns reply key valid e has = by (evaluation_goes_on s t (Step.Finish number ns) (Ok reply) key a.0 valid e a.1)
   where
-    a : law.HasStatus s.world Statuses.Blocked key
+    a : law.HasEvaluationStatus s.world Statuses.Blocked key
     a = (lists_are_true s valid).blocked key has
 
     after_valid : IsValid t
@@ -215,11 +215,11 @@ finish_wakes_none s t number ns reply key valid e has = by (evaluation_goes_on s
 
     by : GoesOn s.world t.world (Step.Finish number ns) key a.0
         ⊎ ((is_open a.0.status ≡ false) × (get t.world.tenants key.0 ≡ None) × IsDeletionOf (Step.Finish number ns) key.0) →
-        (has_key t.world.blocked key ≡ true) ⊎ law.HasStatus t.world Statuses.Canceled key
+        (has_key t.world.blocked key ≡ true) ⊎ law.HasEvaluationStatus t.world Statuses.Canceled key
     by (inr gone) = not_both (ap is_open a.2) gone.0
     by (inl g) = next g.status
       where
-        next : NextStatus s.world (Step.Finish number ns) key a.0 g.row → (has_key t.world.blocked key ≡ true) ⊎ law.HasStatus t.world Statuses.Canceled key
+        next : NextStatus s.world (Step.Finish number ns) key a.0 g.row → (has_key t.world.blocked key ≡ true) ⊎ law.HasEvaluationStatus t.world Statuses.Canceled key
         next (stays p) = inl ((lists_are_true t after_valid).all_blocked key (g.row, g.is_row, p ∙ a.2))
         next (woke was p) = absurd (not_woken s t number ns reply valid e key a.0 a.1 a.2 g.row g.is_row p)
         next (ends open_ (its_own m worker at is same end)) = not_both has

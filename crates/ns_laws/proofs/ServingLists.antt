@@ -123,11 +123,11 @@ lists_are_true s valid = record {
   blocked_once = none_twice s.world.blocked (distinct_once same_key s.world.blocked valid.world.blocked_once);
 }
   where
-    blocked : (key : Key) → has_key s.world.blocked key ≡ true → law.HasStatus s.world Status.Blocked key
+    blocked : (key : Key) → has_key s.world.blocked key ≡ true → law.HasEvaluationStatus s.world Status.Blocked key
     blocked key has = let l = (orderly s.world valid.world).blocked key.0 key.1 has in
         (l.entry.row, evaluation_is s.world key l.tenant l.entry.row l.is_tenant l.entry.is_row, l.entry.is_blocked)
 
-    listed : (key : Key) → law.HasStatus s.world Status.Blocked key → has_key s.world.blocked key ≡ true
+    listed : (key : Key) → law.HasEvaluationStatus s.world Status.Blocked key → has_key s.world.blocked key ≡ true
     listed key h = let t = evaluation_in s.world key h.0 h.1 in
         (valid.world.tenant key.0 t.0 t.1).blocked_listed key.1 h.0 t.2 ∙ ap is_blocked h.2
 

@@ -31,8 +31,8 @@ use Rattle.ns_types.proofs.Named.{first_of_both, names, numbers, one_name, one_n
 use Rattle.ns_types.proofs.Tables.{each_row, tied}
 use Rattle.ns_types.proofs.Tests.{either_of, not_Some, same_Some}
 use Rattle.ns_laws.specs.Workers.{Counts, lives, completed, HasPool, IsLiveThere, IsNodeThere, IsOwn, IsTrueOf, SeesNodes, SeesOwn, SeesQuota, shown_live}
-use Rattle.ns_laws.proofs.ReadsLemmas.{has_each, has_row, map_has, use_is}
-use Rattle.ns_laws.proofs.SecretsLemmas.{Has, contains_from, filter_has, flat_has}
+use Rattle.ns_laws.proofs.Elements.{Has, contains_from, each_has, filter_has, flat_has, has_each, map_has}
+use Rattle.ns_laws.proofs.ReadsLemmas.{has_row, use_is}
 
 -- ---- the job's own allocations
 
@@ -138,11 +138,6 @@ module _ (w : World) (pool node : Name) where
       (each_row numbers one_number (λ n (a : Allocation). allocation_at w (ns, n) ≡ Some a) t.allocations
       (λ n a at. ap (option_and_then (λ (t : Tenant). get t.allocations n)) is ∙ at)))))
 
-  there_of : (xs : List Placed) → Each IsThere xs → (a : Placed) → Has xs a → IsThere a
-  there_of [] h a k = absurd k
-  there_of (x ∷ xs) h a (inl e) = subst IsThere e h.0
-  there_of (x ∷ xs) h a (inr k) = there_of xs h.1 a k
-
   has_there : (key : Key) (a : Allocation) → allocation_at w key ≡ Some a → is_live_on pool node a ≡ true →
       Has (allocations_on w pool node) (key.0, (key.1, a))
   has_there key a at live = by (get w.tenants key.0) refl at
@@ -163,7 +158,7 @@ module _ (w : World) (pool node : Name) where
   unfolding live_on
   live_there = each_mapped (IsLiveThere w pool node) seen_live (by_number place (allocations_on w pool node))
       (by_number_each place (allocations_on w pool node) (λ a. IsLiveThere w pool node (seen_live a)) (λ a h.
-      let there = there_of (allocations_on w pool node) all_there a h in
+      let there = each_has IsThere (allocations_on w pool node) a h all_there in
       record { row = a.1.1; is_row = there.0; lives = there.1; priority = refl; size = refl }))
 
   module _ (sound : IsSound w) where
@@ -188,7 +183,7 @@ module _ (w : World) (pool node : Name) where
         let has = has_there key a at on in
         contains_from _ (shown_live key a) (map_has seen_live (by_number place (allocations_on w pool node)) (key.0, (key.1, a))
         (by_number_has place (allocations_on w pool node) (key.0, (key.1, a)) has
-        (λ b h same. one_there (key.0, (key.1, a)) b (at, on) (there_of (allocations_on w pool node) all_there b h) same)))
+        (λ b h same. one_there (key.0, (key.1, a)) b (at, on) (each_has IsThere (allocations_on w pool node) b h all_there) same)))
 
 -- ---- nodes
 

@@ -1,4 +1,4 @@
--- The room that a plan has on a node with its stops and its evictions.
+-- The room that a plan has on a node with its stops and its evictions, and without evictions.
 use Rattle.std.specs.Prelude.{◌≡◌, ℕ, zero, suc, ◌+◌, ◌-◌, ◌≤◌, ◌==◌, Bool, true, false, cond, not, ◌&&◌, ◌||◌}
 use Rattle.std.specs.Prelude.{List, [], ◌∷◌, ◌++◌, Option, Some, None, drop, filter, length, map, option_map, reverse, slice_get, sum_by}
 use Rattle.std.specs.List.{list_any}
@@ -8,6 +8,7 @@ use Rattle.std.proofs.Common.{refl, sym, ap, subst, ◌∙◌, arith}
 use Rattle.std.proofs.Math.Seq.{drop-append_seam}
 use Rattle.std.proofs.lemmas.Bool.{eq-eqb, eqb-true, eqb-false, ne_eqb, or_right}
 use Rattle.std.proofs.lemmas.List.{append_assoc}
+use Rattle.std.proofs.lemmas.List.Elements.{filter_agree}
 use Rattle.std.proofs.lemmas.List.Filters.{sum_by-filter_both}
 use Rattle.std.proofs.lemmas.List.Sorted.{IsPermutation-reverse, sum_by-IsPermutation}
 use Rattle.std.proofs.lemmas.List.Sums.{sum_by-append, sum_by-cons}
@@ -249,3 +250,24 @@ evicts_within_capacity s k node r at room = by s.job refl
 
     by : (o : Option Job) → s.job ≡ o → FitsNode s k node r (plan s).placing.placements
     by o is = subst (FitsNode s k node r) (sym (ap (λ o. (placing_of s o (stopping s.job s.own)).placements) is)) (fit o is)
+
+-- ---- a plan without evictions on the node
+
+none_evicted : (ps : List Placement) → Each (λ p. p.evictions ≡ []) ps → (a : LiveAllocation) → law.is_evicted ps a ≡ false
+none_evicted [] none a = refl
+none_evicted (p ∷ ps) none a = λ i.
+    list_any (λ (e : Eviction). bytes_eq e.namespace a.namespace && e.number == a.number) (none.0 i) || none_evicted ps none.1 a i
+
+pub plans_within_capacity : plans.PlansWithinCapacity
+plans_within_capacity s k node r at room none =
+    subst (λ live. sum_by (λ (a : LiveAllocation). quantity r a.size) live + sum_by (λ p. quantity r p.size) (plans.placed_at s k)
+    ≤ quantity r node.row.offer.capacity)
+    (filter_agree (λ a. not (plans.is_stopped s a) && not (law.is_evicted (plans.placed_at s k) a)) (λ a. not (plans.is_stopped s a)) stays_alone node.live)
+    (evicts_within_capacity s k node r at room)
+  where
+    alone : (b : Bool) → (b && true) ≡ b
+    alone true = refl
+    alone false = refl
+
+    stays_alone : (a : LiveAllocation) → (not (plans.is_stopped s a) && not (law.is_evicted (plans.placed_at s k) a)) ≡ not (plans.is_stopped s a)
+    stays_alone a = ap (λ b. not (plans.is_stopped s a) && not b) (none_evicted (plans.placed_at s k) none a) ∙ alone (not (plans.is_stopped s a))

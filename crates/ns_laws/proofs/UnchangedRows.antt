@@ -39,7 +39,7 @@ use Rattle.ns_audit.proofs.Alone.Fixed.{SameIn}
 use Rattle.ns_audit.proofs.Alone.Sides.{act_is, change}
 use Rattle.ns_audit.proofs.ValidAllocations.Going.{Onward, onward_make_in, onward_same}
 use Rattle.ns_laws.specs.Indexes as law
-use Rattle.ns_laws.specs.Indexes.{Spans, WasAllocation, WasEvaluation}
+use Rattle.ns_laws.specs.Indexes.{WasAllocation, WasEvaluation}
 use Rattle.ns_laws.proofs.EndingChange.{Change, asks, cuts, deletes, evicts, left, loses, places, plans, reports, rests, stops}
 use Rattle.ns_laws.proofs.EndingSteps.{MovesIn, act_moves}
 use Rattle.ns_laws.proofs.OwnChanges.{change_fixed, is_ask}

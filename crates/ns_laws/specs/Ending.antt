@@ -1,7 +1,8 @@
 -- Laws of the life of an allocation: how it comes, what it keeps, which steps end it, and when it is gone. Also: which
 -- evaluations a step adds.
-use Rattle.std.specs.Prelude.{◌≡◌, ◌⊎◌, ◌<◌, ℕ, Bool, true, false, List, [], ◌∷◌, Option, Some, None, Ok}
+use Rattle.std.specs.Prelude.{◌≡◌, ◌⊎◌, ◌<◌, ℕ, Bool, true, false, Option, Some, None, Ok}
 use Rattle.std.specs.FinMap.{get}
+use Rattle.std.specs.List.{Contains}
 use Rattle.std.specs.Option.{option_and_then}
 use Rattle.ns_types.specs.declared.allocation.Allocation.{Allocation}
 use Rattle.ns_types.specs.declared.allocation.ClientStatus.{ClientStatus}
@@ -75,16 +76,11 @@ pub record AppliesPlan (w : World) (step : Step) (ns : Name) (kept : Snapshot) :
   pub is_kept : worker.kept ≡ Some kept
   pub is_current : IsUnchangedJob kept.job (job_at w ns kept.evaluation.job)
 
--- x is in the list
-abbrev pub IsOneOf : {X : Type 0} → X → List X → Type 0
-IsOneOf x [] = ⊥
-IsOneOf x (y ∷ ys) = (x ≡ y) ⊎ IsOneOf x ys
-
 -- a plan of the allocation's own namespace is applied, and the allocation is one of its stops
 pub record IsPlannedStop (w : World) (step : Step) (key : Key) : Type 0 where
   pub kept : Snapshot
   pub applies : AppliesPlan w step key.0 kept
-  pub is_stop : IsOneOf key.1 (plan kept).stops
+  pub is_stop : Contains (plan kept).stops key.1
 
 -- A plan of some namespace is applied, and one of its placements is on the allocation's node and evicts the
 -- allocation, with the priority that the allocation has.
@@ -93,11 +89,11 @@ pub record IsPlannedEviction (w : World) (step : Step) (key : Key) (a : Allocati
   pub kept : Snapshot
   pub applies : AppliesPlan w step ns kept
   pub placement : Placement
-  pub is_planned : IsOneOf placement (plan kept).placing.placements
+  pub is_planned : Contains (plan kept).placing.placements placement
   pub pool : a.pool ≡ kept.pool
   pub node : a.node ≡ node_name kept placement.node
   pub eviction : Eviction
-  pub is_evicted : IsOneOf eviction placement.evictions
+  pub is_evicted : Contains placement.evictions eviction
   pub namespace : eviction.namespace ≡ key.0
   pub number : eviction.number ≡ key.1
   pub priority : eviction.priority ≡ a.priority
@@ -172,7 +168,7 @@ pub record IsPlacedBy (w : World) (step : Step) (key : Key) (b : Allocation) : T
   pub kept : Snapshot
   pub applies : AppliesPlan w step key.0 kept
   pub placement : Placement
-  pub is_planned : IsOneOf placement (plan kept).placing.placements
+  pub is_planned : Contains (plan kept).placing.placements placement
   pub planned : Job
   pub is_in_snapshot : kept.job ≡ Some planned
   pub is_of_job : b.job ≡ kept.evaluation.job

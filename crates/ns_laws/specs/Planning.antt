@@ -2,6 +2,7 @@
 use Rattle.std.specs.Prelude.{◌≡◌, ◌≢◌, ◌⊎◌, ℕ, ◌+◌, ◌<◌, ◌≤◌, ◌==◌, ◌&&◌, Bool, true, false, List, [], Some}
 use Rattle.std.specs.Prelude.{None, Ok, IsTrue, count_by, filter, length, map, not, slice_get, sum_by}
 use Rattle.std.specs.FinMap.{get}
+use Rattle.std.specs.List.{Contains}
 use Rattle.std.specs.Str.{bytes_eq}
 use Rattle.ns_types.specs.declared.allocation.Allocation.{Allocation}
 use Rattle.ns_types.specs.declared.allocation.ClientStatus.TheVariants as ClientStatus
@@ -41,7 +42,7 @@ use Rattle.ns_types.specs.Validity.{IsLiveAt, IsValid}
 use Rattle.ns_types.specs.Within.{IsGoodStep}
 use Rattle.ns_types.specs.Working.Looks.{worker_at}
 use Rattle.ns_types.specs.Working.Worker.{Worker}
-use Rattle.ns_laws.specs.Ending.{IsOneOf, IsPlannedEviction, IsSameAllocation}
+use Rattle.ns_laws.specs.Ending.{IsPlannedEviction, IsSameAllocation}
 
 -- ---- where a plan places, and what
 
@@ -344,7 +345,7 @@ pub record IsOwnStop (w : World) (number : ℕ) (ns : Name) (key : Key) (a : All
   pub is_worker : worker_at w number ns ≡ Some worker
   pub kept : Snapshot
   pub is_kept : worker.kept ≡ Some kept
-  pub is_stop : IsOneOf key.1 (plan kept).stops
+  pub is_stop : Contains (plan kept).stops key.1
   pub in_namespace : key.0 ≡ ns
   pub evaluation : Evaluation
   pub is_evaluation : evaluation_at w (ns, worker.evaluation) ≡ Some evaluation

@@ -150,16 +150,16 @@ pub record HasLive (rows : Tenant) (id : Name) : Type 0 where
   pub lives : IsTrue (is_live row)
 
 -- a stopped job is dead; any other is running if it has a live allocation, and pending if it has none
-abbrev pub HasStatus : Tenant → Name → Job → JobStatus → Type 0
-HasStatus rows id job JobStatus.Dead = job.stop ≡ true
-HasStatus rows id job JobStatus.Running = (job.stop ≡ false) × HasLive rows id
-HasStatus rows id job JobStatus.Pending = (job.stop ≡ false) × (HasLive rows id → ⊥)
+abbrev pub HasJobStatus : Tenant → Name → Job → JobStatus → Type 0
+HasJobStatus rows id job JobStatus.Dead = job.stop ≡ true
+HasJobStatus rows id job JobStatus.Running = (job.stop ≡ false) × HasLive rows id
+HasJobStatus rows id job JobStatus.Pending = (job.stop ≡ false) × (HasLive rows id → ⊥)
 
 -- the job is shown as it is, with its namespace and its status
 pub record ShowsJob (ns : Name) (rows : Tenant) (job : Job) (shown : JobShown) : Type 0 where
   pub namespace : shown.namespace ≡ ns
   pub row : shown.row ≡ job
-  pub status : HasStatus rows shown.id job shown.status
+  pub status : HasJobStatus rows shown.id job shown.status
 
 -- A reply to the read of a job shows the job that is there, as it is, and its status: a stopped job is dead, and any
 -- other is running if it has a live allocation and pending if it has none. The reply has the namespace's index.

@@ -54,15 +54,15 @@ abbrev pub HasNoneTwice : List Key → Type 0
 HasNoneTwice keys = (before later : List Key) (key : Key) → keys ≡ before ++ key ∷ later → IsFalse (has_key later key)
 
 -- the evaluation is there, and has that status
-abbrev pub HasStatus : World → Status → Key → Type 0
-HasStatus w status key = (row : Evaluation) × (evaluation_at w key ≡ Some row) × (row.status ≡ status)
+abbrev pub HasEvaluationStatus : World → Status → Key → Type 0
+HasEvaluationStatus w status key = (row : Evaluation) × (evaluation_at w key ≡ Some row) × (row.status ≡ status)
 
 -- The ready evaluations are pending. The blocked list has the evaluations with the status `blocked` and no others. No
 -- evaluation is in both lists, or twice in one of them.
 pub record HasTrueLists (w : World) : Type 0 where
-  pub ready : (key : Key) → IsTrue (has_key w.ready key) → HasStatus w Status.Pending key
-  pub blocked : (key : Key) → IsTrue (has_key w.blocked key) → HasStatus w Status.Blocked key
-  pub all_blocked : (key : Key) → HasStatus w Status.Blocked key → IsTrue (has_key w.blocked key)
+  pub ready : (key : Key) → IsTrue (has_key w.ready key) → HasEvaluationStatus w Status.Pending key
+  pub blocked : (key : Key) → IsTrue (has_key w.blocked key) → HasEvaluationStatus w Status.Blocked key
+  pub all_blocked : (key : Key) → HasEvaluationStatus w Status.Blocked key → IsTrue (has_key w.blocked key)
   pub in_one : (key : Key) → IsTrue (has_key w.ready key) → IsFalse (has_key w.blocked key)
   pub ready_once : HasNoneTwice w.ready
   pub blocked_once : HasNoneTwice w.blocked
@@ -161,7 +161,7 @@ EndedEvaluationStays = (s s' : State) (step : Step) (answer : Answer) (key : Key
 abbrev pub FinishWakesNone : Type 0
 FinishWakesNone = (s t : State) (number : ℕ) (ns : Name) (reply : Reply) (key : Key) → IsValid s →
     after (Step.Finish number ns) s ≡ said (Ok reply) t → IsTrue (has_key s.world.blocked key) →
-    IsTrue (has_key t.world.blocked key) ⊎ HasStatus t.world Status.Canceled key
+    IsTrue (has_key t.world.blocked key) ⊎ HasEvaluationStatus t.world Status.Canceled key
 
 -- ---- numbers
 
