@@ -63,11 +63,11 @@ use Rattle.ns_types.proofs.Tests.{first, second}
 use Rattle.ns_laws.specs.Reads as law
 use Rattle.ns_laws.specs.Reads.{ShowsOf, ShowsOne, ShowsRow, ShowsRows, Rises, BeginsWith, HasLive, HasJobStatus}
 use Rattle.ns_laws.proofs.Elements.{filter_in_order}
-use Rattle.ns_laws.proofs.EffectRows.{Does, does_found, does_if, does_of, does_lift, after_does}
+use Rattle.ns_laws.proofs.Effect.Rows.{Does, does_found, does_if, does_of, does_lift, after_does}
 use Rattle.ns_audit.proofs.RefusalLemmas.{after_allowed, same_refusal}
 use Rattle.ns_laws.proofs.Elements.{Has, contains_from, filter_has, has_each, has_from, map_has}
 use Rattle.ns_audit.proofs.StepLemmas.{not_refused, same_answer}
-use Rattle.ns_laws.proofs.TokenLemmas.{Leaves, idle, settled_idle}
+use Rattle.ns_laws.proofs.Access.Tokens.{Leaves, idle, settled_idle}
 
 -- ---- what a read does
 

@@ -1,4 +1,4 @@
-use Rattle.ns_laws.proofs.AdminEffectsLemmas.{deleted_quota_is_gone}
+use Rattle.ns_laws.proofs.Effect.Admins.{deleted_quota_is_gone}
 use Rattle.ns_laws.proofs.effects.deleted_quota_is_gone.Goals as goal
 
 pub returns : goal.returns

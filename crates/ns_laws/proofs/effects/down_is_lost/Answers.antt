@@ -1,4 +1,4 @@
-use Rattle.ns_laws.proofs.NodeEffectsLemmas.{down_is_lost}
+use Rattle.ns_laws.proofs.Effect.Nodes.{down_is_lost}
 use Rattle.ns_laws.proofs.effects.down_is_lost.Goals as goal
 
 pub returns : goal.returns

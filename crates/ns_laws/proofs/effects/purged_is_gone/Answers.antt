@@ -1,4 +1,4 @@
-use Rattle.ns_laws.proofs.EffectsLemmas.{purged_is_gone}
+use Rattle.ns_laws.proofs.Effect.Asks.{purged_is_gone}
 use Rattle.ns_laws.proofs.effects.purged_is_gone.Goals as goal
 
 pub returns : goal.returns

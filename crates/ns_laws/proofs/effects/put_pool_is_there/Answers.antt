@@ -1,4 +1,4 @@
-use Rattle.ns_laws.proofs.AdminEffectsLemmas.{put_pool_is_there}
+use Rattle.ns_laws.proofs.Effect.Admins.{put_pool_is_there}
 use Rattle.ns_laws.proofs.effects.put_pool_is_there.Goals as goal
 
 pub returns : goal.returns

@@ -1,4 +1,4 @@
-use Rattle.ns_laws.proofs.NodeEffectsLemmas.{reported_is_there}
+use Rattle.ns_laws.proofs.Effect.Nodes.{reported_is_there}
 use Rattle.ns_laws.proofs.effects.reported_is_there.Goals as goal
 
 pub returns : goal.returns

@@ -1,4 +1,4 @@
-use Rattle.ns_laws.proofs.NodeEffectsLemmas.{set_eligible_is_there}
+use Rattle.ns_laws.proofs.Effect.Nodes.{set_eligible_is_there}
 use Rattle.ns_laws.proofs.effects.set_eligible_is_there.Goals as goal
 
 pub returns : goal.returns

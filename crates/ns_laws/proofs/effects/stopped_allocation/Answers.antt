@@ -1,4 +1,4 @@
-use Rattle.ns_laws.proofs.EffectsLemmas.{stopped_allocation}
+use Rattle.ns_laws.proofs.Effect.Asks.{stopped_allocation}
 use Rattle.ns_laws.proofs.effects.stopped_allocation.Goals as goal
 
 pub returns : goal.returns

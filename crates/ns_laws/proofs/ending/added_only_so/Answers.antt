@@ -1,4 +1,4 @@
-use Rattle.ns_laws.proofs.AddedLaws.{added_only_so}
+use Rattle.ns_laws.proofs.Additions.Laws.{added_only_so}
 use Rattle.ns_laws.proofs.ending.added_only_so.Goals as goal
 
 pub returns : goal.returns

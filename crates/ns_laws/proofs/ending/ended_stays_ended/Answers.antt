@@ -1,4 +1,4 @@
-use Rattle.ns_laws.proofs.EndingLemmas.{ended_stays_ended}
+use Rattle.ns_laws.proofs.Endings.Laws.{ended_stays_ended}
 use Rattle.ns_laws.proofs.ending.ended_stays_ended.Goals as goal
 
 pub returns : goal.returns

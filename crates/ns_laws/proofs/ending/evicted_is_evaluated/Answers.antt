@@ -1,4 +1,4 @@
-use Rattle.ns_laws.proofs.EndingEvictions.{evicted_is_evaluated}
+use Rattle.ns_laws.proofs.Endings.Evictions.{evicted_is_evaluated}
 use Rattle.ns_laws.proofs.ending.evicted_is_evaluated.Goals as goal
 
 pub returns : goal.returns

@@ -1,4 +1,4 @@
-use Rattle.ns_laws.proofs.EndingLemmas.{gone_with_namespace}
+use Rattle.ns_laws.proofs.Endings.Laws.{gone_with_namespace}
 use Rattle.ns_laws.proofs.ending.gone_with_namespace.Goals as goal
 
 pub returns : goal.returns

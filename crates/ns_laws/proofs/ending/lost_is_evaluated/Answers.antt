@@ -1,4 +1,4 @@
-use Rattle.ns_laws.proofs.EndingEvaluations.{lost_is_evaluated}
+use Rattle.ns_laws.proofs.Endings.Evaluations.{lost_is_evaluated}
 use Rattle.ns_laws.proofs.ending.lost_is_evaluated.Goals as goal
 
 pub returns : goal.returns

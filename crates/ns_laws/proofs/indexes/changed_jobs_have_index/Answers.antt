@@ -1,4 +1,4 @@
-use Rattle.ns_laws.proofs.IndexesLemmas.{changed_jobs_have_index}
+use Rattle.ns_laws.proofs.Index.Laws.{changed_jobs_have_index}
 use Rattle.ns_laws.proofs.indexes.changed_jobs_have_index.Goals as goal
 
 pub returns : goal.returns

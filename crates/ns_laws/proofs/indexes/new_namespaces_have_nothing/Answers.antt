@@ -1,4 +1,4 @@
-use Rattle.ns_laws.proofs.IndexesLemmas.{new_namespaces_have_nothing}
+use Rattle.ns_laws.proofs.Index.Laws.{new_namespaces_have_nothing}
 use Rattle.ns_laws.proofs.indexes.new_namespaces_have_nothing.Goals as goal
 
 pub returns : goal.returns

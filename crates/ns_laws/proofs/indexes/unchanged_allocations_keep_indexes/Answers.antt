@@ -1,4 +1,4 @@
-use Rattle.ns_laws.proofs.UnchangedRows.{unchanged_allocations_keep_indexes}
+use Rattle.ns_laws.proofs.Index.UnchangedRows.{unchanged_allocations_keep_indexes}
 use Rattle.ns_laws.proofs.indexes.unchanged_allocations_keep_indexes.Goals as goal
 
 pub returns : goal.returns

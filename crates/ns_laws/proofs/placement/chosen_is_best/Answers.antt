@@ -1,4 +1,4 @@
-use Rattle.ns_laws.proofs.PlacementLemmas.{chosen_is_best}
+use Rattle.ns_laws.proofs.Choices.Placement.{chosen_is_best}
 use Rattle.ns_laws.proofs.placement.chosen_is_best.Goals as goal
 
 pub returns : goal.returns

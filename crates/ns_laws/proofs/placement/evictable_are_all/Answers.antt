@@ -1,4 +1,4 @@
-use Rattle.ns_laws.proofs.EvictableLemmas.{evictable_are_all}
+use Rattle.ns_laws.proofs.Choices.Levels.{evictable_are_all}
 use Rattle.ns_laws.proofs.placement.evictable_are_all.Goals as goal
 
 pub returns : goal.returns

@@ -1,4 +1,4 @@
-use Rattle.ns_laws.proofs.EvictableLemmas.{evictable_in_order}
+use Rattle.ns_laws.proofs.Choices.Levels.{evictable_in_order}
 use Rattle.ns_laws.proofs.placement.evictable_in_order.Goals as goal
 
 pub returns : goal.returns

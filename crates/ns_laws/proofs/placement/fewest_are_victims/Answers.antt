@@ -1,4 +1,4 @@
-use Rattle.ns_laws.proofs.PlacementLemmas.{fewest_are_victims}
+use Rattle.ns_laws.proofs.Choices.Placement.{fewest_are_victims}
 use Rattle.ns_laws.proofs.placement.fewest_are_victims.Goals as goal
 
 pub returns : goal.returns

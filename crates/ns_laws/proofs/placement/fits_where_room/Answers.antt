@@ -1,4 +1,4 @@
-use Rattle.ns_laws.proofs.PlacementLemmas.{fits_where_room}
+use Rattle.ns_laws.proofs.Choices.Placement.{fits_where_room}
 use Rattle.ns_laws.proofs.placement.fits_where_room.Goals as goal
 
 pub returns : goal.returns

@@ -1,4 +1,4 @@
-use Rattle.ns_laws.proofs.PlacementLemmas.{highest_is_highest}
+use Rattle.ns_laws.proofs.Choices.Placement.{highest_is_highest}
 use Rattle.ns_laws.proofs.placement.highest_is_highest.Goals as goal
 
 pub returns : goal.returns

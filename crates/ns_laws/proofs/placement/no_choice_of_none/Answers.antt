@@ -1,4 +1,4 @@
-use Rattle.ns_laws.proofs.PlacementLemmas.{no_choice_of_none}
+use Rattle.ns_laws.proofs.Choices.Placement.{no_choice_of_none}
 use Rattle.ns_laws.proofs.placement.no_choice_of_none.Goals as goal
 
 pub returns : goal.returns

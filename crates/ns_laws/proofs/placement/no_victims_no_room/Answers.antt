@@ -1,4 +1,4 @@
-use Rattle.ns_laws.proofs.PlacementLemmas.{no_victims_no_room}
+use Rattle.ns_laws.proofs.Choices.Placement.{no_victims_no_room}
 use Rattle.ns_laws.proofs.placement.no_victims_no_room.Goals as goal
 
 pub returns : goal.returns

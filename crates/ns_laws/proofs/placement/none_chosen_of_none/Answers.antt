@@ -1,4 +1,4 @@
-use Rattle.ns_laws.proofs.PlacementLemmas.{none_chosen_of_none}
+use Rattle.ns_laws.proofs.Choices.Placement.{none_chosen_of_none}
 use Rattle.ns_laws.proofs.placement.none_chosen_of_none.Goals as goal
 
 pub returns : goal.returns

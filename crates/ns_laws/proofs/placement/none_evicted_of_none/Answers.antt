@@ -1,4 +1,4 @@
-use Rattle.ns_laws.proofs.PlacementLemmas.{none_evicted_of_none}
+use Rattle.ns_laws.proofs.Choices.Placement.{none_evicted_of_none}
 use Rattle.ns_laws.proofs.placement.none_evicted_of_none.Goals as goal
 
 pub returns : goal.returns

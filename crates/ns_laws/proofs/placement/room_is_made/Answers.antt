@@ -1,4 +1,4 @@
-use Rattle.ns_laws.proofs.PlacementLemmas.{room_is_made}
+use Rattle.ns_laws.proofs.Choices.Placement.{room_is_made}
 use Rattle.ns_laws.proofs.placement.room_is_made.Goals as goal
 
 pub returns : goal.returns

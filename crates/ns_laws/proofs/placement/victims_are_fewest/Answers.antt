@@ -1,4 +1,4 @@
-use Rattle.ns_laws.proofs.PlacementLemmas.{victims_are_fewest}
+use Rattle.ns_laws.proofs.Choices.Placement.{victims_are_fewest}
 use Rattle.ns_laws.proofs.placement.victims_are_fewest.Goals as goal
 
 pub returns : goal.returns

@@ -1,4 +1,4 @@
-use Rattle.ns_laws.proofs.PlanningLemmas.{ended_job_stops}
+use Rattle.ns_laws.proofs.Plans.Planning.{ended_job_stops}
 use Rattle.ns_laws.proofs.planning.ended_job_stops.Goals as goal
 
 pub returns : goal.returns

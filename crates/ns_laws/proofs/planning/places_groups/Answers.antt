@@ -1,4 +1,4 @@
-use Rattle.ns_laws.proofs.PlanningLemmas.{places_groups}
+use Rattle.ns_laws.proofs.Plans.Planning.{places_groups}
 use Rattle.ns_laws.proofs.planning.places_groups.Goals as goal
 
 pub returns : goal.returns

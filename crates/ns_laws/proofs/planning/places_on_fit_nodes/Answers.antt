@@ -1,4 +1,4 @@
-use Rattle.ns_laws.proofs.PlanningLemmas.{places_on_fit_nodes}
+use Rattle.ns_laws.proofs.Plans.Planning.{places_on_fit_nodes}
 use Rattle.ns_laws.proofs.planning.places_on_fit_nodes.Goals as goal
 
 pub returns : goal.returns

@@ -1,4 +1,4 @@
-use Rattle.ns_laws.proofs.OwnJobs.{snapshots_keep_own_job}
+use Rattle.ns_laws.proofs.Plans.OwnJobs.{snapshots_keep_own_job}
 use Rattle.ns_laws.proofs.planning.snapshots_keep_own_job.Goals as goal
 
 pub returns : goal.returns

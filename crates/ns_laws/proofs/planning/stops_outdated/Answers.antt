@@ -1,4 +1,4 @@
-use Rattle.ns_laws.proofs.PlanningLemmas.{stops_outdated}
+use Rattle.ns_laws.proofs.Plans.Planning.{stops_outdated}
 use Rattle.ns_laws.proofs.planning.stops_outdated.Goals as goal
 
 pub returns : goal.returns

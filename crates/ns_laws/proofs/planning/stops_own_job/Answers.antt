@@ -1,4 +1,4 @@
-use Rattle.ns_laws.proofs.OwnJobs.{stops_own_job}
+use Rattle.ns_laws.proofs.Plans.OwnJobs.{stops_own_job}
 use Rattle.ns_laws.proofs.planning.stops_own_job.Goals as goal
 
 pub returns : goal.returns

@@ -1,4 +1,4 @@
-use Rattle.ns_laws.proofs.QueueLemmas.{none_served_of_none}
+use Rattle.ns_laws.proofs.Wakes.Queue.{none_served_of_none}
 use Rattle.ns_laws.proofs.queue.none_served_of_none.Goals as goal
 
 pub returns : goal.returns

@@ -1,4 +1,4 @@
-use Rattle.ns_laws.proofs.QueueLemmas.{woken_in_order}
+use Rattle.ns_laws.proofs.Wakes.Queue.{woken_in_order}
 use Rattle.ns_laws.proofs.queue.woken_in_order.Goals as goal
 
 pub returns : goal.returns

@@ -1,4 +1,4 @@
-use Rattle.ns_laws.proofs.QueueLemmas.{woken_were_blocked}
+use Rattle.ns_laws.proofs.Wakes.Queue.{woken_were_blocked}
 use Rattle.ns_laws.proofs.queue.woken_were_blocked.Goals as goal
 
 pub returns : goal.returns

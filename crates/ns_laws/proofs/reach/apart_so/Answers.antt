@@ -1,4 +1,4 @@
-use Rattle.ns_laws.proofs.ReachLemmas.{apart_so}
+use Rattle.ns_laws.proofs.Scope.Reach.{apart_so}
 use Rattle.ns_laws.proofs.reach.apart_so.Goals as goal
 
 pub returns : goal.returns

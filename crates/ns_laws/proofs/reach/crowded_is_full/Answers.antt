@@ -1,4 +1,4 @@
-use Rattle.ns_laws.proofs.ReachLemmas.{crowded_is_full}
+use Rattle.ns_laws.proofs.Scope.Reach.{crowded_is_full}
 use Rattle.ns_laws.proofs.reach.crowded_is_full.Goals as goal
 
 pub returns : goal.returns

@@ -1,4 +1,4 @@
-use Rattle.ns_laws.proofs.ReasonLemmas.{first_refusal}
+use Rattle.ns_laws.proofs.Refusal.Reasons.{first_refusal}
 use Rattle.ns_laws.proofs.reasons.first_refusal.Goals as goal
 
 pub returns : goal.returns

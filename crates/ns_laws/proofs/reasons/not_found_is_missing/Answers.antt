@@ -1,4 +1,4 @@
-use Rattle.ns_laws.proofs.ReasonLemmas.{not_found_is_missing}
+use Rattle.ns_laws.proofs.Refusal.Reasons.{not_found_is_missing}
 use Rattle.ns_laws.proofs.reasons.not_found_is_missing.Goals as goal
 
 pub returns : goal.returns

@@ -1,4 +1,4 @@
-use Rattle.ns_laws.proofs.ReasonLemmas.{refuses_for_reason}
+use Rattle.ns_laws.proofs.Refusal.Reasons.{refuses_for_reason}
 use Rattle.ns_laws.proofs.reasons.refuses_for_reason.Goals as goal
 
 pub returns : goal.returns

@@ -1,4 +1,4 @@
-use Rattle.ns_laws.proofs.RegisterLemmas.{first_refusal_of_register}
+use Rattle.ns_laws.proofs.Refusal.Registration.{first_refusal_of_register}
 use Rattle.ns_laws.proofs.refusals.first_refusal_of_register.Goals as goal
 
 pub returns : goal.returns

@@ -1,4 +1,4 @@
-use Rattle.ns_laws.proofs.SecretsLemmas.{all_may_list}
+use Rattle.ns_laws.proofs.Access.Secrets.{all_may_list}
 use Rattle.ns_laws.proofs.secrets.all_may_list.Goals as goal
 
 pub returns : goal.returns

@@ -1,4 +1,4 @@
-use Rattle.ns_laws.proofs.TokenLemmas.{deleted_policy_is_gone}
+use Rattle.ns_laws.proofs.Access.Tokens.{deleted_policy_is_gone}
 use Rattle.ns_laws.proofs.secrets.deleted_policy_is_gone.Goals as goal
 
 pub returns : goal.returns

@@ -1,4 +1,4 @@
-use Rattle.ns_laws.proofs.TokenLemmas.{deleted_token_is_unknown}
+use Rattle.ns_laws.proofs.Access.Tokens.{deleted_token_is_unknown}
 use Rattle.ns_laws.proofs.secrets.deleted_token_is_unknown.Goals as goal
 
 pub returns : goal.returns

@@ -1,4 +1,4 @@
-use Rattle.ns_laws.proofs.TokenLemmas.{first_token_stays}
+use Rattle.ns_laws.proofs.Access.Tokens.{first_token_stays}
 use Rattle.ns_laws.proofs.secrets.first_token_stays.Goals as goal
 
 pub returns : goal.returns

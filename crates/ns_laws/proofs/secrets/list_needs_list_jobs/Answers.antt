@@ -1,4 +1,4 @@
-use Rattle.ns_laws.proofs.SecretsLemmas.{list_needs_list_jobs}
+use Rattle.ns_laws.proofs.Access.Secrets.{list_needs_list_jobs}
 use Rattle.ns_laws.proofs.secrets.list_needs_list_jobs.Goals as goal
 
 pub returns : goal.returns

@@ -1,4 +1,4 @@
-use Rattle.ns_laws.proofs.TokenLemmas.{manager_deletes_token}
+use Rattle.ns_laws.proofs.Access.Tokens.{manager_deletes_token}
 use Rattle.ns_laws.proofs.secrets.manager_deletes_token.Goals as goal
 
 pub returns : goal.returns

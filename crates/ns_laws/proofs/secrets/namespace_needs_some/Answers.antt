@@ -1,4 +1,4 @@
-use Rattle.ns_laws.proofs.SecretsLemmas.{namespace_needs_some}
+use Rattle.ns_laws.proofs.Access.Secrets.{namespace_needs_some}
 use Rattle.ns_laws.proofs.secrets.namespace_needs_some.Goals as goal
 
 pub returns : goal.returns

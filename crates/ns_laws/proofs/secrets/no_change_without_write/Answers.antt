@@ -1,4 +1,4 @@
-use Rattle.ns_laws.proofs.TokenLemmas.{no_change_without_write}
+use Rattle.ns_laws.proofs.Access.Tokens.{no_change_without_write}
 use Rattle.ns_laws.proofs.secrets.no_change_without_write.Goals as goal
 
 pub returns : goal.returns

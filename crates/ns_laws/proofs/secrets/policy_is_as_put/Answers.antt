@@ -1,4 +1,4 @@
-use Rattle.ns_laws.proofs.TokenLemmas.{policy_is_as_put}
+use Rattle.ns_laws.proofs.Access.Tokens.{policy_is_as_put}
 use Rattle.ns_laws.proofs.secrets.policy_is_as_put.Goals as goal
 
 pub returns : goal.returns

@@ -1,4 +1,4 @@
-use Rattle.ns_laws.proofs.SecretsLemmas.{pool_writes_need_write}
+use Rattle.ns_laws.proofs.Access.Secrets.{pool_writes_need_write}
 use Rattle.ns_laws.proofs.secrets.pool_writes_need_write.Goals as goal
 
 pub returns : goal.returns

@@ -1,4 +1,4 @@
-use Rattle.ns_laws.proofs.SecretsLemmas.{reads_need_read_job}
+use Rattle.ns_laws.proofs.Access.Secrets.{reads_need_read_job}
 use Rattle.ns_laws.proofs.secrets.reads_need_read_job.Goals as goal
 
 pub returns : goal.returns

@@ -1,4 +1,4 @@
-use Rattle.ns_laws.proofs.SecretsLemmas.{rights_are_granted}
+use Rattle.ns_laws.proofs.Access.Secrets.{rights_are_granted}
 use Rattle.ns_laws.proofs.secrets.rights_are_granted.Goals as goal
 
 pub returns : goal.returns

@@ -1,4 +1,4 @@
-use Rattle.ns_laws.proofs.SecretsLemmas.{rules_are_of_policies}
+use Rattle.ns_laws.proofs.Access.Secrets.{rules_are_of_policies}
 use Rattle.ns_laws.proofs.secrets.rules_are_of_policies.Goals as goal
 
 pub returns : goal.returns

@@ -1,4 +1,4 @@
-use Rattle.ns_laws.proofs.ServingLemmas.{ended_evaluation_stays}
+use Rattle.ns_laws.proofs.Service.Laws.{ended_evaluation_stays}
 use Rattle.ns_laws.proofs.serving.ended_evaluation_stays.Goals as goal
 
 pub returns : goal.returns

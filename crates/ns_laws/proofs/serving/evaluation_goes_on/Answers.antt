@@ -1,4 +1,4 @@
-use Rattle.ns_laws.proofs.ServingLemmas.{evaluation_goes_on}
+use Rattle.ns_laws.proofs.Service.Laws.{evaluation_goes_on}
 use Rattle.ns_laws.proofs.serving.evaluation_goes_on.Goals as goal
 
 pub returns : goal.returns

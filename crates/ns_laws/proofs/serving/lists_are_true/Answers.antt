@@ -1,4 +1,4 @@
-use Rattle.ns_laws.proofs.ServingLists.{lists_are_true}
+use Rattle.ns_laws.proofs.Service.Lists.{lists_are_true}
 use Rattle.ns_laws.proofs.serving.lists_are_true.Goals as goal
 
 pub returns : goal.returns

@@ -1,4 +1,4 @@
-use Rattle.ns_laws.proofs.SharingLemmas.{apart_uses_its_pools}
+use Rattle.ns_laws.proofs.Scope.Sharing.{apart_uses_its_pools}
 use Rattle.ns_laws.proofs.sharing.apart_uses_its_pools.Goals as goal
 
 pub returns : goal.returns

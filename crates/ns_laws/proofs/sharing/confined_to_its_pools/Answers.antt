@@ -1,4 +1,4 @@
-use Rattle.ns_laws.proofs.SharingLemmas.{confined_to_its_pools}
+use Rattle.ns_laws.proofs.Scope.Sharing.{confined_to_its_pools}
 use Rattle.ns_laws.proofs.sharing.confined_to_its_pools.Goals as goal
 
 pub returns : goal.returns

@@ -1,4 +1,4 @@
-use Rattle.ns_laws.proofs.SharingLemmas.{else_all_but_denied}
+use Rattle.ns_laws.proofs.Scope.Sharing.{else_all_but_denied}
 use Rattle.ns_laws.proofs.sharing.else_all_but_denied.Goals as goal
 
 pub returns : goal.returns

@@ -1,4 +1,4 @@
-use Rattle.ns_laws.proofs.SurplusRoomLemmas.{evicts_within_capacity}
+use Rattle.ns_laws.proofs.Plans.Room.{evicts_within_capacity}
 use Rattle.ns_laws.proofs.surplus.evicts_within_capacity.Goals as goal
 
 pub returns : goal.returns

@@ -1,4 +1,4 @@
-use Rattle.ns_laws.proofs.SurplusApplyLemmas.{names_undone_only}
+use Rattle.ns_laws.proofs.Plans.UndoneNodes.{names_undone_only}
 use Rattle.ns_laws.proofs.surplus.names_undone_only.Goals as goal
 
 pub returns : goal.returns

@@ -1,4 +1,4 @@
-use Rattle.ns_laws.proofs.SurplusLemmas.{snapshots_are_orderly}
+use Rattle.ns_laws.proofs.Plans.Surplus.{snapshots_are_orderly}
 use Rattle.ns_laws.proofs.surplus.snapshots_are_orderly.Goals as goal
 
 pub returns : goal.returns

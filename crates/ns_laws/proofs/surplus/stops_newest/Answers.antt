@@ -1,4 +1,4 @@
-use Rattle.ns_laws.proofs.SurplusLemmas.{stops_newest}
+use Rattle.ns_laws.proofs.Plans.Surplus.{stops_newest}
 use Rattle.ns_laws.proofs.surplus.stops_newest.Goals as goal
 
 pub returns : goal.returns

@@ -1,4 +1,4 @@
-use Rattle.ns_laws.proofs.SurplusLemmas.{stops_surplus}
+use Rattle.ns_laws.proofs.Plans.Surplus.{stops_surplus}
 use Rattle.ns_laws.proofs.surplus.stops_surplus.Goals as goal
 
 pub returns : goal.returns

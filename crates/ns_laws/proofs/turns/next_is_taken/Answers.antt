@@ -1,4 +1,4 @@
-use Rattle.ns_laws.proofs.TurnLemmas.{next_is_taken}
+use Rattle.ns_laws.proofs.Work.Turns.{next_is_taken}
 use Rattle.ns_laws.proofs.turns.next_is_taken.Goals as goal
 
 pub returns : goal.returns

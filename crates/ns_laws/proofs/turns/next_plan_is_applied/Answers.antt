@@ -1,4 +1,4 @@
-use Rattle.ns_laws.proofs.TurnLemmas.{next_plan_is_applied}
+use Rattle.ns_laws.proofs.Work.Turns.{next_plan_is_applied}
 use Rattle.ns_laws.proofs.turns.next_plan_is_applied.Goals as goal
 
 pub returns : goal.returns

@@ -1,4 +1,4 @@
-use Rattle.ns_laws.proofs.StuckLemmas.{no_worker_is_stuck}
+use Rattle.ns_laws.proofs.Work.Phases.{no_worker_is_stuck}
 use Rattle.ns_laws.proofs.turns.no_worker_is_stuck.Goals as goal
 
 pub returns : goal.returns

@@ -1,4 +1,4 @@
-use Rattle.ns_laws.proofs.FollowerLemmas.{follower_missed_nothing}
+use Rattle.ns_laws.proofs.Wakes.Followers.{follower_missed_nothing}
 use Rattle.ns_laws.proofs.waking.follower_missed_nothing.Goals as goal
 
 pub returns : goal.returns

@@ -1,4 +1,4 @@
-use Rattle.ns_laws.proofs.WakingLemmas.{none_sleeps_over_room}
+use Rattle.ns_laws.proofs.Wakes.Waking.{none_sleeps_over_room}
 use Rattle.ns_laws.proofs.waking.none_sleeps_over_room.Goals as goal
 
 pub returns : goal.returns

@@ -1,4 +1,4 @@
-use Rattle.ns_laws.proofs.WokenLemmas.{woken_had_room}
+use Rattle.ns_laws.proofs.Wakes.Reasons.{woken_had_room}
 use Rattle.ns_laws.proofs.woken.woken_had_room.Goals as goal
 
 pub returns : goal.returns

@@ -1,4 +1,4 @@
-use Rattle.ns_laws.proofs.WokenLemmas.{woken_is_pending}
+use Rattle.ns_laws.proofs.Wakes.Reasons.{woken_is_pending}
 use Rattle.ns_laws.proofs.woken.woken_is_pending.Goals as goal
 
 pub returns : goal.returns

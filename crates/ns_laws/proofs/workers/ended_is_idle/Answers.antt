@@ -1,4 +1,4 @@
-use Rattle.ns_laws.proofs.WorkPlacesLemmas.{ended_is_idle}
+use Rattle.ns_laws.proofs.Work.Places.{ended_is_idle}
 use Rattle.ns_laws.proofs.workers.ended_is_idle.Goals as goal
 
 pub returns : goal.returns

@@ -1,4 +1,4 @@
-use Rattle.ns_laws.proofs.WorkingLemmas.{snapshot_is_true}
+use Rattle.ns_laws.proofs.Work.Steps.{snapshot_is_true}
 use Rattle.ns_laws.proofs.workers.snapshot_is_true.Goals as goal
 
 pub returns : goal.returns

@@ -1,4 +1,4 @@
-use Rattle.ns_laws.proofs.WorkingLemmas.{submitted_waits_last}
+use Rattle.ns_laws.proofs.Work.Steps.{submitted_waits_last}
 use Rattle.ns_laws.proofs.workers.submitted_waits_last.Goals as goal
 
 pub returns : goal.returns

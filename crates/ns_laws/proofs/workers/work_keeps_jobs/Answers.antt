@@ -1,4 +1,4 @@
-use Rattle.ns_laws.proofs.WorkJobsLemmas.{work_keeps_jobs}
+use Rattle.ns_laws.proofs.Work.Jobs.{work_keeps_jobs}
 use Rattle.ns_laws.proofs.workers.work_keeps_jobs.Goals as goal
 
 pub returns : goal.returns

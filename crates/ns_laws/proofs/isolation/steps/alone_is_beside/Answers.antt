@@ -1,4 +1,4 @@
-use Rattle.ns_laws.proofs.Beside.{alone_is_beside}
+use Rattle.ns_laws.proofs.Scope.OwnSteps.{alone_is_beside}
 use Rattle.ns_laws.proofs.isolation.steps.alone_is_beside.Goals as goal
 
 pub returns : goal.returns

@@ -1,4 +1,4 @@
-use Rattle.ns_laws.proofs.Beside.{other_admin}
+use Rattle.ns_laws.proofs.Scope.OwnSteps.{other_admin}
 use Rattle.ns_laws.proofs.isolation.steps.other_admin.Goals as goal
 
 pub returns : goal.returns

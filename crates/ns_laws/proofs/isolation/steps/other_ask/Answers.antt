@@ -1,4 +1,4 @@
-use Rattle.ns_laws.proofs.Beside.{other_ask}
+use Rattle.ns_laws.proofs.Scope.OwnSteps.{other_ask}
 use Rattle.ns_laws.proofs.isolation.steps.other_ask.Goals as goal
 
 pub returns : goal.returns

@@ -1,4 +1,4 @@
-use Rattle.ns_laws.proofs.Beside.{other_dequeue}
+use Rattle.ns_laws.proofs.Scope.OwnSteps.{other_dequeue}
 use Rattle.ns_laws.proofs.isolation.steps.other_dequeue.Goals as goal
 
 pub returns : goal.returns

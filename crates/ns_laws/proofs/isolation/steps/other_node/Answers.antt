@@ -1,4 +1,4 @@
-use Rattle.ns_laws.proofs.Beside.{other_node}
+use Rattle.ns_laws.proofs.Scope.OwnSteps.{other_node}
 use Rattle.ns_laws.proofs.isolation.steps.other_node.Goals as goal
 
 pub returns : goal.returns

@@ -1,4 +1,4 @@
-use Rattle.ns_laws.proofs.Beside.{other_snap}
+use Rattle.ns_laws.proofs.Scope.OwnSteps.{other_snap}
 use Rattle.ns_laws.proofs.isolation.steps.other_snap.Goals as goal
 
 pub returns : goal.returns

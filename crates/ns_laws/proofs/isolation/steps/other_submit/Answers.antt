@@ -1,4 +1,4 @@
-use Rattle.ns_laws.proofs.Beside.{other_submit}
+use Rattle.ns_laws.proofs.Scope.OwnSteps.{other_submit}
 use Rattle.ns_laws.proofs.isolation.steps.other_submit.Goals as goal
 
 pub returns : goal.returns

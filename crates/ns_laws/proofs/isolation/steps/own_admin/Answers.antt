@@ -1,4 +1,4 @@
-use Rattle.ns_laws.proofs.Beside.{own_admin}
+use Rattle.ns_laws.proofs.Scope.OwnSteps.{own_admin}
 use Rattle.ns_laws.proofs.isolation.steps.own_admin.Goals as goal
 
 pub returns : goal.returns

@@ -1,4 +1,4 @@
-use Rattle.ns_laws.proofs.Beside.{own_apply}
+use Rattle.ns_laws.proofs.Scope.OwnSteps.{own_apply}
 use Rattle.ns_laws.proofs.isolation.steps.own_apply.Goals as goal
 
 pub returns : goal.returns

@@ -1,4 +1,4 @@
-use Rattle.ns_laws.proofs.Beside.{own_finish}
+use Rattle.ns_laws.proofs.Scope.OwnSteps.{own_finish}
 use Rattle.ns_laws.proofs.isolation.steps.own_finish.Goals as goal
 
 pub returns : goal.returns

@@ -1,4 +1,4 @@
-use Rattle.ns_laws.proofs.Beside.{own_node}
+use Rattle.ns_laws.proofs.Scope.OwnSteps.{own_node}
 use Rattle.ns_laws.proofs.isolation.steps.own_node.Goals as goal
 
 pub returns : goal.returns

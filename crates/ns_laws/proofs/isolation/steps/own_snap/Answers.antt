@@ -1,4 +1,4 @@
-use Rattle.ns_laws.proofs.Beside.{own_snap}
+use Rattle.ns_laws.proofs.Scope.OwnSteps.{own_snap}
 use Rattle.ns_laws.proofs.isolation.steps.own_snap.Goals as goal
 
 pub returns : goal.returns

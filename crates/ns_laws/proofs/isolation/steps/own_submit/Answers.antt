@@ -1,4 +1,4 @@
-use Rattle.ns_laws.proofs.Beside.{own_submit}
+use Rattle.ns_laws.proofs.Scope.OwnSteps.{own_submit}
 use Rattle.ns_laws.proofs.isolation.steps.own_submit.Goals as goal
 
 pub returns : goal.returns

@@ -1,0 +1,4 @@
+-- Secrets, their rights, policies and tokens.
+pub mod Lists
+pub mod Secrets
+pub mod Tokens

@@ -1,0 +1,6 @@
+-- What each request does to the rows.
+pub mod Admins
+pub mod Asks
+pub mod Documents
+pub mod Nodes
+pub mod Rows

@@ -1,0 +1,6 @@
+-- The indexes of namespaces and of their rows, and their events.
+pub mod BegunRows
+pub mod Laws
+pub mod OwnChanges
+pub mod StepRows
+pub mod UnchangedRows

@@ -1,0 +1,11 @@
+-- What a plan places, stops and evicts, and what Apply does of it.
+pub mod ApplyQuota
+pub mod ApplyRows
+pub mod ApplyStep
+pub mod Limits
+pub mod OwnJobs
+pub mod Planning
+pub mod Quota
+pub mod Room
+pub mod Surplus
+pub mod UndoneNodes

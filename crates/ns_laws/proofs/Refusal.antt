@@ -1,0 +1,4 @@
+-- Why each request is refused.
+pub mod Reasons
+pub mod Registration
+pub mod Tests

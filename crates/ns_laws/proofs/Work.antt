@@ -1,0 +1,10 @@
+-- What each step of a worker changes, and when it may be taken.
+pub mod Finish
+pub mod Jobs
+pub mod Nack
+pub mod Phases
+pub mod Places
+pub mod Rows
+pub mod Snapshots
+pub mod Steps
+pub mod Turns
