@@ -25,8 +25,7 @@ use Rattle.ns_types.specs.declared.step.NodeCommand.{NodeCommand}
 use Rattle.ns_types.specs.declared.step.Report.{Report}
 use Rattle.ns_types.specs.declared.step.Step.{Step}
 use Rattle.ns_types.specs.Access.Sharing.{permits}
-use Rattle.ns_types.specs.Asking.Admins.{most_rows}
-use Rattle.ns_types.specs.Asking.Nodes.{most_nodes}
+use Rattle.ns_types.specs.Asking.Asks.{most_jobs}
 use Rattle.ns_types.specs.Asking.Policies.{bootstrap_accessor}
 use Rattle.ns_types.specs.State.Names.{Name, ByName, default_name}
 use Rattle.ns_types.specs.State.Resources.{Resource, quantity}
@@ -201,18 +200,18 @@ pub record IsFullFor {X : Type 0} (table : ByName X) (name : Name) (most : ℕ) 
 -- a request would bring a number of rows past its bound
 pub data LacksRoom (s : State) : Step → Type 0 where
   namespaces : {secret : Option Name} {name : Name} {namespace : Namespace} →
-      IsFullFor s.world.tenants name most_rows →
+      IsFullFor s.world.tenants name 10000 →
       LacksRoom s (Step.Admin secret (AdminCommand.PutNamespace name namespace))
-  quotas : {secret : Option Name} {name : Name} {quota : Quota} → IsFullFor s.world.quotas name most_rows →
+  quotas : {secret : Option Name} {name : Name} {quota : Quota} → IsFullFor s.world.quotas name 10000 →
       LacksRoom s (Step.Admin secret (AdminCommand.PutQuota name quota))
-  pools : {secret : Option Name} {name : Name} {pool : Pool} → IsFullFor s.world.pools name most_rows →
+  pools : {secret : Option Name} {name : Name} {pool : Pool} → IsFullFor s.world.pools name 10000 →
       LacksRoom s (Step.Admin secret (AdminCommand.PutPool name pool))
-  policies : {secret : Option Name} {name : Name} {policy : Policy} → IsFullFor s.acl.policies name most_rows →
+  policies : {secret : Option Name} {name : Name} {policy : Policy} → IsFullFor s.acl.policies name 10000 →
       LacksRoom s (Step.Admin secret (AdminCommand.PutPolicy name policy))
-  tokens : {secret : Option Name} {new : NewToken} → most_rows ≤ len s.acl.tokens →
+  tokens : {secret : Option Name} {new : NewToken} → 10000 ≤ len s.acl.tokens →
       LacksRoom s (Step.Admin secret (AdminCommand.CreateToken new))
   nodes : {pool : Name} {secret : Option Name} {name : Name} {offer : Offer} (p : PoolRows) →
-      get s.world.pools pool ≡ Some p → IsFullFor p.nodes name most_nodes →
+      get s.world.pools pool ≡ Some p → IsFullFor p.nodes name 1000 →
       LacksRoom s (Step.Node pool secret (NodeCommand.PutNode name offer))
 
 -- ---- all refusals
@@ -250,3 +249,7 @@ NotFoundIsMissing = (step : Step) (s : State) → IsTrue (is_allowed step s.acl)
 abbrev pub PastBoundIsFull : Type 0
 PastBoundIsFull = (step : Step) (s : State) → IsTrue (is_allowed step s.acl) → IsTrue (would_pass_bound step s) →
     after step s ≡ said (Err Refusal.Full) s
+
+-- The most jobs of a namespace, at which the registration of a new one is refused `Full`.
+abbrev pub JobsAreAThousand : Type 0
+JobsAreAThousand = most_jobs ≡ 1000

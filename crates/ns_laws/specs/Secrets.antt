@@ -24,7 +24,6 @@ use Rattle.ns_types.specs.declared.step.NewToken.{NewToken}
 use Rattle.ns_types.specs.declared.step.NodeCommand.{NodeCommand}
 use Rattle.ns_types.specs.declared.step.Step.{Step}
 use Rattle.ns_types.specs.Access.Rights.{granted, rules_of, rights_of, pool_rights_of}
-use Rattle.ns_types.specs.Asking.Admins.{most_rows}
 use Rattle.ns_types.specs.Asking.Policies.{bootstrap_accessor}
 use Rattle.ns_types.specs.State.Lists.{Each}
 use Rattle.ns_types.specs.State.Names.{Name, same_name}
@@ -305,7 +304,7 @@ abbrev pub ManagerCreatesToken : Type 0
 ManagerCreatesToken = (s : State) (secret : Name) (new : NewToken) → IsValid s → IsManager s.acl secret →
     get s.acl.tokens new.secret ≡ None →
     ((other : Name) (row : Token) → get s.acl.tokens other ≡ Some row → row.accessor ≢ new.accessor) →
-    len s.acl.tokens < most_rows → CanBeMade (Step.Admin (Some secret) (AdminCommand.CreateToken new)) s
+    len s.acl.tokens < 10000 → CanBeMade (Step.Admin (Some secret) (AdminCommand.CreateToken new)) s
 
 -- the access lists before and after the token with that accessor is deleted
 pub record IsDeleted (accessor : Name) (old later : Acl) : Type 0 where
@@ -362,7 +361,7 @@ DeletedPolicyIsGone = (s t : State) (secret : Option Name) (name : Name) (reply 
 -- there are fewer policies than may be.
 abbrev pub ManagerPutsPolicy : Type 0
 ManagerPutsPolicy = (s : State) (secret name : Name) (policy : Policy) → IsValid s → IsManager s.acl secret →
-    ((old : Policy) × (get s.acl.policies name ≡ Some old)) ⊎ (len s.acl.policies < most_rows) →
+    ((old : Policy) × (get s.acl.policies name ≡ Some old)) ⊎ (len s.acl.policies < 10000) →
     CanBeMade (Step.Admin (Some secret) (AdminCommand.PutPolicy name policy)) s
 
 -- In a valid state a request with the secret of a `management` token deletes a policy that is there.
