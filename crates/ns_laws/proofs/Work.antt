@@ -1,4 +1,5 @@
 -- What each step of a worker changes, and when it may be taken.
+pub mod Apply
 pub mod Finish
 pub mod Jobs
 pub mod Nack

@@ -1,5 +1,5 @@
 -- Laws of workers: what each step of a worker changes, and what it leaves as it was.
-use Rattle.std.specs.Prelude.{◌≡◌, ◌≢◌, ◌⊎◌, ℕ, ◌+◌, ◌<◌, ◌≤◌, Bool, true, false, List, [], ◌∷◌, ◌++◌, Option}
+use Rattle.std.specs.Prelude.{◌≡◌, ◌≢◌, ◌⊎◌, ℕ, ◌+◌, ◌-◌, ◌<◌, ◌≤◌, Bool, true, false, List, [], ◌∷◌, ◌++◌, Option}
 use Rattle.std.specs.Prelude.{Some, None}
 use Rattle.std.specs.FinMap.{get}
 use Rattle.std.specs.List.{Contains}
@@ -30,6 +30,7 @@ use Rattle.ns_types.specs.Validity.{IsValid}
 use Rattle.ns_types.specs.Working.Looks.{worker_at}
 use Rattle.ns_types.specs.Working.Worker.{Worker}
 use Rattle.ns_laws.specs.Effects.{IsMade}
+use Rattle.ns_laws.specs.Ending.{IsUnchangedJob}
 use Rattle.ns_laws.specs.Queue.{IsFirstOfGreatest}
 use Rattle.ns_laws.specs.Reads.{counted_in}
 use Rattle.ns_laws.specs.Sublist.{IsSublist}
@@ -227,6 +228,73 @@ pub record IsSubmitted (number : ℕ) (ns : Name) (reply : Reply) (s s' : State)
 abbrev pub SubmittedWaitsLast : Type 0
 SubmittedWaitsLast = (number : ℕ) (ns : Name) (s s' : State) (reply : Reply) →
     IsMade (Step.Submit number ns) s reply s' → IsSubmitted number ns reply s s'
+
+-- ---- Apply
+
+-- the plan of the snapshot still stands: the job is as it was in the snapshot
+abbrev pub Stands : Snapshot → Tenant → Type 0
+Stands kept rows = IsUnchangedJob kept.job (get rows.jobs kept.evaluation.job)
+
+-- the plan still stands, and one of the allocations that it stops is live
+pub record StopsLive (kept : Snapshot) (rows : Tenant) : Type 0 where
+  pub stands : Stands kept rows
+  pub number : ℕ
+  pub is_stop : Contains (plan kept).stops number
+  pub row : Allocation
+  pub is_row : get rows.allocations number ≡ Some row
+  pub live : is_live row ≡ true
+
+-- an allocation was made, or a live one was stopped
+abbrev pub HasCommitted : Snapshot → Tenant → List ℕ → Type 0
+HasCommitted kept before made = (made ≢ []) ⊎ StopsLive kept before
+
+-- the reply names a node whose placements are not done, or the plan no longer stands
+abbrev pub HasDropped : Snapshot → Tenant → List Name → Type 0
+HasDropped kept before dropped = (dropped ≢ []) ⊎ (Stands kept before → ⊥)
+
+-- the phase says whether something was dropped
+pub data PhaseSays (Dropped : Type 0) (phase : Phase) : Type 0 where
+  some_dropped : Dropped → phase ≡ Phase.Dropped → PhaseSays Dropped phase
+  none_dropped : (Dropped → ⊥) → phase ≡ Phase.Applied → PhaseSays Dropped phase
+
+-- all tries of the job's type if something was committed; else one less if something was dropped; else as many as before
+pub data CountsTries (kind : JobKind) (Committed Dropped : Type 0) (was is : ℕ) : Type 0 where
+  all_again : Committed → HasTries kind is → CountsTries kind Committed Dropped was is
+  one_less : (Committed → ⊥) → Dropped → is ≡ was - 1 → CountsTries kind Committed Dropped was is
+  as_many : (Committed → ⊥) → (Dropped → ⊥) → is ≡ was → CountsTries kind Committed Dropped was is
+
+pub record IsApplied (number : ℕ) (ns : Name) (reply : Reply) (s s' : State) : Type 0 where
+  pub before : Tenant
+  pub was_there : get s.world.tenants ns ≡ Some before
+  pub old : Worker
+  pub was_worker : get before.workers number ≡ Some old
+  pub was_in : old.phase ≡ Phase.Submitted
+  pub kept : Snapshot
+  pub was_kept : old.kept ≡ Some kept
+  pub row : Evaluation
+  pub is_row : get before.evaluations old.evaluation ≡ Some row
+  -- the numbers of the allocations that were made, and the names of the nodes whose placements are not done
+  pub made : List ℕ
+  pub dropped : List Name
+  pub replied : reply.content ≡ Content.Applied made dropped
+  pub now : Tenant
+  pub is_there : get s'.world.tenants ns ≡ Some now
+  pub worker : Worker
+  pub is_worker : get now.workers number ≡ Some worker
+  pub same_evaluation : worker.evaluation ≡ old.evaluation
+  pub same_snapshot : worker.kept ≡ old.kept
+  pub phase : PhaseSays (HasDropped kept before dropped) worker.phase
+  pub tries : CountsTries row.kind (HasCommitted kept before made) (HasDropped kept before dropped) old.tries worker.tries
+  pub plans : IsTakenOut (ns, old.evaluation) s.world.plans s'.world.plans
+
+-- Once a plan is applied, the worker whose plan it was has the same evaluation and keeps the same snapshot. Its plan
+-- does not wait any more, and the others wait in their order. The worker's phase is Dropped if the reply names a node,
+-- or if the plan no longer stood, as its job had changed since the snapshot; otherwise it is Applied. If an allocation
+-- was made or a live one was stopped, the worker has all tries again: five for a service job, and two for a batch job.
+-- If not, it has one try less if its phase is Dropped, and as many as before if it is Applied.
+abbrev pub AppliedCountsTries : Type 0
+AppliedCountsTries = (number : ℕ) (ns : Name) (s s' : State) (reply : Reply) →
+    IsMade (Step.Apply number ns) s reply s' → IsApplied number ns reply s s'
 
 -- ---- Nack
 

@@ -1,6 +1,7 @@
 //! Laws of workers: what each step of a worker changes, and what it leaves as it was.
 
 ghost use Rattle.ns_laws.specs.Workers.{DequeuedIsTaken, SnapshotIsTrue, SubmittedWaitsLast};
+ghost use Rattle.ns_laws.specs.Workers.{AppliedCountsTries};
 ghost use Rattle.ns_laws.specs.Workers.{NackedIsGivenBack, FinishedIsEnded, WorkKeepsJobs};
 ghost use Rattle.ns_laws.specs.Workers.{EndedIsIdle, WorkStaysInside, ApplyKeepsOtherWorkers};
 
@@ -22,6 +23,15 @@ pub fn snapshot_is_true()
 /// snapshot that the worker took last and still keeps, and it stops or places something. Nothing else changes.
 pub fn submitted_waits_last()
     ensures { SubmittedWaitsLast }
+{}
+
+/// Once a plan is applied, the worker whose plan it was has the same evaluation and keeps the same snapshot. Its plan
+/// does not wait any more, and the others wait in their order. The worker's phase is Dropped if the reply names a node,
+/// or if the plan no longer stood, as its job had changed since the snapshot; otherwise it is Applied. If an allocation
+/// was made or a live one was stopped, the worker has all tries again: five for a service job, and two for a batch job.
+/// If not, it has one try less if its phase is Dropped, and as many as before if it is Applied.
+pub fn applied_counts_tries()
+    ensures { AppliedCountsTries }
 {}
 
 /// Once a worker has nacked its evaluation, whose plan does not wait to be applied, the worker has it no more. Up to

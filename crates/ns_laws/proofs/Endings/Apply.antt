@@ -529,7 +529,7 @@ ended_is : (o : Option Job) → has_ended o ≡ true → HasEnded o
 ended_is None e job is = absurd (not_Some job is)
 ended_is (Some i) e job is = ap (λ (j : Job). j.stop) (sym (same_Some i job is)) ∙ e
 
-stands_current : (planned present : Option Job) → still_stands planned present ≡ true → IsUnchangedJob planned present
+pub stands_current : (planned present : Option Job) → still_stands planned present ≡ true → IsUnchangedJob planned present
 stands_current None present h = ended (λ job is. absurd (not_Some job is)) (ended_is present h)
 stands_current (Some a) present h = by a.stop refl h
   where

@@ -51,7 +51,7 @@ module _ (number : ℕ) (key : Key) (w : World) (Q : Content → World → Type 
       (λ _. does_or Q (get w.tenants key.0) (dequeue_in number key w)
       (λ t is. does_or Q (get t.evaluations key.1) (λ e. Done (Content.Took key.1) (taken number key w t e)) (λ e at. h t e is at))) (λ _. tt)
 
-has_tries : (kind : JobKind) → HasTries kind (tries_for kind)
+pub has_tries : (kind : JobKind) → HasTries kind (tries_for kind)
 has_tries JobKind.Service = refl
 has_tries JobKind.Batch = refl
 
