@@ -1,6 +1,7 @@
 -- What each step of a worker changes, and when it may be taken.
 pub mod Apply
 pub mod Finish
+pub mod Followers
 pub mod Jobs
 pub mod Nack
 pub mod Phases

@@ -1,5 +1,5 @@
 -- Laws of workers: what each step of a worker changes, and what it leaves as it was.
-use Rattle.std.specs.Prelude.{◌≡◌, ◌≢◌, ◌⊎◌, ℕ, ◌+◌, ◌-◌, ◌<◌, ◌≤◌, Bool, true, false, List, [], ◌∷◌, ◌++◌, Option}
+use Rattle.std.specs.Prelude.{◌≡◌, ◌≢◌, ◌⊎◌, ℕ, ◌+◌, ◌-◌, ◌<◌, ◌≤◌, Bool, true, false, List, [], ◌∷◌, ◌++◌, Option, ◌↔◌}
 use Rattle.std.specs.Prelude.{Some, None}
 use Rattle.std.specs.FinMap.{get}
 use Rattle.std.specs.List.{Contains}
@@ -8,8 +8,10 @@ use Rattle.ns_types.specs.declared.allocation.Allocation.{Allocation}
 use Rattle.ns_types.specs.declared.evaluation.Evaluation.{Evaluation}
 use Rattle.ns_types.specs.declared.evaluation.Status.{Status}
 use Rattle.ns_types.specs.declared.evaluation.Trigger.{Trigger}
+use Rattle.ns_types.specs.declared.job.Constraint.{Constraint}
 use Rattle.ns_types.specs.declared.job.Job.{Job}
 use Rattle.ns_types.specs.declared.job.JobKind.{JobKind}
+use Rattle.ns_types.specs.declared.job.Target.{Target}
 use Rattle.ns_types.specs.declared.node.Class.{Class}
 use Rattle.ns_types.specs.declared.reply.Content.{Content}
 use Rattle.ns_types.specs.declared.reply.Reply.{Reply}
@@ -25,12 +27,13 @@ use Rattle.ns_types.specs.State.Lists.{Each}
 use Rattle.ns_types.specs.State.Names.{Key, Name, has_key}
 use Rattle.ns_types.specs.State.Resources.{limits_in, total}
 use Rattle.ns_types.specs.State.Rows.{State, World, Tenant, PoolRows, QuotaRows, allocation_at, is_done, is_live}
-use Rattle.ns_types.specs.State.Rows.{is_live_on, node_at}
+use Rattle.ns_types.specs.State.Rows.{class_of, is_live_on, is_unique, node_at}
 use Rattle.ns_types.specs.Validity.{IsValid}
 use Rattle.ns_types.specs.Working.Looks.{worker_at}
 use Rattle.ns_types.specs.Working.Worker.{Worker}
 use Rattle.ns_laws.specs.Effects.{IsMade}
 use Rattle.ns_laws.specs.Ending.{IsUnchangedJob}
+use Rattle.ns_laws.specs.Planning.{Meets}
 use Rattle.ns_laws.specs.Queue.{IsFirstOfGreatest}
 use Rattle.ns_laws.specs.Reads.{counted_in}
 use Rattle.ns_laws.specs.Sublist.{IsSublist}
@@ -257,7 +260,8 @@ pub data PhaseSays (Dropped : Type 0) (phase : Phase) : Type 0 where
   some_dropped : Dropped → phase ≡ Phase.Dropped → PhaseSays Dropped phase
   none_dropped : (Dropped → ⊥) → phase ≡ Phase.Applied → PhaseSays Dropped phase
 
--- all tries of the job's type if something was committed; else one less if something was dropped; else as many as before
+-- all tries of the job's type if something was committed; else one less if something was dropped; else as many as
+-- before
 pub data CountsTries (kind : JobKind) (Committed Dropped : Type 0) (was is : ℕ) : Type 0 where
   all_again : Committed → HasTries kind is → CountsTries kind Committed Dropped was is
   one_less : (Committed → ⊥) → Dropped → is ≡ was - 1 → CountsTries kind Committed Dropped was is
@@ -284,7 +288,8 @@ pub record IsApplied (number : ℕ) (ns : Name) (reply : Reply) (s s' : State) :
   pub same_evaluation : worker.evaluation ≡ old.evaluation
   pub same_snapshot : worker.kept ≡ old.kept
   pub phase : PhaseSays (HasDropped kept before dropped) worker.phase
-  pub tries : CountsTries row.kind (HasCommitted kept before made) (HasDropped kept before dropped) old.tries worker.tries
+  pub tries : CountsTries row.kind (HasCommitted kept before made) (HasDropped kept before dropped) old.tries
+      worker.tries
   pub plans : IsTakenOut (ns, old.evaluation) s.world.plans s'.world.plans
 
 -- Once a plan is applied, the worker whose plan it was has the same evaluation and keeps the same snapshot. Its plan
@@ -373,14 +378,55 @@ pub data EndsAs (tries : ℕ) (status : Status) (trigger : Trigger) : Type 0 whe
   is_failed : tries ≡ 0 → status ≡ Status.Failed → trigger ≡ Trigger.MaxPlanAttempts → EndsAs tries status trigger
   is_complete : tries ≢ 0 → status ≡ Status.Complete → trigger ≡ Trigger.QueuedAllocs → EndsAs tries status trigger
 
+-- a constraint on this target escapes classes: the target is a node's name, or an attribute that is unique to a node
+abbrev pub EscapesClasses : Target → Type 0
+EscapesClasses Target.NodeClass = ⊥
+EscapesClasses Target.NodeName = Unit {0}
+EscapesClasses (Target.Attribute key) = is_unique key ≡ true
+
+-- the constraint is one of the snapshot's job
+abbrev pub HasConstraint : Snapshot → Constraint → Type 0
+HasConstraint kept c = (job : Job) × (kept.job ≡ Some job) × Contains job.document.constraints c
+
+-- some constraint of the snapshot's job escapes classes
+abbrev pub SomeEscapes : Snapshot → Type 0
+SomeEscapes kept = (c : Constraint) × HasConstraint kept c × EscapesClasses c.target
+
+-- a node of the snapshot has that class, and does not meet a constraint of the job that does not escape classes
+pub record IsRuledOut (kept : Snapshot) (class : Class) : Type 0 where
+  pub node : PoolNode
+  pub is_node : Contains kept.nodes node
+  pub of_class : class_of node.row ≡ class
+  pub constraint : Constraint
+  pub is_constraint : HasConstraint kept constraint
+  pub by_class : EscapesClasses constraint.target → ⊥
+  pub fails : Meets node.name node.row constraint.operand constraint.target constraint.value → ⊥
+
+-- after a failure no quota limits the follower; otherwise the snapshot's does, exactly if the plan reports it as its
+-- limit
+pub data LimitedBy (tries : ℕ) (kept : Snapshot) : Option Name → Type 0 where
+  failed : tries ≡ 0 → LimitedBy tries kept None
+  by_quota : tries ≢ 0 → (plan kept).placing.quota_limited ≡ true → (seen : QuotaSeen) → kept.quota ≡ Some seen →
+      LimitedBy tries kept (Some seen.name)
+  by_none : tries ≢ 0 → (plan kept).placing.quota_limited ≡ false → LimitedBy tries kept None
+
+-- what the follower waits for: it escapes classes after a failure, or if some constraint of the job does; and its
+-- infeasible classes are exactly those that a constraint of the job rules out
+pub record WaitsFor (tries : ℕ) (kept : Snapshot) (f : Evaluation) : Type 0 where
+  pub quota : LimitedBy tries kept f.quota
+  pub escapes : (f.escapes ≡ true) ↔ ((tries ≡ 0) ⊎ SomeEscapes kept)
+  pub infeasible : (class : Class) → Contains f.infeasible class ↔ IsRuledOut kept class
+
 -- the follower is for the job of the evaluation and for the pool of the snapshot, and it names the evaluation
-pub record IsFollower (n : ℕ) (row : Evaluation) (kept : Snapshot) (trigger : Trigger) (f : Evaluation) : Type 0 where
+pub record IsFollower (worker : Worker) (row : Evaluation) (kept : Snapshot) (trigger : Trigger)
+    (f : Evaluation) : Type 0 where
   pub job : f.job ≡ row.job
   pub kind : f.kind ≡ row.kind
   pub priority : f.priority ≡ row.priority
   pub pool : f.pool ≡ kept.pool
-  pub previous : f.previous ≡ Some n
+  pub previous : f.previous ≡ Some worker.evaluation
   pub why : f.trigger ≡ trigger
+  pub waits : WaitsFor worker.tries kept f
 
 -- no try is left, or the plan is short: it did not place each allocation that was missing
 abbrev pub NeedsFollower : Worker → Snapshot → Type 0
@@ -401,12 +447,12 @@ pub data FollowerLeads (w : World) (ns : Name) (worker : Worker) (kept : Snapsho
   none_needed : worker.tries ≢ 0 → is_short (plan kept) ≡ false → is ≡ rest →
       now.evaluation_number ≡ before.evaluation_number →
       FollowerLeads w ns worker kept row trigger before now rest is None
-  follower_blocked : NeedsFollower worker kept → (f : Evaluation) → IsFollower worker.evaluation row kept trigger f →
+  follower_blocked : NeedsFollower worker kept → (f : Evaluation) → IsFollower worker row kept trigger f →
       f.status ≡ Status.Blocked → HasEvaluation now (before.evaluation_number + 1) f →
       is ≡ rest ++ (ns, before.evaluation_number + 1) ∷ [] →
       now.evaluation_number ≡ before.evaluation_number + 1 →
       FollowerLeads w ns worker kept row trigger before now rest is (Some (before.evaluation_number + 1))
-  follower_pending : NeedsFollower worker kept → (f : Evaluation) → IsFollower worker.evaluation row kept trigger f →
+  follower_pending : NeedsFollower worker kept → (f : Evaluation) → IsFollower worker row kept trigger f →
       f.status ≡ Status.Pending → MissedRelease w kept f → HasEvaluation now (before.evaluation_number + 1) f →
       is ≡ rest →
       now.evaluation_number ≡ before.evaluation_number + 1 →
@@ -449,11 +495,14 @@ pub record IsFinished (number : ℕ) (ns : Name) (reply : Reply) (s s' : State) 
   pub plans : s'.world.plans ≡ s.world.plans
 
 -- In a valid state, once a worker has finished its evaluation, the worker is idle. The evaluation is complete, or has
--- failed if no try is left. The job's blocked evaluation, if there was one, is canceled. A follower is there exactly
--- if the evaluation failed or its plan did not place each allocation that was missing: it is the last of those
--- blocked, or it is pending, as it missed a release after the snapshot. Another evaluation of the job becomes ready
--- if one is pending and none of the job is ready or with a worker. Other evaluations, jobs and allocations are as they
--- were.
+-- failed if no try is left. The job's blocked evaluation, if there was one, is canceled. A follower is there exactly if
+-- the evaluation failed or its plan did not place each allocation that was missing: it is the last of those blocked, or
+-- it is pending, as it missed a release after the snapshot. After a failure no quota limits the follower, and it
+-- escapes classes. Otherwise the snapshot's quota limits it exactly if the plan reports the quota as its limit, and it
+-- escapes classes exactly if some constraint of the job does: one on the node's name, or on an attribute that is unique
+-- to a node. Its infeasible classes are exactly the classes of those nodes of the snapshot that do not meet some other
+-- constraint of the job. Another evaluation of the job becomes ready if one is pending and none of the job is ready or
+-- with a worker. Other evaluations, jobs and allocations are as they were.
 abbrev pub FinishedIsEnded : Type 0
 FinishedIsEnded = (number : ℕ) (ns : Name) (s s' : State) (reply : Reply) → IsValid s →
     IsMade (Step.Finish number ns) s reply s' → IsFinished number ns reply s s'

@@ -45,9 +45,12 @@ pub fn nacked_is_given_back()
 /// In a valid state, once a worker has finished its evaluation, the worker is idle. The evaluation is complete, or has
 /// failed if no try is left. The job's blocked evaluation, if there was one, is canceled. A follower is there exactly
 /// if the evaluation failed or its plan did not place each allocation that was missing: it is the last of those
-/// blocked, or it is pending, as it missed a release after the snapshot. Another evaluation of the job becomes ready
-/// if one is pending and none of the job is ready or with a worker. Other evaluations, jobs and allocations are as they
-/// were.
+/// blocked, or it is pending, as it missed a release after the snapshot. After a failure no quota limits the follower,
+/// and it escapes classes. Otherwise the snapshot's quota limits it exactly if the plan reports the quota as its limit,
+/// and it escapes classes exactly if some constraint of the job does: one on the node's name, or on an attribute that
+/// is unique to a node. Its infeasible classes are exactly the classes of those nodes of the snapshot that do not meet
+/// some other constraint of the job. Another evaluation of the job becomes ready if one is pending and none of the job
+/// is ready or with a worker. Other evaluations, jobs and allocations are as they were.
 pub fn finished_is_ended()
     ensures { FinishedIsEnded }
 {}

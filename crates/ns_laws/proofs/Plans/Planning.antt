@@ -360,7 +360,7 @@ pub text_same : (a b : List ℕ) → a ≡ b → bytes_eq a b ≡ true
 text_same a b e = (bytes_eq-Decides a b).1 e
 
 module _ (name : List ℕ) (node : Node) where
-  meets_by : (operand : Operand) (target : Target) (text : List ℕ) → compares operand (target_value target name node) text ≡ true
+  pub meets_by : (operand : Operand) (target : Target) (text : List ℕ) → compares operand (target_value target name node) text ≡ true
       → law.Meets name node operand target text
   meets_by Operand.Equal Target.NodeClass text e = same_text node.offer.class text e
   meets_by Operand.Equal Target.NodeName text e = same_text name text e

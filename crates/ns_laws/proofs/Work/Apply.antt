@@ -164,8 +164,8 @@ module _ (kept : Snapshot) (t : Tenant) where
   unfolding commit
   commit_shows w = by (still_stands kept.job (get t.jobs kept.evaluation.job)) refl
     where
-      done_shows : still_stands kept.job (get t.jobs kept.evaluation.job) ≡ true → (c : Commit) → let x = stop_all kept.namespace (live_stops t (plan kept).stops) w in
-          Shows kept t (done_with kept t (live_stops t (plan kept).stops) (plan kept).placing.placements x c)
+      done_shows : still_stands kept.job (get t.jobs kept.evaluation.job) ≡ true → (c : Commit) → Shows kept t (done_with kept t
+          (live_stops t (plan kept).stops) (plan kept).placing.placements (stop_all kept.namespace (live_stops t (plan kept).stops) w) c)
       done_shows stands c =
           let is = shows_done stands (committed_placements c (plan kept).placing.placements) c.dropped in record { committed = is.0; dropped = is.1 }
 

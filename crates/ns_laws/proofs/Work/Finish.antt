@@ -1,6 +1,6 @@
 -- What a finish changes, and what it leaves as it was.
 use Rattle.std.specs.Prelude.{◌≡◌, ◌≢◌, ◌⊎◌, ℕ, suc, ◌<◌, nat_lt, ◌+◌, ◌≤◌, Bool, true, false, cond}
-use Rattle.std.specs.Prelude.{◌&&◌, List, [], ◌∷◌, ◌++◌, Option, Some, None, find, nat_eq, option_map}
+use Rattle.std.specs.Prelude.{◌&&◌, List, [], ◌∷◌, ◌++◌, Option, Some, None, find, option_map}
 use Rattle.std.proofs.Common.{refl, sym, ap, subst, ◌∙◌, inl, inr, arith}
 use Rattle.std.proofs.lemmas.Bool.Decides.{eqb_tells, leb_tells}
 use Rattle.std.specs.FinMap.{get, insert, remove, entries, get-entries}
@@ -42,6 +42,7 @@ use Rattle.ns_laws.specs.Workers.{follower_pending, HasEvaluation, IsFinished, I
 use Rattle.ns_laws.proofs.Effect.Rows.{Does, does_if, put_there}
 use Rattle.ns_laws.proofs.OrderedLemmas.{first_row, none_passes}
 use Rattle.ns_laws.proofs.Plans.ApplyStep.{does_or}
+use Rattle.ns_laws.proofs.Work.Followers.{is_zero, not_zero, waits_for}
 use Rattle.ns_laws.proofs.Work.Nack.{ends, ends_evaluation, ends_former, ends_idle, ends_number}
 use Rattle.ns_laws.proofs.Work.Nack.{may_promote, number_there, number_elsewhere, pending_is, promote_part}
 use Rattle.ns_laws.proofs.Work.Rows.{at_work_does, settles_one, stays_in, taken_out, wakes_nothing, work_does}
@@ -65,12 +66,6 @@ ends_as worker = elim (eqb_tells worker.tries 0) [
   | inr more ↦ is_complete more.1 (ap (λ b. cond b Status.Failed Status.Complete) more.0)
       (ap (λ b. cond b Trigger.MaxPlanAttempts Trigger.QueuedAllocs) more.0)
 ]
-
-is_zero : (n : ℕ) → nat_eq n 0 ≡ true → n ≡ 0
-is_zero n e = elim (eqb_tells n 0) [ inl zero ↦ zero.1 | inr more ↦ not_both e more.0 ]
-
-not_zero : (n : ℕ) → nat_eq n 0 ≡ false → n ≢ 0
-not_zero n e = elim (eqb_tells n 0) [ inl zero ↦ not_both zero.0 e | inr more ↦ more.1 ]
 
 may_end : (worker : Worker) (kept : Snapshot) → may_finish worker kept ≡ true → MayEnd worker kept
 may_end worker kept e = by worker.phase refl e
@@ -368,11 +363,16 @@ module _ (number : ℕ) (ns : Name) (s : State) where
     abbrev waiting : Evaluation
     waiting = record follower { status = Status.Pending }
 
-    is_follower : IsFollower n e kept why follower
-    is_follower = record { job = refl; kind = refl; priority = refl; pool = refl; previous = refl; why = refl }
-
-    is_waiting : IsFollower n e kept why waiting
-    is_waiting = record { job = refl; kind = refl; priority = refl; pool = refl; previous = refl; why = refl }
+    is_follower : (status : Status) → IsFollower worker e kept why (record follower { status = status })
+    is_follower status = record {
+      job = refl;
+      kind = refl;
+      priority = refl;
+      pool = refl;
+      previous = refl;
+      why = refl;
+      waits = waits_for e worker kept status;
+    }
 
     Follows : Tenant → World → Bool → Type 0
     Follows u x b = Finished (Content.Finished (end_of worker) (Some new)) (settle s.world (promote ns e.job (followed ns worker follower u b x)))
@@ -382,12 +382,13 @@ module _ (number : ℕ) (ns : Name) (s : State) where
     unfolding Follows
     followed_to need true late = subst (λ (u : Tenant). Finished (Content.Finished (end_of worker) (Some new))
         (settle s.world (promote ns e.job (record (put_tenant ns u s.world) { blocked = rest })))) (sym (follows waiting))
-        (followed_with waiting rest (follower_pending (needs worker kept need) waiting is_waiting refl
+        (followed_with waiting rest (follower_pending (needs worker kept need) waiting (is_follower Status.Pending) refl
         (missed_release s.world kept follower Status.Pending late) (new_row waiting) refl
         (ends_number t (without (all_rows waiting) new))))
     followed_to need false late = subst (λ (u : Tenant). Finished (Content.Finished (end_of worker) (Some new))
         (settle s.world (promote ns e.job (record (put_tenant ns u s.world) { blocked = rest ++ (ns, new) ∷ [] })))) (sym (follows follower))
-        (followed_with follower (rest ++ (ns, new) ∷ []) (follower_blocked (needs worker kept need) follower is_follower refl (new_row follower) refl
+        (followed_with follower (rest ++ (ns, new) ∷ [])
+        (follower_blocked (needs worker kept need) follower (is_follower Status.Blocked) refl (new_row follower) refl
         (ends_number t (without (all_rows follower) new))))
 
     finished_does : Does (λ content x. Finished content (settle s.world x)) (finished number ns s.world t worker e kept)
