@@ -2,6 +2,8 @@
 pub mod ApplyQuota
 pub mod ApplyRows
 pub mod ApplyStep
+pub mod Constraints
+pub mod InTurn
 pub mod Limits
 pub mod OwnJobs
 pub mod Planning

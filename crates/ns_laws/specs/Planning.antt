@@ -1,8 +1,9 @@
 -- Laws of plans: what the plan of a snapshot stops, places and evicts, and what Apply does of it.
-use Rattle.std.specs.Prelude.{◌≡◌, ◌≢◌, ◌⊎◌, ℕ, ◌+◌, ◌<◌, ◌≤◌, ◌==◌, ◌&&◌, Bool, true, false, List, [], Some}
-use Rattle.std.specs.Prelude.{None, Ok, IsTrue, count_by, filter, length, map, not, slice_get, sum_by}
+use Rattle.std.specs.Prelude.{◌≡◌, ◌≢◌, ◌⊎◌, ◌↔◌, ℕ, ◌+◌, ◌-◌, ◌<◌, ◌≤◌, ◌==◌, ◌&&◌, Bool, true, false, List}
+use Rattle.std.specs.Prelude.{[], ◌∷◌, ◌++◌, Some, None, Ok, IsFalse, IsTrue, count_by, filter, length, map, not}
+use Rattle.std.specs.Prelude.{slice_get, sum_by}
 use Rattle.std.specs.FinMap.{get}
-use Rattle.std.specs.List.{Contains}
+use Rattle.std.specs.List.{AllPairs, Contains}
 use Rattle.std.specs.Str.{bytes_eq}
 use Rattle.ns_types.specs.declared.allocation.Allocation.{Allocation}
 use Rattle.ns_types.specs.declared.allocation.ClientStatus.TheVariants as ClientStatus
@@ -22,6 +23,7 @@ use Rattle.ns_types.specs.declared.reply.Content.TheVariants as Content
 use Rattle.ns_types.specs.declared.reply.Reply.{Reply}
 use Rattle.ns_types.specs.declared.resources.Limit.{Limit}
 use Rattle.ns_types.specs.declared.resources.Limit.TheVariants.{Unlimited, AtMost, Nothing}
+use Rattle.ns_types.specs.declared.resources.Resources.{Resources}
 use Rattle.ns_types.specs.declared.snapshot.LiveAllocation.{LiveAllocation}
 use Rattle.ns_types.specs.declared.snapshot.OwnAllocation.{OwnAllocation}
 use Rattle.ns_types.specs.declared.snapshot.PoolNode.{PoolNode}
@@ -29,7 +31,10 @@ use Rattle.ns_types.specs.declared.snapshot.QuotaSeen.{QuotaSeen}
 use Rattle.ns_types.specs.declared.snapshot.Snapshot.{Snapshot}
 use Rattle.ns_types.specs.declared.step.Step.{Step}
 use Rattle.ns_types.specs.Placing.Constraint.{attribute_of}
+use Rattle.ns_types.specs.Placing.Placement.{Candidate, fits}
 use Rattle.ns_types.specs.Placing.Plan.{plan}
+use Rattle.ns_types.specs.Placing.Planning.{Choice}
+use Rattle.ns_types.specs.Placing.Preemption.{evictable, victims}
 use Rattle.ns_types.specs.State.Lists.{Each}
 use Rattle.ns_types.specs.State.Name.{is_name}
 use Rattle.ns_types.specs.State.Names.{Key, Name, has_name, has_number}
@@ -43,6 +48,7 @@ use Rattle.ns_types.specs.Within.{IsGoodStep}
 use Rattle.ns_types.specs.Working.Looks.{worker_at}
 use Rattle.ns_types.specs.Working.Worker.{Worker}
 use Rattle.ns_laws.specs.Ending.{IsPlannedEviction, IsSameAllocation}
+use Rattle.ns_laws.specs.Placement.{IsChoice}
 
 -- ---- where a plan places, and what
 
@@ -152,6 +158,90 @@ pub record HasRealLimit (s : Snapshot) : Type 0 where
 abbrev pub LimitsAreReal : Type 0
 LimitsAreReal = (s : Snapshot) → HasRealLimit s
 
+-- ---- on which nodes a plan places, and in which order
+
+-- The placements of a plan come in the order of the job's task groups.
+abbrev pub PlacesInOrder : Type 0
+PlacesInOrder = (s : Snapshot) → AllPairs (λ p q. p.group ≤ q.group) (plan s).placing.placements
+
+-- the plan stops the allocation: it is of the snapshot's namespace, and its number is among the stops
+abbrev pub is_stopped : Snapshot → LiveAllocation → Bool
+is_stopped s a = bytes_eq a.namespace s.namespace && has_number (plan s).stops a.number
+
+-- The node as the plan begins, without the allocations that the plan stops. The job may use it exactly if it is fit.
+-- What is left is its capacity without what its live allocations take. Some of these may be evicted.
+pub record IsNodeAtFirst (s : Snapshot) (job : Job) (node : PoolNode) (c : Candidate) : Type 0 where
+  pub name : c.name ≡ node.name
+  pub fit : (c.feasible ≡ true) ↔ IsFit job node.name node.row
+  pub left : (r : Resource) → quantity r c.left ≡ quantity r node.row.offer.capacity
+      - sum_by (λ a. quantity r a.size) (filter (λ a. not (is_stopped s a)) node.live)
+  pub evictable : c.evictable ≡ filter (λ a. not (is_stopped s a)) (evictable job.document.priority node.live)
+
+-- they are the nodes of the snapshot, each at its place, as the plan begins
+pub record AreNodesAtFirst (s : Snapshot) (job : Job) (nodes : List Candidate) : Type 0 where
+  pub count : length nodes ≡ length s.nodes
+  pub each : (k : ℕ) (node : PoolNode) (c : Candidate) → slice_get s.nodes k ≡ Some node →
+      slice_get nodes k ≡ Some c → IsNodeAtFirst s job node c
+
+-- the node once these victims, the first that may be evicted there, are gone, and the size is taken
+pub record TakesSize (size : Resources) (victims : List LiveAllocation) (was is : Candidate) : Type 0 where
+  pub name : is.name ≡ was.name
+  pub feasible : is.feasible ≡ was.feasible
+  pub left : (r : Resource) → quantity r is.left + quantity r size
+      ≡ quantity r was.left + sum_by (λ a. quantity r a.size) victims
+  pub evictable : was.evictable ≡ victims ++ is.evictable
+
+-- the eviction of a victim
+abbrev pub eviction_of : LiveAllocation → Eviction
+eviction_of a = record { namespace = a.namespace; number = a.number; priority = a.priority }
+
+-- of the nodes only the chosen one changes
+pub record LeavesNodes (size : Resources) (chosen : Choice) (nodes next : List Candidate) : Type 0 where
+  pub was : Candidate
+  pub was_there : slice_get nodes chosen.node ≡ Some was
+  pub is : Candidate
+  pub is_there : slice_get next chosen.node ≡ Some is
+  pub takes : TakesSize size chosen.victims was is
+  pub others : (k : ℕ) → k ≢ chosen.node → slice_get next k ≡ slice_get nodes k
+
+-- an allocation of some task group of the job has that size
+pub record IsGroupSize (job : Job) (size : Resources) : Type 0 where
+  pub place : ℕ
+  pub group : Group
+  pub is_group : slice_get job.document.groups place ≡ Some group
+  pub cpu : size.cpu ≡ sum_by (λ t. t.resources.cpu) group.tasks
+  pub memory : size.memory ≡ sum_by (λ t. t.resources.memory) group.tasks
+  pub disk : size.disk ≡ group.disk
+
+-- The placements come one after another, from the nodes as they are. Each is by the choice on the nodes, and leaves
+-- them for the next. An allocation is left out where no node has room for it and no node has victims. The last of the
+-- arguments says whether one is left out.
+pub data PlacesInTurn (job : Job) : List Candidate → List Placement → Bool → Type 0 where
+  ends : (nodes : List Candidate) → PlacesInTurn job nodes [] false
+  leaves_out : (nodes : List Candidate) (placements : List Placement) (left_out : Bool) (size : Resources) →
+      IsGroupSize job size → Each (λ node. IsFalse (fits size node) × (victims size node ≡ None)) nodes →
+      PlacesInTurn job nodes placements left_out → PlacesInTurn job nodes placements true
+  places : (nodes next : List Candidate) (p : Placement) (placements : List Placement) (left_out : Bool)
+      (chosen : Choice) → IsChoice p.size nodes chosen → p.node ≡ chosen.node →
+      p.evictions ≡ map eviction_of chosen.victims → LeavesNodes p.size chosen nodes next →
+      PlacesInTurn job next placements left_out → PlacesInTurn job nodes (p ∷ placements) left_out
+
+pub record IsPlacedByChoice (s : Snapshot) (job : Job) : Type 0 where
+  pub nodes : List Candidate
+  pub at_first : AreNodesAtFirst s job nodes
+  pub left_out : Bool
+  pub in_turn : PlacesInTurn job nodes (plan s).placing.placements left_out
+  pub reported : (plan s).placing.quota_limited ≡ false → (plan s).placing.class_limited ≡ left_out
+
+-- A plan for a job that is not stopped places one allocation after another. Each goes to the best node with room. If no
+-- node has room, it goes to the node whose victims cost least, and evicts these, as the laws of placement say. For the
+-- first placement, what is left of a node is its capacity without what its live allocations take that the plan does not
+-- stop. Each placement takes its size from its node, and its victims are gone there. A plan that does not report the
+-- quota as its limit reports that no node could take an allocation exactly if it leaves one out: when its turn came, no
+-- node had room for it, and no node had victims.
+abbrev pub PlacesByChoice : Type 0
+PlacesByChoice = (s : Snapshot) (job : Job) → s.job ≡ Some job → job.stop ≡ false → IsPlacedByChoice s job
+
 -- ---- what a plan stops
 
 -- the allocation was made for an earlier version of the job, or it is of a group with more allocations than its count
@@ -216,10 +306,6 @@ EvictsLowerOnly = (s : Snapshot) →
 -- the placements of the plan on the node at that place in the snapshot
 abbrev pub placed_at : Snapshot → ℕ → List Placement
 placed_at s place = filter (λ p. p.node == place) (plan s).placing.placements
-
--- the plan stops the allocation: it is of the snapshot's namespace, and its number is among the stops
-abbrev pub is_stopped : Snapshot → LiveAllocation → Bool
-is_stopped s a = bytes_eq a.namespace s.namespace && has_number (plan s).stops a.number
 
 -- Take a node of the snapshot that has room for its live allocations, and from which the plan evicts nothing. It has
 -- room for those that the plan does not stop together with those that the plan places there, in each resource.

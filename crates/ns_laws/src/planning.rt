@@ -5,6 +5,8 @@ ghost use Rattle.ns_laws.specs.Planning.{
   PlacesOnFitNodes,
   FillsGroups,
   LimitsAreReal,
+  PlacesInOrder,
+  PlacesByChoice,
   StopsNotWanted,
   StopsOutdated,
   EndedJobStops,
@@ -39,6 +41,21 @@ pub fn fills_groups()
 /// It reports a limit only if some task group of the job stays below its count.
 pub fn limits_are_real()
     ensures { LimitsAreReal }
+{}
+
+/// The placements of a plan come in the order of the job's task groups.
+pub fn places_in_order()
+    ensures { PlacesInOrder }
+{}
+
+/// A plan for a job that is not stopped places one allocation after another. Each goes to the best node with room. If
+/// no node has room, it goes to the node whose victims cost least, and evicts these, as the laws of placement say. For
+/// the first placement, what is left of a node is its capacity without what its live allocations take that the plan
+/// does not stop. Each placement takes its size from its node, and its victims are gone there. A plan that does not
+/// report the quota as its limit reports that no node could take an allocation exactly if it leaves one out: when its
+/// turn came, no node had room for it, and no node had victims.
+pub fn places_by_choice()
+    ensures { PlacesByChoice }
 {}
 
 /// A plan stops only live allocations of its job. If the job is not stopped, each of them was made for an earlier

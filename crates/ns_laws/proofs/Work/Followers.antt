@@ -12,14 +12,13 @@ use Rattle.ns_types.specs.declared.evaluation.Evaluation.{Evaluation}
 use Rattle.ns_types.specs.declared.evaluation.Status.{Status}
 use Rattle.ns_types.specs.declared.job.Constraint.{Constraint}
 use Rattle.ns_types.specs.declared.job.Job.{Job}
-use Rattle.ns_types.specs.declared.job.Operand.{Operand}
 use Rattle.ns_types.specs.declared.job.Target.{Target}
 use Rattle.ns_types.specs.declared.node.Class.{Class}
 use Rattle.ns_types.specs.declared.node.Node.{Node}
 use Rattle.ns_types.specs.declared.snapshot.PoolNode.{PoolNode}
 use Rattle.ns_types.specs.declared.snapshot.QuotaSeen.{QuotaSeen}
 use Rattle.ns_types.specs.declared.snapshot.Snapshot.{Snapshot}
-use Rattle.ns_types.specs.Placing.Constraint.{attribute_of, compares, escapes, holds, is_class_infeasible, target_escapes, target_value}
+use Rattle.ns_types.specs.Placing.Constraint.{escapes, holds, is_class_infeasible, target_escapes}
 use Rattle.ns_types.specs.Placing.Plan.{any_escapes, constraints_of, infeasible_classes, plan}
 use Rattle.ns_types.specs.State.Names.{Name, class_cmp, has_class, same_class}
 use Rattle.ns_types.specs.State.Rows.{class_of}
@@ -29,12 +28,13 @@ use Rattle.ns_types.proofs.Classes.{by_class, one_class}
 use Rattle.ns_types.proofs.Lists.{not_both}
 use Rattle.ns_types.proofs.Named.{first_of_both, second_of_both}
 use Rattle.ns_types.proofs.Tables.{tied}
-use Rattle.ns_types.proofs.Tests.{either_of, is_no, is_yes}
+use Rattle.ns_types.proofs.Tests.{either_of, is_no}
 use Rattle.ns_laws.specs.Planning.{Meets}
 use Rattle.ns_laws.specs.Workers.{EscapesClasses, HasConstraint, IsRuledOut, LimitedBy, failed, by_quota, by_none, SomeEscapes, WaitsFor}
 use Rattle.ns_laws.proofs.Elements.{Has, any_has, contains_from, filter_has, has_filter, has_from}
+use Rattle.ns_laws.proofs.Plans.Constraints.{meets_holds}
 use Rattle.ns_laws.proofs.Plans.Limits.{limits_are_real}
-use Rattle.ns_laws.proofs.Plans.Planning.{meets_by, same_text, text_same}
+use Rattle.ns_laws.proofs.Plans.Planning.{meets_by}
 
 pub is_zero : (n : ℕ) → nat_eq n 0 ≡ true → n ≡ 0
 is_zero n e = elim (eqb_tells n 0) [ inl zero ↦ zero.1 | inr more ↦ not_both e more.0 ]
@@ -90,29 +90,8 @@ escapes_some kept h = any_of escapes (constraints_of kept.job) h.0 (constraint_h
 -- ---- whether a node meets a constraint
 
 module _ (name : Name) (node : Node) where
-  meets_holds : (operand : Operand) (target : Target) (text : Name) → Meets name node operand target text →
-      compares operand (target_value target name node) text ≡ true
-  meets_holds Operand.Equal Target.NodeClass text h = text_same node.offer.class text h
-  meets_holds Operand.Equal Target.NodeName text h = text_same name text h
-  meets_holds Operand.Equal (Target.Attribute key) text h = ap (λ o. compares Operand.Equal o text) h ∙ text_same text text refl
-  meets_holds Operand.NotEqual target text h = by (compares Operand.NotEqual (target_value target name node) text) refl
-    where
-      value_of : (key : Name) → (attribute_of node key ≡ Some text → ⊥) → (o : Option Name) → attribute_of node key ≡ o →
-          compares Operand.NotEqual o text ≡ false → ⊥
-      value_of key h None is e = not_both refl e
-      value_of key h (Some value) is e = h (is ∙ ap Some (same_text value text (is_yes _ e)))
-
-      value_is : (target : Target) → Meets name node Operand.NotEqual target text → compares Operand.NotEqual (target_value target name node) text ≡ false → ⊥
-      value_is Target.NodeClass h e = h (same_text node.offer.class text (is_yes _ e))
-      value_is Target.NodeName h e = h (same_text name text (is_yes _ e))
-      value_is (Target.Attribute key) h e = value_of key h (attribute_of node key) refl e
-
-      by : (b : Bool) → compares Operand.NotEqual (target_value target name node) text ≡ b → b ≡ true
-      by true e = refl
-      by false e = absurd (value_is target h e)
-
   fails_by : (c : Constraint) → holds name node c ≡ false → Meets name node c.operand c.target c.value → ⊥
-  fails_by c e h = not_both (meets_holds c.operand c.target c.value h) e
+  fails_by c e h = not_both (meets_holds name node c.operand c.target c.value h) e
 
   by_failing : (c : Constraint) → (Meets name node c.operand c.target c.value → ⊥) → holds name node c ≡ false
   by_failing c h = by (holds name node c) refl
