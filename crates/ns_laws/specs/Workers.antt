@@ -417,7 +417,8 @@ pub record WaitsFor (tries : ℕ) (kept : Snapshot) (f : Evaluation) : Type 0 wh
   pub escapes : (f.escapes ≡ true) ↔ ((tries ≡ 0) ⊎ SomeEscapes kept)
   pub infeasible : (class : Class) → Contains f.infeasible class ↔ IsRuledOut kept class
 
--- the follower is for the job of the evaluation and for the pool of the snapshot, and it names the evaluation
+-- the follower is for the job of the evaluation and for the pool of the snapshot, and it names the evaluation. It has
+-- no nacks, and no follower of its own
 pub record IsFollower (worker : Worker) (row : Evaluation) (kept : Snapshot) (trigger : Trigger)
     (f : Evaluation) : Type 0 where
   pub job : f.job ≡ row.job
@@ -426,6 +427,8 @@ pub record IsFollower (worker : Worker) (row : Evaluation) (kept : Snapshot) (tr
   pub pool : f.pool ≡ kept.pool
   pub previous : f.previous ≡ Some worker.evaluation
   pub why : f.trigger ≡ trigger
+  pub no_nacks : f.nacks ≡ 0
+  pub no_follower : f.follower ≡ None
   pub waits : WaitsFor worker.tries kept f
 
 -- no try is left, or the plan is short: it did not place each allocation that was missing

@@ -371,6 +371,8 @@ module _ (number : ℕ) (ns : Name) (s : State) where
       pool = refl;
       previous = refl;
       why = refl;
+      no_nacks = refl;
+      no_follower = refl;
       waits = waits_for e worker kept status;
     }
 
