@@ -8,6 +8,7 @@ pub mod Limits
 pub mod OwnJobs
 pub mod Planning
 pub mod Quota
+pub mod QuotaEnd
 pub mod Room
 pub mod Surplus
 pub mod UndoneNodes

@@ -331,6 +331,24 @@ PlansWithinQuota = (s : Snapshot) (quota : QuotaSeen) (r : Resource) → s.quota
     Allows (limit_on r quota.limits)
     (quantity r quota.used + sum_by (λ p. quantity r p.size) (plan s).placing.placements)
 
+-- an allocation of some task group is over the quota: the limits do not allow, in some resource, what was in use
+-- together with what the plan places and with that allocation
+pub record IsOverQuota (s : Snapshot) (quota : QuotaSeen) : Type 0 where
+  pub job : Job
+  pub is_job : s.job ≡ Some job
+  pub size : Resources
+  pub is_size : IsGroupSize job size
+  pub resource : Resource
+  pub over : Allows (limit_on resource quota.limits) (quantity resource quota.used
+      + sum_by (λ p. quantity resource p.size) (plan s).placing.placements + quantity resource size) → ⊥
+
+-- A plan reports the quota as its limit, and stops and evicts nothing. Then an allocation of some task group of the job
+-- is over the quota: the limits that the snapshot has do not allow, in some resource, what was in use together with
+-- what the plan places and with that allocation.
+abbrev pub QuotaEndsPlan : Type 0
+QuotaEndsPlan = (s : Snapshot) (quota : QuotaSeen) → s.quota ≡ Some quota → (plan s).placing.quota_limited ≡ true →
+    (plan s).stops ≡ [] → Each (λ p. p.evictions ≡ []) (plan s).placing.placements → IsOverQuota s quota
+
 -- ---- what Apply does
 
 -- In a valid state, Apply places an allocation for a namespace that names a quota. After the step, the limits of the

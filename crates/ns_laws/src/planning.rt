@@ -13,6 +13,7 @@ ghost use Rattle.ns_laws.specs.Planning.{
   EvictsLowerOnly,
   PlansWithinCapacity,
   PlansWithinQuota,
+  QuotaEndsPlan,
   AppliesByNode,
   KeepsToQuota,
   SnapshotsKeepOwnJob,
@@ -90,6 +91,13 @@ pub fn plans_within_capacity()
 /// was in use together with what the plan places, in each resource.
 pub fn plans_within_quota()
     ensures { PlansWithinQuota }
+{}
+
+/// A plan reports the quota as its limit, and stops and evicts nothing. Then an allocation of some task group of the
+/// job is over the quota: the limits that the snapshot has do not allow, in some resource, what was in use together
+/// with what the plan places and with that allocation.
+pub fn quota_ends_plan()
+    ensures { QuotaEndsPlan }
 {}
 
 /// In a valid state, Apply does, for each node of the snapshot, all placements of the plan there or none of them. It

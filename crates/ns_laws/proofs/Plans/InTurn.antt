@@ -70,7 +70,7 @@ module _ (j : Job) (own : List OwnAllocation) where
 
 module _ (q : QuotaSeen) where
   -- what is placed in one more step: nothing more, the rest without this one, or this one and the rest
-  abbrev one_more : Demand → List Demand → Site → Bool → Option Choice → Placing
+  abbrev pub one_more : Demand → List Demand → Site → Bool → Option Choice → Placing
   one_more d ds w b o = cond b (option_map_or (λ (s : Placement × Site). then_rest s.0 (place q ds s.1))
       (option_map (λ ch. (placement_of d ch, after q d.size ch w)) o) (without_one (place q ds w))) ended_by_quota
 
@@ -183,10 +183,10 @@ module _ (q : QuotaSeen) (j : Job) where
     in_turn : PlacesInTurn j nodes placing.placements left_out
     reported : placing.quota_limited ≡ false → placing.class_limited ≡ left_out
 
-  abbrev IsOf : Demand → Type 0
+  abbrev pub IsOf : Demand → Type 0
   IsOf d = (g : Group) × (slice_get j.document.groups d.group ≡ Some g) × (d.size ≡ group_size g)
 
-  group_sized : (d : Demand) → IsOf d → law.IsGroupSize j d.size
+  pub group_sized : (d : Demand) → IsOf d → law.IsGroupSize j d.size
   group_sized d h = record {
     place = d.group;
     group = h.0;

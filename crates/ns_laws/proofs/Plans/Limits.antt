@@ -178,7 +178,7 @@ module _ {X : Type 0} where
   this_changed f zero (y ∷ xs) x e = ap (λ z. Some (f z)) (same_Some y x e)
   this_changed f (suc i) (y ∷ xs) x e = this_changed f i xs x e
 
-none_mapped : {X Y : Type 0} (f : X → Y) (xs : List X) → map f xs ≡ [] → xs ≡ []
+pub none_mapped : {X Y : Type 0} (f : X → Y) (xs : List X) → map f xs ≡ [] → xs ≡ []
 none_mapped f [] e = refl
 none_mapped f (x ∷ xs) e = absurd (some_length e)
   where
