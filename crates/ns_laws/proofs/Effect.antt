@@ -4,3 +4,4 @@ pub mod Asks
 pub mod Documents
 pub mod Nodes
 pub mod Rows
+pub mod Versions

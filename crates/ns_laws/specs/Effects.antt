@@ -68,11 +68,23 @@ pub record IsDocumentOf (r : Registration) (default_pool : Name) (document : Doc
   pub constraints : document.constraints ≡ r.constraints
   pub groups : document.groups ≡ r.groups
 
+-- the job has the registered document, and it is not stopped
+abbrev pub IsAsRegistered : Registration → Name → Job → Type 0
+IsAsRegistered r default_pool job = (job.stop ≡ false) × IsDocumentOf r default_pool job.document
+
+-- A new job has version 0. One that was there as it is registered is just as it was. Any other one that was there has a
+-- version greater by one.
+abbrev pub HasVersion : Registration → Name → Option Job → Job → Type 0
+HasVersion r default_pool None job = job.version ≡ 0
+HasVersion r default_pool (Some old) job = (IsAsRegistered r default_pool old → job ≡ old)
+    × ((IsAsRegistered r default_pool old → ⊥) → job.version ≡ old.version + 1)
+
 pub record IsRegistered (r : Registration) (reply : Reply) (before now : Tenant) : Type 0 where
   pub job : Job
   pub is_job : get now.jobs r.id ≡ Some job
   pub is_to_run : job.stop ≡ false
   pub document : IsDocumentOf r before.namespace.default_pool job.document
+  pub version : HasVersion r before.namespace.default_pool (get before.jobs r.id) job
   -- the reply has the evaluation's number and index, and the job's modify index
   pub number : ℕ
   pub index : ℕ
@@ -82,8 +94,10 @@ pub record IsRegistered (r : Registration) (reply : Reply) (before now : Tenant)
   pub other_jobs : KeepsOtherJobs r.id before now
   pub allocations : now.allocations ≡ before.allocations
 
--- Once a registration is made, the job is there with the document that was registered, and it is not stopped. A new
--- evaluation of it is pending, and the reply has its number. Other jobs and all allocations are as they were.
+-- Once a registration is made, the job is there with the document that was registered, and it is not stopped. A new job
+-- has version 0. A job that was there with this document, and was not stopped, is just as it was; any other one that was
+-- there has a version greater by one. A new evaluation of the job is pending, and the reply has its number. Other jobs and
+-- all allocations are as they were.
 abbrev pub RegisteredIsThere : Type 0
 RegisteredIsThere = (ns : Name) (secret : Option Name) (r : Registration) (s s' : State) (reply : Reply) →
     IsMade (Step.Ask ns secret (AskCommand.Register r)) s reply s' → HasRows ns s s' (IsRegistered r reply)
@@ -97,6 +111,7 @@ pub record IsDeregistered (id : Name) (reply : Reply) (before now : Tenant) : Ty
   pub is_job : get now.jobs id ≡ Some job
   pub is_stopped : job.stop ≡ true
   pub document : job.document ≡ old.document
+  pub version : job.version ≡ old.version
   pub number : ℕ
   pub index : ℕ
   pub replied : reply.content ≡ Content.Registered number index job.modify_index
@@ -105,8 +120,8 @@ pub record IsDeregistered (id : Name) (reply : Reply) (before now : Tenant) : Ty
   pub other_jobs : KeepsOtherJobs id before now
   pub allocations : now.allocations ≡ before.allocations
 
--- Once a job is deregistered without purge, it is still there with its document, and it is stopped. A new evaluation of it
--- is pending, and the reply has its number. Other jobs and all allocations are as they were.
+-- Once a job is deregistered without purge, it is still there with its document and its version, and it is stopped. A new
+-- evaluation of it is pending, and the reply has its number. Other jobs and all allocations are as they were.
 abbrev pub DeregisteredIsStopped : Type 0
 DeregisteredIsStopped = (ns : Name) (secret : Option Name) (id : Name) (s s' : State) (reply : Reply) →
     IsMade (Step.Ask ns secret (AskCommand.Deregister id false)) s reply s' → HasRows ns s s' (IsDeregistered id reply)

@@ -20,14 +20,16 @@ ghost use Rattle.ns_laws.specs.Effects.{
   DeletedPoolIsGone,
 };
 
-/// Once a registration is made, the job is there with the document that was registered, and it is not stopped. A new evaluation
-/// of it is pending, and the reply has its number. Other jobs and all allocations are as they were.
+/// Once a registration is made, the job is there with the document that was registered, and it is not stopped. A new job has
+/// version 0. A job that was there with this document, and was not stopped, is just as it was; any other one that was there has
+/// a version greater by one. A new evaluation of the job is pending, and the reply has its number. Other jobs and all
+/// allocations are as they were.
 pub fn registered_is_there()
     ensures { RegisteredIsThere }
 {}
 
-/// Once a job is deregistered without purge, it is still there with its document, and it is stopped. A new evaluation of it is
-/// pending, and the reply has its number. Other jobs and all allocations are as they were.
+/// Once a job is deregistered without purge, it is still there with its document and its version, and it is stopped. A new
+/// evaluation of it is pending, and the reply has its number. Other jobs and all allocations are as they were.
 pub fn deregistered_is_stopped()
     ensures { DeregisteredIsStopped }
 {}

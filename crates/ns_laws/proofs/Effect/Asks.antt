@@ -37,6 +37,7 @@ use Rattle.ns_laws.proofs.Effect.Documents.{document_is}
 use Rattle.ns_laws.proofs.Effect.Rows.{Does, does_unless, does_refused, does_found, does_if, does_of, does_lift, after_does, put_there, put_elsewhere, removed}
 use Rattle.ns_laws.proofs.Effect.Rows.{removed_elsewhere, settled_rows, settled_there, settled_jobs, settled_pending, settled_allocated, settled_former}
 use Rattle.ns_laws.proofs.Effect.Rows.{made_there, number_there, settled_new}
+use Rattle.ns_laws.proofs.Effect.Versions.{has_version, same_version}
 
 -- ---- a request in a namespace
 
@@ -132,6 +133,7 @@ registered_is_there ns secret r s s' reply e = asked_does s ns secret (AskComman
         is_job = ap (λ m. get m r.id) (jobs_now s.world ns secret t t' x is refl refl) ∙ put_there t.jobs r.id job;
         is_to_run = (good_job t r (t.index + 1) (get t.jobs r.id)).to_run;
         document = (good_job t r (t.index + 1) (get t.jobs r.id)).document;
+        version = has_version t r (t.index + 1) (get t.jobs r.id);
         number = t.evaluation_number + 1;
         index = t.index + 1;
         replied = refl;
@@ -182,6 +184,7 @@ deregistered_is_stopped ns secret id s s' reply e = asked_does s ns secret (AskC
             is_job = ap (λ m. get m id) (jobs_now s.world ns secret t t' x is refl refl) ∙ put_there t.jobs id job;
             is_stopped = stops (t.index + 1) old;
             document = same_written (t.index + 1) old;
+            version = same_version (t.index + 1) old;
             number = t.evaluation_number + 1;
             index = t.index + 1;
             replied = refl;
