@@ -2,6 +2,7 @@
 pub mod Admins
 pub mod Asks
 pub mod Documents
+pub mod Evaluations
 pub mod Nodes
 pub mod Rows
 pub mod Versions

@@ -9,6 +9,7 @@ use Rattle.ns_types.specs.declared.evaluation.Status.TheVariants as Status
 use Rattle.ns_types.specs.declared.evaluation.Trigger.{Trigger}
 use Rattle.ns_types.specs.declared.job.Document.{Document}
 use Rattle.ns_types.specs.declared.job.Job.{Job}
+use Rattle.ns_types.specs.declared.job.JobKind.TheVariants as JobKind
 use Rattle.ns_types.specs.declared.job.Registration.{Registration}
 use Rattle.ns_types.specs.declared.node.Node.{Node}
 use Rattle.ns_types.specs.declared.node.NodeStatus.{NodeStatus}
@@ -40,15 +41,37 @@ pub record HasRows (ns : Name) (s s' : State) (Holds : Tenant → Tenant → Typ
   pub is_there : get s'.world.tenants ns ≡ Some now
   pub holds : Holds before now
 
--- the evaluation with the number n is new: it has the namespace's next number. It is of the job, it is pending, and this
--- is why it was made
-pub record IsEvaluated (job : Name) (trigger : Trigger) (n : ℕ) (before now : Tenant) : Type 0 where
+-- the evaluation has the type, the priority and the pool of the document
+pub record IsOfDocument (document : Document) (row : Evaluation) : Type 0 where
+  pub kind : row.kind ≡ document.kind
+  pub priority : row.priority ≡ document.priority
+  pub pool : row.pool ≡ document.pool
+
+-- The evaluation has those of the job's document. If the job is gone, it has the type `service`, and the priority and the
+-- pool of the allocation.
+abbrev pub IsOfAllocation : Option Job → Allocation → Evaluation → Type 0
+IsOfAllocation (Some job) a row = IsOfDocument job.document row
+IsOfAllocation None a row = (row.kind ≡ JobKind.Service) × (row.priority ≡ a.priority) × (row.pool ≡ a.pool)
+
+-- the evaluation with the number n is as it was or, as one does that wakes, it has become pending
+pub data KeepsEvaluation (n : ℕ) (before now : Tenant) : Type 0 where
+  stays : get now.evaluations n ≡ get before.evaluations n → KeepsEvaluation n before now
+  wakes : (row : Evaluation) (index : ℕ) → get before.evaluations n ≡ Some row →
+      get now.evaluations n ≡ Some (record row { status = Status.Pending; modify_index = index }) →
+      KeepsEvaluation n before now
+
+-- The evaluation with the number n is new: it has the namespace's next number, which is now the last. It is of the job, with
+-- this type, priority and pool, it is pending, and this is why it was made. No other evaluation is made.
+pub record IsEvaluated (job : Name) (IsOf : Evaluation → Type 0) (trigger : Trigger) (n : ℕ) (before now : Tenant) : Type 0 where
   pub next : n ≡ before.evaluation_number + 1
+  pub last : now.evaluation_number ≡ n
   pub row : Evaluation
   pub is_row : get now.evaluations n ≡ Some row
   pub is_of_job : row.job ≡ job
+  pub is_of : IsOf row
   pub is_pending : row.status ≡ Status.Pending
   pub is_why : row.trigger ≡ trigger
+  pub others : (m : ℕ) → m ≢ n → KeepsEvaluation m before now
 
 -- every job but this one is as it was
 abbrev pub KeepsOtherJobs : Name → Tenant → Tenant → Type 0
@@ -90,14 +113,14 @@ pub record IsRegistered (r : Registration) (reply : Reply) (before now : Tenant)
   pub index : ℕ
   pub replied : reply.content ≡ Content.Registered number index job.modify_index
   pub index_shown : reply.index ≡ Some now.index
-  pub evaluated : IsEvaluated r.id Trigger.JobRegister number before now
+  pub evaluated : IsEvaluated r.id (IsOfDocument job.document) Trigger.JobRegister number before now
   pub other_jobs : KeepsOtherJobs r.id before now
   pub allocations : now.allocations ≡ before.allocations
 
 -- Once a registration is made, the job is there with the document that was registered, and it is not stopped. A new job
 -- has version 0. A job that was there with this document, and was not stopped, is just as it was; any other one that was
--- there has a version greater by one. A new evaluation of the job is pending, and the reply has its number. Other jobs and
--- all allocations are as they were.
+-- there has a version greater by one. A new evaluation of the job, with its type, priority and pool, is pending, and the
+-- reply has its number. Other evaluations are as they were or have woken. Other jobs and all allocations are as they were.
 abbrev pub RegisteredIsThere : Type 0
 RegisteredIsThere = (ns : Name) (secret : Option Name) (r : Registration) (s s' : State) (reply : Reply) →
     IsMade (Step.Ask ns secret (AskCommand.Register r)) s reply s' → HasRows ns s s' (IsRegistered r reply)
@@ -116,12 +139,13 @@ pub record IsDeregistered (id : Name) (reply : Reply) (before now : Tenant) : Ty
   pub index : ℕ
   pub replied : reply.content ≡ Content.Registered number index job.modify_index
   pub index_shown : reply.index ≡ Some now.index
-  pub evaluated : IsEvaluated id Trigger.JobDeregister number before now
+  pub evaluated : IsEvaluated id (IsOfDocument old.document) Trigger.JobDeregister number before now
   pub other_jobs : KeepsOtherJobs id before now
   pub allocations : now.allocations ≡ before.allocations
 
 -- Once a job is deregistered without purge, it is still there with its document and its version, and it is stopped. A new
--- evaluation of it is pending, and the reply has its number. Other jobs and all allocations are as they were.
+-- evaluation of it, with its type, priority and pool, is pending, and the reply has its number. Other evaluations are as
+-- they were or have woken. Other jobs and all allocations are as they were.
 abbrev pub DeregisteredIsStopped : Type 0
 DeregisteredIsStopped = (ns : Name) (secret : Option Name) (id : Name) (s s' : State) (reply : Reply) →
     IsMade (Step.Ask ns secret (AskCommand.Deregister id false)) s reply s' → HasRows ns s s' (IsDeregistered id reply)
@@ -135,12 +159,13 @@ pub record IsPurged (id : Name) (reply : Reply) (before now : Tenant) : Type 0 w
   pub index : ℕ
   pub replied : reply.content ≡ Content.Registered number index index
   pub index_shown : reply.index ≡ Some now.index
-  pub evaluated : IsEvaluated id Trigger.JobDeregister number before now
+  pub evaluated : IsEvaluated id (IsOfDocument old.document) Trigger.JobDeregister number before now
   pub other_jobs : KeepsOtherJobs id before now
   pub allocations : now.allocations ≡ before.allocations
 
--- Once a job is deregistered with purge, it is gone. A new evaluation of it is pending, and the reply has its number.
--- Other jobs and all allocations are as they were.
+-- Once a job is deregistered with purge, it is gone. A new evaluation of it, with the type, the priority and the pool that it
+-- had, is pending, and the reply has its number. Other evaluations are as they were or have woken. Other jobs and all
+-- allocations are as they were.
 abbrev pub PurgedIsGone : Type 0
 PurgedIsGone = (ns : Name) (secret : Option Name) (id : Name) (s s' : State) (reply : Reply) →
     IsMade (Step.Ask ns secret (AskCommand.Deregister id true)) s reply s' → HasRows ns s s' (IsPurged id reply)
@@ -163,12 +188,14 @@ pub record IsStopped (n : ℕ) (reply : Reply) (before now : Tenant) : Type 0 wh
   pub index : ℕ
   pub replied : reply.content ≡ Content.Stopped number index
   pub index_shown : reply.index ≡ Some now.index
-  pub evaluated : IsEvaluated old.job Trigger.AllocStop number before now
+  pub evaluated : IsEvaluated old.job (IsOfAllocation (get before.jobs old.job) old) Trigger.AllocStop number before now
   pub other_allocations : KeepsOtherAllocations n before now
   pub jobs : now.jobs ≡ before.jobs
 
 -- Once a request to stop an allocation is made, the desired status of the allocation, which was live, is to stop. A new
--- evaluation of its job is pending, and the reply has its number. Other allocations and all jobs are as they were.
+-- evaluation of its job is pending, and the reply has its number. It has the type, the priority and the pool of the job or,
+-- if that is gone, the type `service` and the allocation's priority and pool. Other evaluations are as they were or have
+-- woken. Other allocations and all jobs are as they were.
 abbrev pub StoppedAllocation : Type 0
 StoppedAllocation = (ns : Name) (secret : Option Name) (n : ℕ) (s s' : State) (reply : Reply) →
     IsMade (Step.Ask ns secret (AskCommand.StopAllocation n)) s reply s' → HasRows ns s s' (IsStopped n reply)
@@ -213,7 +240,8 @@ pub record IsReported (pool node : Name) (report : Report) (before now : Tenant)
   pub node_kept : row.node ≡ old.node
   -- one that is to run, and has failed now, has its job evaluated
   pub failed : old.desired ≡ DesiredStatus.Run → report.client ≡ ClientStatus.Failed → old.client ≢ ClientStatus.Failed →
-      IsEvaluated old.job Trigger.AllocFailure (before.evaluation_number + 1) before now
+      IsEvaluated old.job (IsOfAllocation (get before.jobs old.job) old) Trigger.AllocFailure
+      (before.evaluation_number + 1) before now
   pub other_allocations : KeepsOtherAllocations report.number before now
   pub jobs : now.jobs ≡ before.jobs
 

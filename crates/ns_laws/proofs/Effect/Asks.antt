@@ -6,11 +6,9 @@ use Rattle.std.specs.Option.{option_map_or}
 use Rattle.ns_types.specs.declared.allocation.Allocation.{Allocation}
 use Rattle.ns_types.specs.declared.allocation.DesiredStatus.TheVariants as DesiredStatus
 use Rattle.ns_types.specs.declared.evaluation.Evaluation.{Evaluation}
-use Rattle.ns_types.specs.declared.evaluation.Status.TheVariants as Status
 use Rattle.ns_types.specs.declared.evaluation.Trigger.{Trigger}
 use Rattle.ns_types.specs.declared.job.Document.{Document}
 use Rattle.ns_types.specs.declared.job.Job.{Job}
-use Rattle.ns_types.specs.declared.job.JobKind.TheVariants as JobKind
 use Rattle.ns_types.specs.declared.job.Registration.{Registration}
 use Rattle.ns_types.specs.declared.refusal.Refusal.TheVariants as Refusal
 use Rattle.ns_types.specs.declared.reply.Content.{Content}
@@ -20,7 +18,7 @@ use Rattle.ns_types.specs.declared.step.AskCommand.{AskCommand}
 use Rattle.ns_types.specs.declared.step.Step.{Step}
 use Rattle.ns_types.specs.Asking.Asks.{ask, asked_in, document_of, registered_job, first_refusal, stopped_job, deregistered}
 use Rattle.ns_types.specs.Asking.Policies.{with_world}
-use Rattle.ns_types.specs.Settling.Making.{with_job, with_desired, new_evaluation, evaluation_of, evaluation_for, with_evaluation, make_in}
+use Rattle.ns_types.specs.Settling.Making.{with_job, with_desired, evaluation_of, evaluation_for, with_evaluation, make_in}
 use Rattle.ns_types.specs.Settling.Same.{same_document}
 use Rattle.ns_types.specs.Settling.Settle.{settle}
 use Rattle.ns_types.specs.State.Names.{Name}
@@ -34,8 +32,9 @@ use Rattle.ns_audit.specs.Orderly.{IsSteady}
 use Rattle.ns_laws.specs.Effects as law
 use Rattle.ns_laws.specs.Effects.{HasRows, IsEvaluated, IsDocumentOf, IsRegistered, IsDeregistered, IsPurged, IsStopped, IsDated, evaluation_in_reply}
 use Rattle.ns_laws.proofs.Effect.Documents.{document_is}
+use Rattle.ns_laws.proofs.Effect.Evaluations.{IsMadeFor, made_of, made_for, is_evaluated}
 use Rattle.ns_laws.proofs.Effect.Rows.{Does, does_unless, does_refused, does_found, does_if, does_of, does_lift, after_does, put_there, put_elsewhere, removed}
-use Rattle.ns_laws.proofs.Effect.Rows.{removed_elsewhere, settled_rows, settled_there, settled_jobs, settled_pending, settled_allocated, settled_former}
+use Rattle.ns_laws.proofs.Effect.Rows.{removed_elsewhere, settled_rows, settled_there, settled_jobs, settled_allocated, settled_former}
 use Rattle.ns_laws.proofs.Effect.Rows.{made_there, number_there, settled_new}
 use Rattle.ns_laws.proofs.Effect.Versions.{has_version, same_version}
 
@@ -66,24 +65,16 @@ module _ (s : State) (ns : Name) (secret : Option Name) (command : AskCommand) (
 
 -- the rows t become t', and e is made of them
 module _ (w : World) (ns : Name) (secret : Option Name) (t t' : Tenant) (e : Evaluation) (is : get w.tenants ns ≡ Some t)
-    (number : t'.evaluation_number ≡ t.evaluation_number) (pending : e.status ≡ Status.Pending) where
+    (number : t'.evaluation_number ≡ t.evaluation_number) (rows : t'.evaluations ≡ t.evaluations) where
   abbrev made : World
   made = make_in ns e w t'
 
   abbrev now : Tenant
   now = settled_rows w made ns (with_evaluation e t')
 
-  evaluated : IsEvaluated e.job e.trigger (t'.evaluation_number + 1) t now
-  evaluated =
-      let p = settled_pending w made ns (with_evaluation e t') (t'.evaluation_number + 1) e (number_there (t'.evaluation_number + 1) e t'.evaluations) pending in
-      record {
-        next = ap (λ n. n + 1) number;
-        row = p.row;
-        is_row = p.is_row;
-        is_of_job = p.job;
-        is_pending = p.status;
-        is_why = p.trigger;
-      }
+  evaluated : {job : Name} {IsOf : Evaluation → Type 0} {trigger : Trigger} → IsMadeFor job IsOf trigger e →
+      IsEvaluated job IsOf trigger (t'.evaluation_number + 1) t now
+  evaluated its = is_evaluated w made ns t t' e is number rows its
 
   shown : (command : AskCommand) → index_shown (Step.Ask ns secret command) (settle w made) ≡ Some now.index
   shown command = ap (option_map (λ t. t.index)) (settled_there w made ns (with_evaluation e t') (made_there w ns e t'))
@@ -138,7 +129,7 @@ registered_is_there ns secret r s s' reply e = asked_does s ns secret (AskComman
         index = t.index + 1;
         replied = refl;
         index_shown = shown s.world ns secret t t' x is refl refl (AskCommand.Register r);
-        evaluated = evaluated s.world ns secret t t' x is refl refl;
+        evaluated = evaluated s.world ns secret t t' x is refl refl (made_of r.id job.document Trigger.JobRegister);
         other_jobs = λ other differs. ap (λ m. get m other) (jobs_now s.world ns secret t t' x is refl refl) ∙ put_elsewhere t.jobs r.id job other differs;
         allocations = allocations_now s.world ns secret t t' x is refl refl refl;
       },
@@ -189,7 +180,7 @@ deregistered_is_stopped ns secret id s s' reply e = asked_does s ns secret (AskC
             index = t.index + 1;
             replied = refl;
             index_shown = shown s.world ns secret t t' x is refl refl (AskCommand.Deregister id false);
-            evaluated = evaluated s.world ns secret t t' x is refl refl;
+            evaluated = evaluated s.world ns secret t t' x is refl refl (made_of id old.document Trigger.JobDeregister);
             other_jobs = λ other differs. ap (λ m. get m other) (jobs_now s.world ns secret t t' x is refl refl) ∙ put_elsewhere t.jobs id job other differs;
             allocations = allocations_now s.world ns secret t t' x is refl refl refl;
           },
@@ -213,27 +204,13 @@ purged_is_gone ns secret id s s' reply e = asked_does s ns secret (AskCommand.De
             index = t.index + 1;
             replied = refl;
             index_shown = shown s.world ns secret t t' x is refl refl (AskCommand.Deregister id true);
-            evaluated = evaluated s.world ns secret t t' x is refl refl;
+            evaluated = evaluated s.world ns secret t t' x is refl refl (made_of id old.document Trigger.JobDeregister);
             other_jobs = λ other differs. ap (λ m. get m other) (jobs_now s.world ns secret t t' x is refl refl) ∙ removed_elsewhere t.jobs id other differs;
             allocations = allocations_now s.world ns secret t t' x is refl refl refl;
           },
         ))
 
 -- ---- an allocation is stopped
-
--- whether its job is there or gone
-module _ (t : Tenant) (a : Allocation) (trigger : Trigger) where
-  pub record IsFor (x : Evaluation) : Type 0 where
-    pub of_job : x.job ≡ a.job
-    pub pending : x.status ≡ Status.Pending
-    pub why : x.trigger ≡ trigger
-
-  pub is_for : IsFor (evaluation_for t a trigger)
-  is_for = by (get t.jobs a.job)
-    where
-      by : (o : Option Job) → IsFor (option_map_or (λ job. evaluation_of a.job job.document trigger) o (new_evaluation a.job JobKind.Service a.priority a.pool trigger))
-      by None = record { of_job = refl; pending = refl; why = refl }
-      by (Some job) = record { of_job = refl; pending = refl; why = refl }
 
 pub stopped_allocation : law.StoppedAllocation
 stopped_allocation ns secret n s s' reply e = asked_does s ns secret (AskCommand.StopAllocation n) (IsStopped n) leaves s' reply e
@@ -263,8 +240,6 @@ stopped_allocation ns secret n s s' reply e = asked_does s ns secret (AskCommand
         result old there lives =
             let t' : Tenant = after_stop old in
             let x : Evaluation = reason old in
-            let for_it = is_for t old Trigger.AllocStop in
-            let v = evaluated s.world ns secret t t' x is refl for_it.pending in
             let row = settled_allocated s.world (make_in ns x s.world t') ns (with_evaluation x t') n (to_stop old)
             (get_put numbers one_number t.allocations n (to_stop old)) in (
               with_evaluation x t',
@@ -283,18 +258,11 @@ stopped_allocation ns secret n s s' reply e = asked_does s ns secret (AskCommand
                 number = t.evaluation_number + 1;
                 index = t.index + 1;
                 replied = refl;
-                index_shown = shown s.world ns secret t t' x is refl for_it.pending (AskCommand.StopAllocation n);
-                evaluated = record {
-                  next = v.next;
-                  row = v.row;
-                  is_row = v.is_row;
-                  is_of_job = v.is_of_job ∙ for_it.of_job;
-                  is_pending = v.is_pending;
-                  is_why = v.is_why ∙ for_it.why;
-                };
+                index_shown = shown s.world ns secret t t' x is refl refl (AskCommand.StopAllocation n);
+                evaluated = evaluated s.world ns secret t t' x is refl refl (made_for t old Trigger.AllocStop);
                 other_allocations = λ m other. settled_former s.world (make_in ns x s.world t') ns t (with_evaluation x t') m is
                     (get_other numbers one_number t.allocations n (to_stop old) m (apart m n other));
-                jobs = jobs_now s.world ns secret t t' x is refl for_it.pending;
+                jobs = jobs_now s.world ns secret t t' x is refl refl;
               },
             )
 

@@ -36,13 +36,13 @@ use Rattle.ns_types.proofs.Tables.{get-map_rows}
 use Rattle.ns_types.proofs.Tests.{is_yes, same_Some}
 use Rattle.ns_audit.proofs.ValidAllocations.Sound.{allocation_row, row_allocation}
 use Rattle.ns_laws.specs.Effects as law
-use Rattle.ns_laws.specs.Effects.{HasRows, IsEvaluated, IsReported, HasFormer, HasOffer, HasNode, KeepsOtherNodes, IsLost}
+use Rattle.ns_laws.specs.Effects.{HasRows, IsOfAllocation, IsEvaluated, IsReported, HasFormer, HasOffer, HasNode, KeepsOtherNodes, IsLost}
 use Rattle.ns_laws.proofs.Effect.Documents.{client_is}
-use Rattle.ns_laws.proofs.Effect.Asks.{is_for}
+use Rattle.ns_laws.proofs.Effect.Evaluations.{made_for, is_evaluated}
 use Rattle.ns_laws.proofs.Effect.Rows.{Does, does_unless, does_found, does_if, does_of, does_lift}
 use Rattle.ns_laws.proofs.Effect.Rows.{after_does, put_there, put_elsewhere, removed, removed_elsewhere}
-use Rattle.ns_laws.proofs.Effect.Rows.{settled_rows, settled_there, settled_jobs, settled_pending, settled_allocated, settled_former, settled_node}
-use Rattle.ns_laws.proofs.Effect.Rows.{made_there, number_there}
+use Rattle.ns_laws.proofs.Effect.Rows.{settled_rows, settled_there, settled_jobs, settled_allocated, settled_former, settled_node}
+use Rattle.ns_laws.proofs.Effect.Rows.{made_there}
 
 module _ (s : State) (pool : Name) (secret : Option Name) (command : NodeCommand) (Q : State → Type 0) where
   abbrev pub AtWorld : Content → World → Type 0
@@ -243,7 +243,7 @@ module _ (w : World) (pool name : Name) (r : Report) (t : Tenant) (a : Allocatio
   module _ (x : World) (u : Tenant) (b : Allocation) (row : get u.allocations r.number ≡ Some b) (client : b.client ≡ r.client)
       (same : b ≡ record a { client = b.client }) (others : (m : ℕ) → m ≢ r.number → get u.allocations m ≡ get t.allocations m) (jobs : u.jobs ≡ t.jobs) where
     reports : (a.desired ≡ DesiredStatus.Run → r.client ≡ ClientStatus.Failed → a.client ≢ ClientStatus.Failed →
-        IsEvaluated a.job Trigger.AllocFailure (t.evaluation_number + 1) t (settled_rows w x ns u)) → Reports x u
+        IsEvaluated a.job (IsOfAllocation (get t.jobs a.job) a) Trigger.AllocFailure (t.evaluation_number + 1) t (settled_rows w x ns u)) → Reports x u
     reports failed = let q = settled_allocated w x ns u r.number b row in record {
       old = a;
       was_there = at;
@@ -302,19 +302,11 @@ module _ (w : World) (pool name : Name) (r : Report) (t : Tenant) (a : Allocatio
   by : (b : Bool) → calls_for_one t a r.client ≡ b → Q (cond b (make_in ns reason w' t') w')
   by true e =
       let x : World = make_in ns reason w' t' in
-      let u : Tenant = with_evaluation reason t' in
-      let f = is_for t' a Trigger.AllocFailure in
-      let p = settled_pending w x ns u (t.evaluation_number + 1) reason (number_there (t.evaluation_number + 1) reason t.evaluations) f.pending in (
+      let u : Tenant = with_evaluation reason t' in (
         u,
         made_there w' ns reason t',
-        reports x u b' row' refl refl others' refl (λ runs fails was. record {
-          next = refl;
-          row = p.row;
-          is_row = p.is_row;
-          is_of_job = p.job ∙ f.of_job;
-          is_pending = p.status;
-          is_why = p.trigger ∙ f.why;
-        }),
+        reports x u b' row' refl refl others' refl (λ runs fails was.
+            is_evaluated w x ns t t' reason is refl refl (made_for t' a Trigger.AllocFailure)),
       )
   by false e = (
     t',

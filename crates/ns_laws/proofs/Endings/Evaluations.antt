@@ -24,7 +24,7 @@ use Rattle.ns_audit.proofs.ValidAllocations.Sound.{allocation_row}
 use Rattle.ns_laws.specs.Ending as law
 use Rattle.ns_laws.specs.Ending.{IsEvaluatedAnew}
 use Rattle.ns_laws.proofs.Elements.{Has, any_has, flat_has, map_has}
-use Rattle.ns_laws.proofs.Effect.Asks.{is_for}
+use Rattle.ns_laws.proofs.Effect.Evaluations.{made_for}
 use Rattle.ns_laws.proofs.Effect.Rows.{does_found, settled_rows, settled_there, settled_pending}
 use Rattle.ns_laws.proofs.Endings.Rows.{made_in_tenants}
 use Rattle.ns_laws.proofs.Effect.Nodes.{pool_does}
@@ -39,7 +39,7 @@ pub record IsPendingFor (job : Name) (trigger : Trigger) (e : Evaluation) : Type
   pub why : e.trigger ≡ trigger
 
 pub for_its_job : (t : Tenant) (a : Allocation) (trigger : Trigger) → IsPendingFor a.job trigger (evaluation_for t a trigger)
-for_its_job t a trigger = let f = is_for t a trigger in record { of_job = f.of_job; pending = f.pending; why = f.why }
+for_its_job t a trigger = let f = made_for t a trigger in record { of_job = f.of_job; pending = f.pending; why = f.why }
 
 module _ (ns : Name) (t : Tenant) where
   -- the namespace is there, and has given as many numbers to evaluations as t at least
