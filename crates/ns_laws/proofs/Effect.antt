@@ -4,5 +4,6 @@ pub mod Asks
 pub mod Documents
 pub mod Evaluations
 pub mod Nodes
+pub mod Reports
 pub mod Rows
 pub mod Versions

@@ -1,8 +1,8 @@
 -- Laws of what requests do: once a request is answered by a reply, what it asked for is there.
-use Rattle.std.specs.Prelude.{◌≡◌, ◌≢◌, ℕ, ◌+◌, Bool, IsTrue, true, false, Option, Some, None, Ok, unwrap_or, option_map}
+use Rattle.std.specs.Prelude.{◌≡◌, ◌≢◌, ◌⊎◌, ℕ, ◌+◌, Bool, IsTrue, true, false, Option, Some, None, Ok, unwrap_or, option_map}
 use Rattle.std.specs.FinMap.{get}
 use Rattle.ns_types.specs.declared.allocation.Allocation.{Allocation}
-use Rattle.ns_types.specs.declared.allocation.ClientStatus.TheVariants as ClientStatus
+use Rattle.ns_types.specs.declared.allocation.ClientStatus.{ClientStatus}
 use Rattle.ns_types.specs.declared.allocation.DesiredStatus.TheVariants as DesiredStatus
 use Rattle.ns_types.specs.declared.evaluation.Evaluation.{Evaluation}
 use Rattle.ns_types.specs.declared.evaluation.Status.TheVariants as Status
@@ -226,6 +226,22 @@ IndexInReplyIsNew = (ns : Name) (secret : Option Name) (command : AskCommand) (s
 
 -- ---- reports
 
+-- the job is there, and it is a batch job; one that is gone counts as a service job
+abbrev pub IsBatch : Option Job → Type 0
+IsBatch (Some job) = job.document.kind ≡ JobKind.Batch
+IsBatch None = ⊥
+
+-- the status is new, the allocation is to run, and it has failed, or it has completed and is not of a batch job
+pub record CallsForEvaluation (old : Allocation) (client : ClientStatus) (job : Option Job) : Type 0 where
+  pub is_new : old.client ≢ client
+  pub is_to_run : old.desired ≡ DesiredStatus.Run
+  pub has_ended : (client ≡ ClientStatus.Failed) ⊎ ((client ≡ ClientStatus.Complete) × (IsBatch job → ⊥))
+
+-- no evaluation is made: no number is given to one, and each is as it was or has woken
+pub record MakesNone (before now : Tenant) : Type 0 where
+  pub number : now.evaluation_number ≡ before.evaluation_number
+  pub evaluations : (n : ℕ) → KeepsEvaluation n before now
+
 pub record IsReported (pool node : Name) (report : Report) (before now : Tenant) : Type 0 where
   pub old : Allocation
   pub was_there : get before.allocations report.number ≡ Some old
@@ -238,16 +254,19 @@ pub record IsReported (pool node : Name) (report : Report) (before now : Tenant)
   pub job : row.job ≡ old.job
   pub pool_kept : row.pool ≡ old.pool
   pub node_kept : row.node ≡ old.node
-  -- one that is to run, and has failed now, has its job evaluated
-  pub failed : old.desired ≡ DesiredStatus.Run → report.client ≡ ClientStatus.Failed → old.client ≢ ClientStatus.Failed →
+  -- its job is evaluated if the report calls for it, and only then
+  pub evaluated : CallsForEvaluation old report.client (get before.jobs old.job) →
       IsEvaluated old.job (IsOfAllocation (get before.jobs old.job) old) Trigger.AllocFailure
       (before.evaluation_number + 1) before now
+  pub quiet : (CallsForEvaluation old report.client (get before.jobs old.job) → ⊥) → MakesNone before now
   pub other_allocations : KeepsOtherAllocations report.number before now
   pub jobs : now.jobs ≡ before.jobs
 
 -- Once a client's report is made, the allocation, which is on that node, has the reported client status. Its desired status
--- is what it was. If it is to run and has just failed, a new evaluation of its job is pending. Other allocations and all jobs
--- are as they were.
+-- is what it was. A new evaluation of its job is pending exactly if the status is new, the allocation is to run, and it has
+-- failed, or has completed and is not of a batch job; a job that is gone counts as a service job. The evaluation has the
+-- type, the priority and the pool of the job or, if that is gone, the type `service` and the allocation's priority and
+-- pool. Other evaluations are as they were or have woken. Other allocations and all jobs are as they were.
 abbrev pub ReportedIsThere : Type 0
 ReportedIsThere = (pool : Name) (secret : Option Name) (node : Name) (report : Report) (s s' : State) (reply : Reply) →
     IsMade (Step.Node pool secret (NodeCommand.Report node report)) s reply s' →

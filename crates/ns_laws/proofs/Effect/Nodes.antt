@@ -6,7 +6,6 @@ use Rattle.std.specs.Option.{option_map_or, option_and_then}
 use Rattle.std.specs.Ordering.{eq_by_cmp}
 use Rattle.ns_types.specs.declared.allocation.Allocation.{Allocation}
 use Rattle.ns_types.specs.declared.allocation.ClientStatus.{ClientStatus}
-use Rattle.ns_types.specs.declared.allocation.DesiredStatus.{DesiredStatus}
 use Rattle.ns_types.specs.declared.evaluation.Evaluation.{Evaluation}
 use Rattle.ns_types.specs.declared.evaluation.Trigger.TheVariants as Trigger
 use Rattle.ns_types.specs.declared.node.Node.{Node}
@@ -25,10 +24,9 @@ use Rattle.ns_types.specs.Settling.Making.{put_pool, put_tenant, with_node, chan
 use Rattle.ns_types.specs.Settling.Outcome.{Done, unless}
 use Rattle.ns_types.specs.Settling.Settle.{settle}
 use Rattle.ns_types.specs.State.Names.{Name, Key, name_cmp, same_name}
-use Rattle.ns_types.specs.State.Rows.{State, World, Tenant, PoolRows, is_ready, is_run, is_live_on, allocation_at, node_at}
+use Rattle.ns_types.specs.State.Rows.{State, World, Tenant, PoolRows, is_ready, is_live_on, allocation_at, node_at}
 use Rattle.ns_types.specs.State.Tables.{map_rows}
 use Rattle.ns_types.specs.Steps.{after, act, said}
-use Rattle.ns_types.proofs.Lists.{not_both}
 use Rattle.ns_types.proofs.Named.{names, one_name, numbers, one_number, same_name_is, first_of_both, second_of_both}
 use Rattle.ns_types.proofs.Queue.{queue_keeps}
 use Rattle.ns_types.proofs.TableRows.{apart, get_put, get_other}
@@ -36,9 +34,10 @@ use Rattle.ns_types.proofs.Tables.{get-map_rows}
 use Rattle.ns_types.proofs.Tests.{is_yes, same_Some}
 use Rattle.ns_audit.proofs.ValidAllocations.Sound.{allocation_row, row_allocation}
 use Rattle.ns_laws.specs.Effects as law
-use Rattle.ns_laws.specs.Effects.{HasRows, IsOfAllocation, IsEvaluated, IsReported, HasFormer, HasOffer, HasNode, KeepsOtherNodes, IsLost}
+use Rattle.ns_laws.specs.Effects.{HasRows, IsOfAllocation, IsEvaluated, CallsForEvaluation, MakesNone, IsReported, HasFormer, HasOffer, HasNode, KeepsOtherNodes, IsLost}
 use Rattle.ns_laws.proofs.Effect.Documents.{client_is}
 use Rattle.ns_laws.proofs.Effect.Evaluations.{made_for, is_evaluated}
+use Rattle.ns_laws.proofs.Effect.Reports.{calls, calls_not, makes_none, new_status}
 use Rattle.ns_laws.proofs.Effect.Rows.{Does, does_unless, does_found, does_if, does_of, does_lift}
 use Rattle.ns_laws.proofs.Effect.Rows.{after_does, put_there, put_elsewhere, removed, removed_elsewhere}
 use Rattle.ns_laws.proofs.Effect.Rows.{settled_rows, settled_there, settled_jobs, settled_allocated, settled_former, settled_node}
@@ -236,15 +235,18 @@ module _ (w : World) (pool name : Name) (r : Report) (t : Tenant) (a : Allocatio
   abbrev ns : Name
   ns = r.namespace
 
+  abbrev Calls : Type 0
+  Calls = CallsForEvaluation a r.client (get t.jobs a.job)
+
   -- what a change to x leaves, where the rows are u then
   abbrev Reports : World → Tenant → Type 0
   Reports x u = IsReported pool name r t (settled_rows w x ns u)
 
   module _ (x : World) (u : Tenant) (b : Allocation) (row : get u.allocations r.number ≡ Some b) (client : b.client ≡ r.client)
       (same : b ≡ record a { client = b.client }) (others : (m : ℕ) → m ≢ r.number → get u.allocations m ≡ get t.allocations m) (jobs : u.jobs ≡ t.jobs) where
-    reports : (a.desired ≡ DesiredStatus.Run → r.client ≡ ClientStatus.Failed → a.client ≢ ClientStatus.Failed →
-        IsEvaluated a.job (IsOfAllocation (get t.jobs a.job) a) Trigger.AllocFailure (t.evaluation_number + 1) t (settled_rows w x ns u)) → Reports x u
-    reports failed = let q = settled_allocated w x ns u r.number b row in record {
+    reports : (Calls → IsEvaluated a.job (IsOfAllocation (get t.jobs a.job) a) Trigger.AllocFailure (t.evaluation_number + 1) t (settled_rows w x ns u)) →
+        ((Calls → ⊥) → MakesNone t (settled_rows w x ns u)) → Reports x u
+    reports evaluated quiet = let q = settled_allocated w x ns u r.number b row in record {
       old = a;
       was_there = at;
       was_in_pool = sym (same_name_is pool a.pool (first_of_both (same_name pool a.pool) (same_name name a.node) on));
@@ -256,7 +258,8 @@ module _ (w : World) (pool name : Name) (r : Report) (t : Tenant) (a : Allocatio
       job = q.job ∙ ap (λ (a : Allocation). a.job) same;
       pool_kept = q.pool ∙ ap (λ (a : Allocation). a.pool) same;
       node_kept = q.node ∙ ap (λ (a : Allocation). a.node) same;
-      failed = failed;
+      evaluated = evaluated;
+      quiet = quiet;
       other_allocations = λ m other. settled_former w x ns t u m is (others m other);
       jobs = settled_jobs w x ns u ∙ jobs;
     }
@@ -296,23 +299,22 @@ module _ (w : World) (pool name : Name) (r : Report) (t : Tenant) (a : Allocatio
   row' : get t'.allocations r.number ≡ Some b'
   row' = get_put numbers one_number t.allocations r.number b'
 
-  calls : option_map_or (λ t. calls_for_one t a r.client) (get w.tenants ns) false ≡ calls_for_one t a r.client
-  calls = ap (λ o. option_map_or (λ t. calls_for_one t a r.client) o false) is
+  asked : option_map_or (λ t. calls_for_one t a r.client) (get w.tenants ns) false ≡ calls_for_one t a r.client
+  asked = ap (λ o. option_map_or (λ t. calls_for_one t a r.client) o false) is
 
-  by : (b : Bool) → calls_for_one t a r.client ≡ b → Q (cond b (make_in ns reason w' t') w')
-  by true e =
+  by : a.client ≢ r.client → (b : Bool) → calls_for_one t a r.client ≡ b → Q (cond b (make_in ns reason w' t') w')
+  by other true e =
       let x : World = make_in ns reason w' t' in
       let u : Tenant = with_evaluation reason t' in (
         u,
         made_there w' ns reason t',
-        reports x u b' row' refl refl others' refl (λ runs fails was.
-            is_evaluated w x ns t t' reason is refl refl (made_for t' a Trigger.AllocFailure)),
+        reports x u b' row' refl refl others' refl (λ _. is_evaluated w x ns t t' reason is refl refl (made_for t' a Trigger.AllocFailure))
+            (λ none. absurd (none (calls t a r.client other e))),
       )
-  by false e = (
+  by other false e = (
     t',
     there,
-    reports w' t' b' row' refl refl others' refl
-        (λ runs fails was. not_both (ap is_run runs) (ap (calls_for_one t a) (sym fails) ∙ e)),
+    reports w' t' b' row' refl refl others' refl (λ c. absurd (calls_not t a r.client e c)) (λ _. makes_none w w' ns t t' is refl refl),
   )
 
   of_report : Does (λ content x. Q x) (report_of r w a)
@@ -322,9 +324,10 @@ module _ (w : World) (pool name : Name) (r : Report) (t : Tenant) (a : Allocatio
         t,
         is,
         reports w t a at (client_is a.client r.client e) refl (λ m other. refl) refl
-            (λ runs fails was. absurd (was (client_is a.client r.client e ∙ fails))),
+            (λ c. absurd (c.is_new (client_is a.client r.client e))) (λ _. makes_none w w ns t t is refl refl),
       ))
-      (λ e. does_unless _ _ _ _ (λ _. subst Q (sym (reported_is (calls_for_one t a r.client) calls)) (by (calls_for_one t a r.client) refl)))
+      (λ e. does_unless _ _ _ _ (λ _. subst Q (sym (reported_is (calls_for_one t a r.client) asked))
+      (by (new_status a.client r.client e) (calls_for_one t a r.client) refl)))
 
 pub reported_is_there : law.ReportedIsThere
 reported_is_there pool secret node report s s' reply e = pool_does s pool secret (NodeCommand.Report node report)
