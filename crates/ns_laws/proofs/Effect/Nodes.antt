@@ -34,7 +34,8 @@ use Rattle.ns_types.proofs.Tables.{get-map_rows}
 use Rattle.ns_types.proofs.Tests.{is_yes, same_Some}
 use Rattle.ns_audit.proofs.ValidAllocations.Sound.{allocation_row, row_allocation}
 use Rattle.ns_laws.specs.Effects as law
-use Rattle.ns_laws.specs.Effects.{HasRows, IsOfAllocation, IsEvaluated, CallsForEvaluation, MakesNone, IsReported, HasFormer, HasOffer, HasNode, KeepsOtherNodes, IsLost}
+use Rattle.ns_laws.specs.Effects.{HasRows, IsOfAllocation, IsEvaluated, CallsForEvaluation, MakesNone, IsReported}
+use Rattle.ns_laws.specs.Effects.{HasFormer, HasOffer, HasNode, KeepsOtherNodes, IsLost}
 use Rattle.ns_laws.proofs.Effect.Documents.{client_is}
 use Rattle.ns_laws.proofs.Effect.Evaluations.{made_for, is_evaluated}
 use Rattle.ns_laws.proofs.Effect.Reports.{calls, calls_not, makes_none, new_status}
