@@ -6,3 +6,4 @@ pub mod Evictions
 pub mod Laws
 pub mod Rows
 pub mod Steps
+pub mod Victims

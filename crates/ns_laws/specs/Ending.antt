@@ -31,6 +31,7 @@ use Rattle.ns_types.specs.Validity.{IsLiveAt, IsValid}
 use Rattle.ns_types.specs.Working.Commit.{node_name, group_name}
 use Rattle.ns_types.specs.Working.Looks.{worker_at}
 use Rattle.ns_types.specs.Working.Worker.{Worker}
+use Rattle.ns_laws.specs.Effects.{IsOfAllocation}
 
 -- ---- the steps that may change an allocation
 
@@ -201,8 +202,10 @@ ComesOnlyByPlan = (s s' : State) (step : Step) (answer : Answer) (key : Key) (b 
 
 -- ---- the jobs that lose an allocation
 
--- a new evaluation of the job is pending in that namespace, and this is why it was made
-pub record IsEvaluatedAnew (ns job : Name) (trigger : Trigger) (s s' : State) : Type 0 where
+-- A new evaluation of the allocation's job is pending in that namespace, and this is why it was made. It has the type, the
+-- priority and the pool of the job. If the job is gone, it has the type `service`, the allocation's pool, and the priority of
+-- an allocation of the job that was live in that pool.
+pub record IsEvaluatedAnew (ns : Name) (a : Allocation) (trigger : Trigger) (s s' : State) : Type 0 where
   pub before : Tenant
   pub now : Tenant
   pub was_there : get s.world.tenants ns ≡ Some before
@@ -211,25 +214,35 @@ pub record IsEvaluatedAnew (ns job : Name) (trigger : Trigger) (s s' : State) : 
   pub is_new : before.evaluation_number < number
   pub row : Evaluation
   pub is_row : get now.evaluations number ≡ Some row
-  pub is_of_job : row.job ≡ job
+  pub is_of_job : row.job ≡ a.job
   pub is_pending : row.status ≡ Status.Pending
   pub is_why : row.trigger ≡ trigger
+  pub origin_number : ℕ
+  pub origin : Allocation
+  pub was_live : IsLiveAt s.world (ns, origin_number) origin
+  pub same_job : origin.job ≡ a.job
+  pub same_pool : origin.pool ≡ a.pool
+  pub is_of : IsOfAllocation (get before.jobs a.job) origin row
 
 -- Once a node is set down, each job that had a live allocation there, of whichever namespace, has a new evaluation,
--- which is pending in the job's namespace.
+-- which is pending in the job's namespace. It has the type, the priority and the pool of the job. If the job is gone,
+-- it has the type `service`, the pool of the lost allocation, and the priority of an allocation of the job that was
+-- live in that pool.
 abbrev pub LostIsEvaluated : Type 0
 LostIsEvaluated = (pool : Name) (secret : Option Name) (node : Name) (s s' : State) (reply : Reply) (key : Key)
     (a : Allocation) →
     after (Step.Node pool secret (NodeCommand.SetStatus node NodeStatus.Down)) s ≡ said (Ok reply) s' →
-    IsLiveAt s.world key a → a.pool ≡ pool → a.node ≡ node → IsEvaluatedAnew key.0 a.job Trigger.NodeUpdate s s'
+    IsLiveAt s.world key a → a.pool ≡ pool → a.node ≡ node → IsEvaluatedAnew key.0 a Trigger.NodeUpdate s s'
 
 -- From a valid state, once a plan is applied, each job that had an allocation evicted by it, of whichever namespace,
--- has a new evaluation, which is pending in the job's namespace.
+-- has a new evaluation, which is pending in the job's namespace. It has the type, the priority and the pool of the job.
+-- If the job is gone, it has the type `service`, the pool of the evicted allocation, and the priority of an allocation
+-- of the job that was live in that pool.
 abbrev pub EvictedIsEvaluated : Type 0
 EvictedIsEvaluated = (number : ℕ) (ns : Name) (s s' : State) (reply : Reply) (key : Key) (a b : Allocation) →
     IsValid s → after (Step.Apply number ns) s ≡ said (Ok reply) s' → IsLiveAt s.world key a →
     allocation_at s'.world key ≡ Some b → b.desired ≡ DesiredStatus.Evict →
-    IsEvaluatedAnew key.0 a.job Trigger.Preemption s s'
+    IsEvaluatedAnew key.0 a Trigger.Preemption s s'
 
 -- ---- the evaluations that a step adds
 

@@ -41,13 +41,17 @@ pub fn comes_only_by_plan()
 {}
 
 /// Once a node is set down, each job that had a live allocation there, of whichever namespace, has a new evaluation,
-/// which is pending in the job's namespace.
+/// which is pending in the job's namespace. It has the type, the priority and the pool of the job. If the job is gone,
+/// it has the type `service`, the pool of the lost allocation, and the priority of an allocation of the job that was
+/// live in that pool.
 pub fn lost_is_evaluated()
     ensures { LostIsEvaluated }
 {}
 
 /// From a valid state, once a plan is applied, each job that had an allocation evicted by it, of whichever namespace,
-/// has a new evaluation, which is pending in the job's namespace.
+/// has a new evaluation, which is pending in the job's namespace. It has the type, the priority and the pool of the
+/// job. If the job is gone, it has the type `service`, the pool of the evicted allocation, and the priority of an
+/// allocation of the job that was live in that pool.
 pub fn evicted_is_evaluated()
     ensures { EvictedIsEvaluated }
 {}

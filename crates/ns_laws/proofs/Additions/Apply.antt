@@ -20,7 +20,7 @@ use Rattle.ns_types.specs.State.Lists.{Each, first_each}
 use Rattle.ns_types.specs.State.Names.{Key, Name, has_key, has_number, same_key, same_number}
 use Rattle.ns_types.specs.State.Resources.{plus}
 use Rattle.ns_types.specs.State.Rows.{PoolRows, Tenant, World, allocation_at, is_held, is_live, is_run, node_at}
-use Rattle.ns_types.specs.Validity.{IsLiveAt, IsSound}
+use Rattle.ns_types.specs.Validity.{IsSound}
 use Rattle.ns_types.specs.Working.Commit.{Applied, Commit, Victim, accepts_at, applied, applied_worker}
 use Rattle.ns_types.specs.Working.Commit.{apply, apply_for, begun, commit, committed_placements, counts}
 use Rattle.ns_types.specs.Working.Commit.{decide, done, evict, evict_all, evicted_rows, least_of_job, live_stops, make_up, new_allocation, node_name, nodes_in}
@@ -31,13 +31,12 @@ use Rattle.ns_types.specs.Working.Work.{is_submitted, with_worker, without_key}
 use Rattle.ns_types.specs.Working.Worker.{Worker}
 use Rattle.ns_types.proofs.Decided.{decided_world}
 use Rattle.ns_types.proofs.Elements.{each_first, each_of}
-use Rattle.ns_types.proofs.Gone.{evicted_are, evicted_row, stopped_are, stopped_row}
+use Rattle.ns_types.proofs.Gone.{evicted_are, evicted_row}
 use Rattle.ns_types.proofs.Leads.{Leads, leads_if, leads_keeping}
 use Rattle.ns_types.proofs.Less.{allocation_then}
-use Rattle.ns_types.proofs.Lists.{not_both}
-use Rattle.ns_types.proofs.Named.{same_key_refl}
+use Rattle.ns_types.proofs.Named.{first_of_both, same_key_refl}
 use Rattle.ns_types.proofs.TableRows.{any_append}
-use Rattle.ns_types.proofs.Tests.{not_Some, or_none, same_Some}
+use Rattle.ns_types.proofs.Tests.{or_none, same_Some}
 use Rattle.ns_audit.proofs.ValidAllocations.Going.{Onward, onward_change, onward_each, onward_same, onward_then}
 use Rattle.ns_laws.specs.Ending.{AddedFor, AppliesPlan, HasLost}
 use Rattle.ns_laws.proofs.Additions.Lists.{victims_distinct}
@@ -45,9 +44,10 @@ use Rattle.ns_laws.proofs.Additions.Steps.{Adds, SameRows, adds_made, adds_same,
 use Rattle.ns_laws.proofs.Elements.{Has, each_from_has, filter_has, flat_has, has_filter, has_filter_map, has_flat}
 use Rattle.ns_laws.proofs.Endings.Apply.{Below, Counts, applies_plan, counts_still, decided_count, made_up_same}
 use Rattle.ns_laws.proofs.Endings.Apply.{same_change, stale_leaves, stops_count}
-use Rattle.ns_laws.proofs.Endings.Evaluations.{for_its_job}
-use Rattle.ns_laws.proofs.Endings.Evictions.{all_keep, counted_live, counts_as, least_job}
+use Rattle.ns_laws.proofs.Effect.Evaluations.{made_for}
+use Rattle.ns_laws.proofs.Endings.Evictions.{all_keep, counts_as, least_job}
 use Rattle.ns_laws.proofs.Endings.Rows.{Same}
+use Rattle.ns_laws.proofs.Endings.Victims.{counted_on, was_live}
 
 -- ---- elements of lists
 
@@ -185,7 +185,7 @@ module _ (w : World) (step : Step) (kept : Snapshot) (applies : AppliesPlan w st
         its same (inr f) = fallen_stays c.world vs (victim_key e) f
         its same (inl rests) =
             let counts_here = counts_as stopped c.world kept.pool (node_name kept p.node) e (sym rests) counted in
-            let l = counted_live c.world kept.pool (node_name kept p.node) e counts_here in
+            let l = counted_on c.world kept.pool (node_name kept p.node) e counts_here in
             falls_now c.world vs (victim_key e) l.0 l.1 (key_among victim_key vs e
             (flat_has (victims_in c.world kept) e (part_of k ps) p (filter_has (λ p. same_number p.node k) ps p planned same)
             (filter_has (counts c.world kept.pool (node_name kept p.node)) p.evictions e is_one counts_here)))
@@ -231,23 +231,6 @@ module _ (w : World) (step : Step) (kept : Snapshot) (applies : AppliesPlan w st
   numbered = decided_count w kept ps (nodes_in ps) (begun stopped)
       (onward_change Counts counts_still w kept.namespace (λ u. fold (λ x n. with_desired n DesiredStatus.Stop x) u live) (λ u _. stops_count live u))
 
-  -- what is live once the stops are made was live before
-  was_live : (key : Key) (a : Allocation) → allocation_at stopped key ≡ Some a → is_live a ≡ true → IsLiveAt w key a
-  was_live key a at lives = by (allocation_at w key) refl (has_key stop_keys key) refl
-    where
-      stop_keys : List Key
-      stop_keys = map (λ n. (kept.namespace, n)) live
-
-      after_stops : (o : Option Allocation) → allocation_at w key ≡ o → (b : Bool) → has_key stop_keys key ≡ b →
-          option_map (λ a. cond b (stopped_row a) a) o ≡ Some a
-      after_stops o was b e = (λ i. option_map (λ a. cond (sym e i) (stopped_row a) a) (sym was i))
-          ∙ sym (ap (λ x. allocation_at x key) (stopped_are kept.namespace live w) ∙ allocation_then stopped_row (λ a. refl) w stop_keys key) ∙ at
-
-      by : (o : Option Allocation) → allocation_at w key ≡ o → (b : Bool) → has_key stop_keys key ≡ b → IsLiveAt w key a
-      by None was b e = absurd (not_Some a (after_stops None was b e))
-      by (Some a0) was true e = not_both lives (ap is_live (sym (same_Some (stopped_row a0) a (after_stops (Some a0) was true e))))
-      by (Some a0) was false e = (was ∙ after_stops (Some a0) was false e, lives)
-
   module _ (x : World) (later : Same y x) where
     fallen_ends : (d : DesiredStatus) (b : Bool) → d ≡ DesiredStatus.Evict → (is_run d && b) ≡ false
     fallen_ends d b e = ap (λ d. is_run d && b) e
@@ -258,14 +241,14 @@ module _ (w : World) (step : Step) (kept : Snapshot) (applies : AppliesPlan w st
         let p = has_flat (victims_in stopped kept) e.0 placed e.1 in
         let q = has_filter (λ p. has_number decided.committed p.node) ps p.0 p.1 in
         let r = has_filter (counts stopped kept.pool (node_name kept p.0.node)) p.0.evictions e.0 p.2 in
-        let l = counted_live stopped kept.pool (node_name kept p.0.node) e.0 r.1 in
+        let l = counted_on stopped kept.pool (node_name kept p.0.node) e.0 r.1 in
         let f = all_fall.done_ p.0 q.0 q.1 e.0 r.0 r.1 in
         subst (λ (v : Victim). HasLost w x v.0 v.1.1.job) {x = (e.0.namespace, (e.0.number, l.0))}
         (same_Some (e.0.namespace, (e.0.number, l.0)) v (sym (ap (option_map (λ a. (e.0.namespace, (e.0.number, a)))) l.1) ∙ e.2))
         (record {
           number = e.0.number;
           before = l.0;
-          was_live = was_live (victim_key e.0) l.0 l.1 l.2;
+          was_live = was_live w kept.namespace live (victim_key e.0) l.0 l.1 (first_of_both (is_live l.0) _ l.2);
           of_job = refl;
           later = f.row;
           is_there = later (victim_key e.0) ∙ all_keep w step kept applies t is below placed decided.world numbered (victim_key e.0) f.row f.is_row;
@@ -291,7 +274,7 @@ module _ (w : World) (step : Step) (kept : Snapshot) (applies : AppliesPlan w st
   done_adds : Adds w step (make_up victims y)
   unfolding make_up
   done_adds = adds_made w step (λ (v : Victim). v.0) (λ (v : Victim). v.1.1.job) (λ v u. evaluation_for u (least_of_job victims v) Trigger.Preemption)
-      (λ v u. (for_its_job u (least_of_job victims v) Trigger.Preemption).of_job ∙ least_job victims v)
+      (λ v u. (made_for u (least_of_job victims v) Trigger.Preemption).of_job ∙ least_job victims v)
       y (first_each same_victim_job victims) (make_up victims y) refl
       placed_rows (victims_distinct victims) (victims_fit (make_up victims y) (made_up_same w step kept applies t is below victims y))
 

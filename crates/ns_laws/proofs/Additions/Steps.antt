@@ -57,7 +57,7 @@ use Rattle.ns_audit.proofs.ValidAllocations.Work.{unlisted_tenants}
 use Rattle.ns_audit.proofs.ValidWorkers.Quiet.{Quiet, quiet_carries}
 use Rattle.ns_laws.specs.Ending.{AddedFor, HasLost, for_loss, deregisters, follows, is_for_loss, registers}
 use Rattle.ns_laws.proofs.Additions.Lists.{Distinct, Made, losses_distinct, made_each, made_first}
-use Rattle.ns_laws.proofs.Endings.Evaluations.{for_its_job}
+use Rattle.ns_laws.proofs.Effect.Evaluations.{made_for}
 use Rattle.ns_laws.proofs.Endings.Rows.{Same, made_in_tenants, same_make}
 use Rattle.ns_laws.proofs.Endings.Steps.{losses_same, lost_at}
 use Rattle.ns_laws.proofs.Index.StepRows.{Left, Leaves, added, stayed}
@@ -204,7 +204,7 @@ module _ (w : World) (step : Step) where
 pub for_lost : (w x : World) (step : Step) (ns : Name) (u : Tenant) (a : Allocation) (trigger : Trigger) → is_for_loss trigger ≡ true →
     HasLost w x ns a.job → AddedFor w x step ns (evaluation_for u a trigger)
 for_lost w x step ns u a trigger is lost =
-    let f = for_its_job u a trigger in for_loss (ap is_for_loss f.why ∙ is) (subst (HasLost w x ns) (sym f.of_job) lost)
+    let f = made_for u a trigger in for_loss (ap is_for_loss f.why ∙ is) (subst (HasLost w x ns) (sym f.of_job) lost)
 
 -- ---- requests in a namespace
 
@@ -336,7 +336,7 @@ module _ (w : World) (pool : Name) (secret : Option Name) (node : Name) (w' : Wo
   down_adds : Adds w downs (go_down pool node w')
   unfolding go_down
   down_adds = adds_made w downs (λ (l : Name × Allocation). l.0) (λ (l : Name × Allocation). l.1.job) (λ l t. evaluation_for t l.1 Trigger.NodeUpdate)
-      (λ l t. (for_its_job t l.1 Trigger.NodeUpdate).of_job) (lose pool node w') (losses pool node w') (go_down pool node w') refl fallen_rows
+      (λ l t. (made_for t l.1 Trigger.NodeUpdate).of_job) (lose pool node w') (losses pool node w') (go_down pool node w') refl fallen_rows
       (losses_distinct pool node w') down_fits
 
 -- ---- reports
@@ -404,7 +404,7 @@ module _ (w : World) (pool : Name) (secret : Option Name) (name : Name) (r : Rep
 
       by : (b : Bool) → option_map_or (λ t. calls_for_one t a r.client) (get w.tenants r.namespace) false ≡ b → Adds w tells (cond b x changed)
       by true e = adds_made w tells (λ (l : Name × Allocation). l.0) (λ (l : Name × Allocation). l.1.job) (λ l t. evaluation_for t l.1 Trigger.AllocFailure)
-          (λ l t. (for_its_job t l.1 Trigger.AllocFailure).of_job) changed ((r.namespace, a) ∷ []) x refl changed_rows (tt, tt)
+          (λ l t. (made_for t l.1 Trigger.AllocFailure).of_job) changed ((r.namespace, a) ∷ []) x refl changed_rows (tt, tt)
           (λ ns. (
             (λ own u. for_lost w x tells ns u a Trigger.AllocFailure refl (subst (λ k. HasLost w x k a.job) own
                 (report_loses x (same_make r.namespace (λ t. evaluation_for t a Trigger.AllocFailure) changed) (calls e)))),

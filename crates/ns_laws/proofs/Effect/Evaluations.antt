@@ -31,7 +31,7 @@ dated e create modify = record e { create_index = create; modify_index = modify 
 
 module _ (n : ℕ) where
   -- the row, with some indexes
-  abbrev Dated : Evaluation → Tenant → Type 0
+  abbrev pub Dated : Evaluation → Tenant → Type 0
   Dated e t = (create : ℕ) × (modify : ℕ) × (get t.evaluations n ≡ Some (dated e create modify))
 
   stamped_row : (o : Option Tenant) (t : Tenant) (e : Evaluation) → get t.evaluations n ≡ Some e → Dated e (stamp_tenant o t)
@@ -99,7 +99,7 @@ module _ (w x : World) (ns : Name) where
       get (unblocked_in (woken w x) ns t).evaluations n ≡ option_map (woken_row (woken w x) ns n) o
   unblocked t n o at = get-map_rows numbers one_number (woken_row (woken w x) ns) t.evaluations n ∙ ap (option_map (woken_row (woken w x) ns n)) at
 
-  settled_dated : (t : Tenant) (n : ℕ) (e : Evaluation) → get t.evaluations n ≡ Some e → e.status ≡ Status.Pending → Dated n e (now t)
+  pub settled_dated : (t : Tenant) (n : ℕ) (e : Evaluation) → get t.evaluations n ≡ Some e → e.status ≡ Status.Pending → Dated n e (now t)
   settled_dated t n e at is_pending = stamped_row n (get w.tenants ns) (unblocked_in (woken w x) ns t) e
       (unblocked t n (Some e) at ∙ ap Some (same (has_key (woken w x) (ns, n))))
     where

@@ -6,7 +6,6 @@ use Rattle.std.specs.Option.{option_and_then}
 use Rattle.std.specs.Ordering.{eq_by_cmp}
 use Rattle.ns_types.specs.declared.allocation.Allocation.{Allocation}
 use Rattle.ns_types.specs.declared.evaluation.Evaluation.{Evaluation}
-use Rattle.ns_types.specs.declared.evaluation.Status.TheVariants as Status
 use Rattle.ns_types.specs.declared.node.Class.{Class}
 use Rattle.ns_types.specs.declared.refusal.Refusal.{Refusal}
 use Rattle.ns_types.specs.declared.reply.Content.{Content}
@@ -15,11 +14,11 @@ use Rattle.ns_types.specs.declared.step.Step.{Step}
 use Rattle.ns_types.specs.Settling.Making.{put_tenant, with_evaluation, make_in}
 use Rattle.ns_types.specs.Settling.Outcome.{Outcome, NotEnabled, Refused, Done, unless, refused_by, found, lift}
 use Rattle.ns_types.specs.Settling.Releases.{woken, released_classes, releases_quota}
-use Rattle.ns_types.specs.Settling.Settle.{pending, woken_row, unblocked_in, wake, after_release, after_quota_release, number_releases, is_touched}
+use Rattle.ns_types.specs.Settling.Settle.{woken_row, unblocked_in, wake, after_release, after_quota_release, number_releases, is_touched}
 use Rattle.ns_types.specs.Settling.Settle.{changes_evaluation, changes_allocation, created_at, stamped_evaluation, stamped_allocation, stamped, stamp_tenant}
 use Rattle.ns_types.specs.Settling.Same.{same_evaluation}
 use Rattle.ns_types.specs.Settling.Settle.{stamp, settle, is_changed, changes_job}
-use Rattle.ns_types.specs.State.Names.{Name, Key, ByName, ByNumber, name_cmp, has_key}
+use Rattle.ns_types.specs.State.Names.{Name, Key, ByName, ByNumber, name_cmp}
 use Rattle.ns_types.specs.State.Rows.{State, World, Tenant, PoolRows, QuotaRows, node_at}
 use Rattle.ns_types.specs.State.Tables.{any_row}
 use Rattle.ns_types.specs.Steps.{after, act, said, concluded, is_allowed, is_past_bound, reply_of, settled}
@@ -150,50 +149,6 @@ settled_jobs w w' ns t = stamp_keeps (λ t. t.jobs) (λ i o t. refl) (get w.tena
 
 pub settled_namespace : (w w' : World) (ns : Name) (t : Tenant) → (settled_rows w w' ns t).namespace ≡ t.namespace
 settled_namespace w w' ns t = stamp_keeps (λ t. t.namespace) (λ i o t. refl) (get w.tenants ns) (unblocked_in (woken w w') ns t)
-
--- ---- evaluations
-
--- a pending evaluation of that job, which was made for that reason, is one still
-pub record StillPending (e : Evaluation) (rows : ByNumber Evaluation) (n : ℕ) : Type 0 where
-  pub row : Evaluation
-  pub is_row : get rows n ≡ Some row
-  pub job : row.job ≡ e.job
-  pub status : row.status ≡ Status.Pending
-  pub trigger : row.trigger ≡ e.trigger
-
-module _ (n : ℕ) (e : Evaluation) (is_pending : e.status ≡ Status.Pending) where
-  stamped_pending : (o : Option Tenant) (t : Tenant) → get t.evaluations n ≡ Some e → StillPending e (stamp_tenant o t).evaluations n
-  unfolding stamp_tenant
-  stamped_pending None t at = record { row = e; is_row = at; job = refl; status = is_pending; trigger = refl }
-  stamped_pending (Some o) t at = by (is_touched o t)
-    where
-      row : Bool → Evaluation
-      row b = cond b (record e { create_index = created_at (o.index + 1) (get o.evaluations n) (λ o. o.create_index); modify_index = o.index + 1 }) e
-
-      still : (rows : ByNumber Evaluation) (b : Bool) → get rows n ≡ Some (row b) → StillPending e rows n
-      still rows true at = record { row = row true; is_row = at; job = refl; status = is_pending; trigger = refl }
-      still rows false at = record { row = e; is_row = at; job = refl; status = is_pending; trigger = refl }
-
-      by : (b : Bool) → StillPending e (cond b (stamped (o.index + 1) o t) t).evaluations n
-      by true = still (stamped (o.index + 1) o t).evaluations (changes_evaluation o n e)
-          (get-map_rows numbers one_number (stamped_evaluation (o.index + 1) o) t.evaluations n ∙ ap (option_map (stamped_evaluation (o.index + 1) o n)) at)
-      by false = record { row = e; is_row = at; job = refl; status = is_pending; trigger = refl }
-
-then_pending : (d e : Evaluation) (rows : ByNumber Evaluation) (n : ℕ) → d.job ≡ e.job → d.trigger ≡ e.trigger → StillPending d rows n → StillPending e rows n
-then_pending d e rows n job trigger p =
-    record { row = p.row; is_row = p.is_row; job = p.job ∙ job; status = p.status; trigger = p.trigger ∙ trigger }
-
-pub settled_pending : (w w' : World) (ns : Name) (t : Tenant) (n : ℕ) (e : Evaluation) → get t.evaluations n ≡ Some e → e.status ≡ Status.Pending →
-    StillPending e (settled_rows w w' ns t).evaluations n
-settled_pending w w' ns t n e at is_pending = by (has_key (woken w w') (ns, n))
-    (get-map_rows numbers one_number (woken_row (woken w w') ns) t.evaluations n ∙ ap (option_map (woken_row (woken w w') ns n)) at)
-  where
-    u : Tenant
-    u = unblocked_in (woken w w') ns t
-
-    by : (b : Bool) → get u.evaluations n ≡ Some (cond b (pending e) e) → StillPending e (stamp_tenant (get w.tenants ns) u).evaluations n
-    by true at = then_pending (pending e) e _ n refl refl (stamped_pending n (pending e) refl (get w.tenants ns) u at)
-    by false at = stamped_pending n e is_pending (get w.tenants ns) u at
 
 -- ---- allocations
 

@@ -24,7 +24,7 @@ use Rattle.ns_types.specs.Settling.Settle.{settle}
 use Rattle.ns_types.specs.State.Lists.{Each, first_each}
 use Rattle.ns_types.specs.State.Names.{Name, Key, same_name, same_number, has_key, has_number}
 use Rattle.ns_types.specs.State.Resources.{plus}
-use Rattle.ns_types.specs.State.Rows.{State, World, Tenant, PoolRows, is_live, is_live_on, is_run, is_held, allocation_at, node_at}
+use Rattle.ns_types.specs.State.Rows.{State, World, Tenant, PoolRows, is_live_on, is_run, is_held, allocation_at, node_at}
 use Rattle.ns_types.specs.Steps.{act}
 use Rattle.ns_types.specs.Validity.{IsSound, IsLiveAt}
 use Rattle.ns_types.specs.Working.Commit.{still_stands, live_stops, stop_all, node_name, nodes_in, part_of, counts, victims_in, victims_of, evict, evict_all}
@@ -36,7 +36,7 @@ use Rattle.ns_types.specs.Working.Queue.{is_served}
 use Rattle.ns_types.specs.Working.Work.{with_worker, without_key, is_submitted}
 use Rattle.ns_types.specs.Working.Worker.{Worker}
 use Rattle.ns_types.proofs.Decided.{decided_world}
-use Rattle.ns_types.proofs.Elements.{each_mapped, each_of, each_passes}
+use Rattle.ns_types.proofs.Elements.{each_first, each_mapped, each_of, each_passes}
 use Rattle.ns_types.proofs.Gone.{evicted_row, stopped_row, evicted_are, stopped_are}
 use Rattle.ns_types.proofs.Leads.{Leads, leads_if, leads_keeping, leads_lift}
 use Rattle.ns_types.proofs.Less.{allocation_then}
@@ -50,14 +50,15 @@ use Rattle.ns_audit.proofs.ValidAllocations.Going.{Onward, onward_change, onward
 use Rattle.ns_audit.proofs.ValidAllocations.Sound.{allocation_row}
 use Rattle.ns_laws.specs.Ending as law
 use Rattle.ns_laws.specs.Ending.{AppliesPlan, IsEvaluatedAnew}
-use Rattle.ns_laws.proofs.Elements.{Has, filter_has, filter_map_has, flat_has, has_filter, has_flat}
+use Rattle.ns_laws.proofs.Elements.{Has, each_has, filter_has, filter_map_has, flat_has, has_each, has_filter, has_flat}
 use Rattle.ns_laws.proofs.Effect.Rows.{Does, after_does}
 use Rattle.ns_laws.proofs.Endings.Apply.{of_keys, Below, Counts, counts_still, counts_then, decided_count, stops_count, placed_count}
 use Rattle.ns_laws.proofs.Endings.Apply.{made_up_same, same_change, applies_plan, stale_leaves}
 use Rattle.ns_laws.proofs.Endings.Change.{settled_at}
-use Rattle.ns_laws.proofs.Endings.Evaluations.{IsPendingFor, for_its_job, Grows, HasOne, one_made, evaluated_anew}
+use Rattle.ns_laws.proofs.Endings.Evaluations.{Grows, HasOne, one_made, evaluated_anew, pending_for}
 use Rattle.ns_laws.proofs.Endings.Laws.{comes, desired_kept}
 use Rattle.ns_laws.proofs.Endings.Rows.{moves_put}
+use Rattle.ns_laws.proofs.Endings.Victims.{counted_on, least_lived, pool_of_live, row_in}
 
 -- ---- elements of lists
 
@@ -118,16 +119,6 @@ least_job victims v = by (least (map (λ x. x.1) (filter (same_victim_job v) vic
 
 -- ---- evictions that count
 
-pub counted_live : (x : World) (pool node : Name) (e : Eviction) → counts x pool node e ≡ true →
-    (a : Allocation) × (allocation_at x (victim_key e) ≡ Some a) × (is_live a ≡ true)
-unfolding counts
-counted_live x pool node e h = by (allocation_at x (victim_key e)) refl h
-  where
-    by : (o : Option Allocation) → allocation_at x (victim_key e) ≡ o → option_map_or (λ a. is_live_on pool node a && same_number a.priority e.priority) o false ≡ true →
-        (a : Allocation) × (allocation_at x (victim_key e) ≡ Some a) × (is_live a ≡ true)
-    by None at h = absurd (subst T (sym h) tt)
-    by (Some a) at h = (a, at, first_of_both (is_live a) _ (first_of_both (is_live_on pool node a) _ h))
-
 pub counts_as : (x y : World) (pool node : Name) (e : Eviction) → allocation_at x (victim_key e) ≡ allocation_at y (victim_key e) →
     counts x pool node e ≡ true → counts y pool node e ≡ true
 unfolding counts
@@ -136,7 +127,8 @@ counts_as x y pool node e same h = ap (λ o. option_map_or (λ a. is_live_on poo
 -- ---- a namespace stays
 
 module _ (ns : Name) (t : Tenant) where
-  grows_change : (k : Name) (f : Tenant → Tenant) → ((u : Tenant) → (f u).evaluation_number ≡ u.evaluation_number) → (x : World) → Grows ns t x →
+  grows_change : (k : Name) (f : Tenant → Tenant) → ((u : Tenant) → ((f u).evaluation_number ≡ u.evaluation_number) × ((f u).jobs ≡ u.jobs)) → (x : World) →
+      Grows ns t x →
       Grows ns t (change_tenant k f x)
   grows_change k f keeps x g = by (get x.tenants k) refl
     where
@@ -148,29 +140,41 @@ module _ (ns : Name) (t : Tenant) where
           at true e =
               let same : g.rows ≡ u = same_Some g.rows u (sym g.is_there ∙ ap (get x.tenants) (same_name_is ns k e) ∙ is) in
               let number : t.evaluation_number ≤ u.evaluation_number = subst (λ (u : Tenant). t.evaluation_number ≤ u.evaluation_number) same g.number in
-              let kept = keeps u in record {
+              let kept = (keeps u).0 in record {
                 rows = f u;
                 is_there = ap (get (insert x.tenants k (f u))) (same_name_is ns k e) ∙ get_put names one_name x.tenants k (f u);
                 number = omega (arith, number, kept);
+                jobs = (keeps u).1 ∙ ap (λ (u : Tenant). u.jobs) (sym same) ∙ g.jobs;
               }
-          at false e = record { rows = g.rows; is_there = get_other names one_name x.tenants k (f u) ns e ∙ g.is_there; number = g.number }
+          at false e = record {
+            rows = g.rows;
+            is_there = get_other names one_name x.tenants k (f u) ns e ∙ g.is_there;
+            number = g.number;
+            jobs = g.jobs;
+          }
 
-  desired_number : (n : ℕ) (d : DesiredStatus) (u : Tenant) → (with_desired n d u).evaluation_number ≡ u.evaluation_number
-  desired_number n d u = by (get u.allocations n)
+  desired_keeps : (n : ℕ) (d : DesiredStatus) (u : Tenant) →
+      ((with_desired n d u).evaluation_number ≡ u.evaluation_number) × ((with_desired n d u).jobs ≡ u.jobs)
+  desired_keeps n d u = by (get u.allocations n)
     where
-      by : (o : Option Allocation) →
-          (option_map_or (λ a. record u { allocations = insert u.allocations n (record a { desired = d }) }) o u).evaluation_number ≡ u.evaluation_number
-      by None = refl
-      by (Some a) = refl
+      changed : Option Allocation → Tenant
+      changed o = option_map_or (λ a. record u { allocations = insert u.allocations n (record a { desired = d }) }) o u
 
-  stops_number : (stops_ : List ℕ) (u : Tenant) → (fold (λ x n. with_desired n DesiredStatus.Stop x) u stops_).evaluation_number ≡ u.evaluation_number
-  stops_number [] u = refl
-  stops_number (n ∷ stops_) u = stops_number stops_ (with_desired n DesiredStatus.Stop u) ∙ desired_number n DesiredStatus.Stop u
+      by : (o : Option Allocation) → ((changed o).evaluation_number ≡ u.evaluation_number) × ((changed o).jobs ≡ u.jobs)
+      by None = (refl, refl)
+      by (Some a) = (refl, refl)
+
+  stops_keep : (stops_ : List ℕ) (u : Tenant) → ((fold (λ x n. with_desired n DesiredStatus.Stop x) u stops_).evaluation_number ≡ u.evaluation_number)
+      × ((fold (λ x n. with_desired n DesiredStatus.Stop x) u stops_).jobs ≡ u.jobs)
+  stops_keep [] u = (refl, refl)
+  stops_keep (n ∷ stops_) u =
+      let rest = stops_keep stops_ (with_desired n DesiredStatus.Stop u) in
+      let one = desired_keeps n DesiredStatus.Stop u in (rest.0 ∙ one.0, rest.1 ∙ one.1)
 
   evicted_grows : (vs : List Eviction) (x : World) → Grows ns t x → Grows ns t (evict_all x vs)
   evicted_grows [] x g = g
   evicted_grows (v ∷ vs) x g = evicted_grows vs (evict x v)
-      (grows_change v.namespace (with_desired v.number DesiredStatus.Evict) (desired_number v.number DesiredStatus.Evict) x g)
+      (grows_change v.namespace (with_desired v.number DesiredStatus.Evict) (desired_keeps v.number DesiredStatus.Evict) x g)
 
   placed_grows : (kept : Snapshot) (p : Placement) (x : World) → Grows ns t x → Grows ns t (place_one kept x p)
   unfolding place_one
@@ -179,13 +183,13 @@ module _ (ns : Name) (t : Tenant) where
       counted : (y : World) (node : Node) → Grows ns t y → (o : Option PoolRows) →
           Grows ns t (option_map_or (λ p'. put_pool kept.pool (with_place (node_name kept p.node) node p') y) o y)
       counted y node g None = g
-      counted y node g (Some p') = record { rows = g.rows; is_there = g.is_there; number = g.number }
+      counted y node g (Some p') = record { rows = g.rows; is_there = g.is_there; number = g.number; jobs = g.jobs }
 
       node : (j : Job) (o : Option Node) → Grows ns t (option_map_or (place_with kept p x j) o x)
       node j None = g
       node j (Some n) =
           let y = change_tenant kept.namespace (with_allocation (new_allocation kept j p n)) x in
-          counted y n (grows_change kept.namespace (with_allocation (new_allocation kept j p n)) (λ u. refl) x g) (get y.pools kept.pool)
+          counted y n (grows_change kept.namespace (with_allocation (new_allocation kept j p n)) (λ u. (refl, refl)) x g) (get y.pools kept.pool)
 
       job : (o : Option Job) → Grows ns t (option_map_or (λ job. option_map_or (place_with kept p x job) (node_at x kept.pool (node_name kept p.node)) x) o x)
       job None = g
@@ -196,15 +200,15 @@ module _ (ns : Name) (t : Tenant) where
   all_grow kept (q ∷ qs) x g = all_grow kept qs (place_one kept x q) (placed_grows kept q x g)
 
   -- a change of workers leaves evaluations
-  has_worker : (job : Name) (trigger : Trigger) (k : Name) (number : ℕ) (worker : Worker) (x : World) → HasOne ns t job trigger x →
-      HasOne ns t job trigger (change_tenant k (with_worker number worker) x)
-  has_worker job trigger k number worker x h = by (get x.tenants k) refl
+  has_worker : (job pool : Name) (trigger : Trigger) (k : Name) (number : ℕ) (worker : Worker) (x : World) → HasOne ns t job pool trigger x →
+      HasOne ns t job pool trigger (change_tenant k (with_worker number worker) x)
+  has_worker job pool trigger k number worker x h = by (get x.tenants k) refl
     where
-      by : (o : Option Tenant) → get x.tenants k ≡ o → HasOne ns t job trigger (option_map_or (λ u. put_tenant k (with_worker number worker u) x) o x)
+      by : (o : Option Tenant) → get x.tenants k ≡ o → HasOne ns t job pool trigger (option_map_or (λ u. put_tenant k (with_worker number worker u) x) o x)
       by None is = h
       by (Some u) is = at (same_name ns k) refl
         where
-          at : (b : Bool) → same_name ns k ≡ b → HasOne ns t job trigger (put_tenant k (with_worker number worker u) x)
+          at : (b : Bool) → same_name ns k ≡ b → HasOne ns t job pool trigger (put_tenant k (with_worker number worker u) x)
           at true e =
               let same : h.rows ≡ u = same_Some h.rows u (sym h.is_there ∙ ap (get x.tenants) (same_name_is ns k e) ∙ is) in record {
                 rows = with_worker number worker u;
@@ -422,24 +426,31 @@ module _ (w : World) (step : Step) (kept : Snapshot) (applies : AppliesPlan w st
     its_job true = refl
     its_job false = refl
 
+    its_pool : (b : Bool) → (row b).pool ≡ a.pool
+    its_pool true = refl
+    its_pool false = refl
+
     numbered : Onward Counts w decided.world
     numbered = decided_count w kept ps (nodes_in ps) (begun stopped)
         (onward_change Counts counts_still w kept.namespace (λ u. fold (λ x n. with_desired n DesiredStatus.Stop x) u live) (λ u _. stops_count live u))
 
     abbrev Evaluated : World → Type 0
-    Evaluated x = (u : Tenant) × (get w.tenants key.0 ≡ Some u) × HasOne key.0 u a.job Trigger.Preemption x
+    Evaluated x = (u : Tenant) × (get w.tenants key.0 ≡ Some u) × HasOne key.0 u a.job a.pool Trigger.Preemption x
 
     grown : (u : Tenant) → get w.tenants key.0 ≡ Some u → Grows key.0 u y
     grown u there = all_grow key.0 u kept placed decided.world (decided_world (Grows key.0 u) (λ vs x g. evicted_grows key.0 u vs x g) kept ps (nodes_in ps) (begun stopped)
-        (grows_change key.0 u kept.namespace (λ u. fold (λ x n. with_desired n DesiredStatus.Stop x) u live) (stops_number key.0 u live) w
-        (record { rows = u; is_there = there; number = omega arith })))
+        (grows_change key.0 u kept.namespace (λ u. fold (λ x n. with_desired n DesiredStatus.Stop x) u live) (stops_keep key.0 u live) w
+        (record { rows = u; is_there = there; number = omega arith; jobs = refl })))
 
     fallen : Falls decided.committed key → Evaluated (make_up victims y)
     unfolding make_up
     fallen f =
-        let c = counted_live stopped kept.pool (node_name kept f.placement.node) f.eviction f.counted in
-        let job : c.0.job ≡ a.job = ap (λ (a : Allocation). a.job)
-        (same_Some c.0 (row (has_key stop_keys key)) (sym c.1 ∙ ap (allocation_at stopped) (sym f.of_it) ∙ after_stops)) ∙ its_job (has_key stop_keys key) in
+        let c = counted_on stopped kept.pool (node_name kept f.placement.node) f.eviction f.counted in
+        let same : c.0 ≡ row (has_key stop_keys key) =
+        same_Some c.0 (row (has_key stop_keys key)) (sym c.1 ∙ ap (allocation_at stopped) (sym f.of_it) ∙ after_stops) in
+        let job : c.0.job ≡ a.job = ap (λ (a : Allocation). a.job) same ∙ its_job (has_key stop_keys key) in
+        let pool : kept.pool ≡ a.pool = sym (pool_of_live kept.pool (node_name kept f.placement.node) c.0 c.2)
+        ∙ ap (λ (a : Allocation). a.pool) same ∙ its_pool (has_key stop_keys key) in
         let v : Victim = (f.eviction.namespace, (f.eviction.number, c.0)) in
         let among : Has victims v = filter_map_has (victim_at stopped) (victims_of stopped kept placed) f.eviction v
         (flat_has (victims_in stopped kept) f.eviction placed f.placement
@@ -447,13 +458,17 @@ module _ (w : World) (step : Step) (kept : Snapshot) (applies : AppliesPlan w st
         (filter_has (counts stopped kept.pool (node_name kept f.placement.node)) f.placement.evictions f.eviction f.is_one f.counted))
         (ap (option_map (λ a. (f.eviction.namespace, (f.eviction.number, a)))) c.1) in
         let r = one_first victims v among in
-        let its = allocation_row w key a lives.0 in (
+        let its = allocation_row w key a lives.0 in
+        let here : r.0.0 ≡ key.0 = r.2 ∙ ap (λ (k : Key). k.0) (sym f.of_it) in
+        let l = least_lived w kept.namespace live kept placed r.0
+        (each_has (Has victims) (first_each same_victim_job victims) r.0 r.1 (each_first (Has victims) same_victim_job victims (has_each victims))) in (
           its.0,
           its.1,
-          one_made key.0 its.0 a.job Trigger.Preemption (λ (v : Victim). v.0) (λ v t. evaluation_for t (least_of_job victims v) Trigger.Preemption)
-              (first_each same_victim_job victims) r.0 r.1 (r.2 ∙ ap (λ (k : Key). k.0) (sym f.of_it))
-              (λ u. subst (λ job. IsPendingFor job Trigger.Preemption (evaluation_for u (least_of_job victims r.0) Trigger.Preemption))
-              (least_job victims r.0 ∙ r.3 ∙ job) (for_its_job u (least_of_job victims r.0) Trigger.Preemption)) y (grown its.0 its.1),
+          one_made key.0 its.0 a.job a.pool Trigger.Preemption (λ (v : Victim). v.0) (λ v t. evaluation_for t (least_of_job victims v) Trigger.Preemption)
+              (first_each same_victim_job victims) r.0 r.1 here
+              (pending_for its.0 l.0 (least_of_job victims r.0)
+              (row_in w key.0 r.0.0 its.0 l.0 (least_of_job victims r.0) its.1 here l.1.0) l.1.1
+              a.job a.pool (least_job victims r.0 ∙ r.3 ∙ job) (l.2 ∙ pool) Trigger.Preemption) y (grown its.0 its.1),
         )
 
     done_evaluates : (b : Allocation) → allocation_at (make_up victims y) key ≡ Some b → b.desired ≡ DesiredStatus.Evict → Evaluated (make_up victims y)
@@ -471,7 +486,7 @@ module _ (w : World) (step : Step) (kept : Snapshot) (applies : AppliesPlan w st
 
 abbrev Evaluates : World → World → Type 0
 Evaluates w x = (key : Key) (a : Allocation) → IsLiveAt w key a → (b : Allocation) → allocation_at x key ≡ Some b → b.desired ≡ DesiredStatus.Evict →
-    (u : Tenant) × (get w.tenants key.0 ≡ Some u) × HasOne key.0 u a.job Trigger.Preemption x
+    (u : Tenant) × (get w.tenants key.0 ≡ Some u) × HasOne key.0 u a.job a.pool Trigger.Preemption x
 
 -- nothing is evicted where nothing changes
 none_evicted : (w : World) → Evaluates w w
@@ -487,9 +502,9 @@ commit_evaluates w step kept applies t is below = by (still_stands kept.job (get
     by true = λ key a lives b at evicts_. done_evaluates w step kept applies t is below key a lives b at evicts_
     by false = none_evicted w
 
-has_plans : (ns : Name) (t : Tenant) (job : Name) (trigger : Trigger) (x : World) (keys : List Key) → HasOne ns t job trigger x →
-    HasOne ns t job trigger (record x { plans = keys })
-has_plans ns t job trigger x keys h = record {
+has_plans : (ns : Name) (t : Tenant) (job pool : Name) (trigger : Trigger) (x : World) (keys : List Key) → HasOne ns t job pool trigger x →
+    HasOne ns t job pool trigger (record x { plans = keys })
+has_plans ns t job pool trigger x keys h = record {
   rows = h.rows;
   is_there = h.is_there;
   number = h.number;
@@ -514,9 +529,9 @@ apply_evaluates w sound ns number = leads_keeping (Evaluates w) number ns w (app
         let r = h key x lives b (sym (same_change ns (with_worker number (applied_worker a worker e)) (λ t. refl) a.world key) ∙ at) evicts_ in (
           r.0,
           r.1,
-          has_plans key.0 r.0 x.job Trigger.Preemption (change_tenant ns (with_worker number (applied_worker a worker e)) a.world)
+          has_plans key.0 r.0 x.job x.pool Trigger.Preemption (change_tenant ns (with_worker number (applied_worker a worker e)) a.world)
               (without_key (ns, worker.evaluation) a.world.plans)
-              (has_worker key.0 r.0 x.job Trigger.Preemption ns number (applied_worker a worker e) a.world r.2),
+              (has_worker key.0 r.0 x.job x.pool Trigger.Preemption ns number (applied_worker a worker e) a.world r.2),
         )
 
     committed : (t : Tenant) (worker : Worker) (kept : Snapshot) → get w.tenants ns ≡ Some t → get t.workers number ≡ Some worker →
@@ -549,12 +564,12 @@ evicted_is_evaluated number ns s s' reply key a b valid made lives there evicts_
     (act_evaluates s valid.world number ns)) b there evicts_
   where
     Ends : State → Type 0
-    Ends y = (b : Allocation) → allocation_at y.world key ≡ Some b → b.desired ≡ DesiredStatus.Evict → IsEvaluatedAnew key.0 a.job Trigger.Preemption s y
+    Ends y = (b : Allocation) → allocation_at y.world key ≡ Some b → b.desired ≡ DesiredStatus.Evict → IsEvaluatedAnew key.0 a Trigger.Preemption s y
 
     settled_too : (x : State) → Evaluates s.world x.world → (b : Allocation) → allocation_at (settle s.world x.world) key ≡ Some b →
-        b.desired ≡ DesiredStatus.Evict → IsEvaluatedAnew key.0 a.job Trigger.Preemption s (record x { world = settle s.world x.world })
+        b.desired ≡ DesiredStatus.Evict → IsEvaluatedAnew key.0 a Trigger.Preemption s (record x { world = settle s.world x.world })
     settled_too x h b there evicts_ =
         let c = comes (allocation_at s.world key) (allocation_at x.world key) (allocation_at (settle s.world x.world) key) b
         (settled_at s.world x.world key) there in
         let r = h key a lives c.row c.is_own (sym (desired_kept (allocation_at s.world key) c.row b c.dates) ∙ evicts_) in
-        evaluated_anew s x key.0 r.0 a.job Trigger.Preemption r.1 r.2
+        evaluated_anew s x key.0 r.0 a Trigger.Preemption r.1 r.2
