@@ -259,6 +259,8 @@ pub record IsReported (pool node : Name) (report : Report) (before now : Tenant)
       IsEvaluated old.job (IsOfAllocation (get before.jobs old.job) old) Trigger.AllocFailure
       (before.evaluation_number + 1) before now
   pub quiet : (CallsForEvaluation old report.client (get before.jobs old.job) → ⊥) → MakesNone before now
+  -- unless the report ends the allocation, and that was live, each evaluation is as it was
+  pub resting : (is_live old ≡ true → is_live row ≡ true) → now.evaluations ≡ before.evaluations
   pub other_allocations : KeepsOtherAllocations report.number before now
   pub jobs : now.jobs ≡ before.jobs
 
@@ -266,7 +268,8 @@ pub record IsReported (pool node : Name) (report : Report) (before now : Tenant)
 -- is what it was. A new evaluation of its job is pending exactly if the status is new, the allocation is to run, and it has
 -- failed, or has completed and is not of a batch job; a job that is gone counts as a service job. The evaluation has the
 -- type, the priority and the pool of the job or, if that is gone, the type `service` and the allocation's priority and
--- pool. Other evaluations are as they were or have woken. Other allocations and all jobs are as they were.
+-- pool. Other evaluations are as they were or, if the report ends a live allocation, may have woken. Other allocations and
+-- all jobs are as they were.
 abbrev pub ReportedIsThere : Type 0
 ReportedIsThere = (pool : Name) (secret : Option Name) (node : Name) (report : Report) (s s' : State) (reply : Reply) →
     IsMade (Step.Node pool secret (NodeCommand.Report node report)) s reply s' →

@@ -61,7 +61,8 @@ pub fn index_in_reply_is_new()
 /// what it was. A new evaluation of its job is pending exactly if the status is new, the allocation is to run, and it has
 /// failed, or has completed and is not of a batch job; a job that is gone counts as a service job. The evaluation has the type,
 /// the priority and the pool of the job or, if that is gone, the type `service` and the allocation's priority and pool. Other
-/// evaluations are as they were or have woken. Other allocations and all jobs are as they were.
+/// evaluations are as they were or, if the report ends a live allocation, may have woken. Other allocations and all jobs are as
+/// they were.
 pub fn reported_is_there()
     ensures { ReportedIsThere }
 {}

@@ -52,7 +52,7 @@ module _ (n : ℕ) where
       by false = (e.create_index, e.modify_index, at)
 
   -- where the evaluation is the former one it stays so
-  stamped_stays : (o t : Tenant) → get t.evaluations n ≡ get o.evaluations n → get (stamp_tenant (Some o) t).evaluations n ≡ get o.evaluations n
+  pub stamped_stays : (o t : Tenant) → get t.evaluations n ≡ get o.evaluations n → get (stamp_tenant (Some o) t).evaluations n ≡ get o.evaluations n
   unfolding stamp_tenant
   stamped_stays o t same = by (is_touched o t)
     where

@@ -1,5 +1,5 @@
 -- What is asked of a pool does what it says.
-use Rattle.std.specs.Prelude.{◌≡◌, ◌≢◌, ℕ, ◌+◌, Bool, true, false, cond, not, List, [], ◌∷◌, Option, Some, None, Ok, option_map, fold}
+use Rattle.std.specs.Prelude.{◌≡◌, ◌≢◌, ℕ, ◌+◌, Bool, true, false, cond, not, ◌&&◌, List, [], ◌∷◌, Option, Some, None, Ok, option_map, fold}
 use Rattle.std.proofs.Common.{refl, sym, ap, subst, ◌∙◌}
 use Rattle.std.specs.FinMap.{get, insert, remove}
 use Rattle.std.specs.Option.{option_map_or, option_and_then}
@@ -24,11 +24,13 @@ use Rattle.ns_types.specs.Settling.Making.{put_pool, put_tenant, with_node, chan
 use Rattle.ns_types.specs.Settling.Outcome.{Done, unless}
 use Rattle.ns_types.specs.Settling.Settle.{settle}
 use Rattle.ns_types.specs.State.Names.{Name, Key, name_cmp, same_name}
-use Rattle.ns_types.specs.State.Rows.{State, World, Tenant, PoolRows, is_ready, is_live_on, allocation_at, node_at}
+use Rattle.ns_types.specs.State.Rows.{State, World, Tenant, PoolRows, is_held, is_live, is_ready, is_run, is_live_on, allocation_at, node_at}
 use Rattle.ns_types.specs.State.Tables.{map_rows}
 use Rattle.ns_types.specs.Steps.{after, act, said}
+use Rattle.ns_types.proofs.Lists.{not_both}
 use Rattle.ns_types.proofs.Named.{names, one_name, numbers, one_number, same_name_is, first_of_both, second_of_both}
 use Rattle.ns_types.proofs.Queue.{queue_keeps}
+use Rattle.ns_types.proofs.Settling.{keeps_all}
 use Rattle.ns_types.proofs.TableRows.{apart, get_put, get_other}
 use Rattle.ns_types.proofs.Tables.{get-map_rows}
 use Rattle.ns_types.proofs.Tests.{is_yes, same_Some}
@@ -38,7 +40,7 @@ use Rattle.ns_laws.specs.Effects.{HasRows, IsOfAllocation, IsEvaluated, CallsFor
 use Rattle.ns_laws.specs.Effects.{HasFormer, HasOffer, HasNode, KeepsOtherNodes, IsLost}
 use Rattle.ns_laws.proofs.Effect.Documents.{client_is}
 use Rattle.ns_laws.proofs.Effect.Evaluations.{made_for, is_evaluated}
-use Rattle.ns_laws.proofs.Effect.Reports.{calls, calls_not, makes_none, new_status}
+use Rattle.ns_laws.proofs.Effect.Reports.{calls, calls_ends, calls_not, evaluations_rest, keeps_one, makes_none, new_status}
 use Rattle.ns_laws.proofs.Effect.Rows.{Does, does_unless, does_found, does_if, does_of, does_lift}
 use Rattle.ns_laws.proofs.Effect.Rows.{after_does, put_there, put_elsewhere, removed, removed_elsewhere}
 use Rattle.ns_laws.proofs.Effect.Rows.{settled_rows, settled_there, settled_jobs, settled_allocated, settled_former, settled_node}
@@ -246,8 +248,9 @@ module _ (w : World) (pool name : Name) (r : Report) (t : Tenant) (a : Allocatio
   module _ (x : World) (u : Tenant) (b : Allocation) (row : get u.allocations r.number ≡ Some b) (client : b.client ≡ r.client)
       (same : b ≡ record a { client = b.client }) (others : (m : ℕ) → m ≢ r.number → get u.allocations m ≡ get t.allocations m) (jobs : u.jobs ≡ t.jobs) where
     reports : (Calls → IsEvaluated a.job (IsOfAllocation (get t.jobs a.job) a) Trigger.AllocFailure (t.evaluation_number + 1) t (settled_rows w x ns u)) →
-        ((Calls → ⊥) → MakesNone t (settled_rows w x ns u)) → Reports x u
-    reports evaluated quiet = let q = settled_allocated w x ns u r.number b row in record {
+        ((Calls → ⊥) → MakesNone t (settled_rows w x ns u)) →
+        ((is_live a ≡ true → is_live b ≡ true) → (settled_rows w x ns u).evaluations ≡ t.evaluations) → Reports x u
+    reports evaluated quiet resting = let q = settled_allocated w x ns u r.number b row in record {
       old = a;
       was_there = at;
       was_in_pool = sym (same_name_is pool a.pool (first_of_both (same_name pool a.pool) (same_name name a.node) on));
@@ -261,6 +264,7 @@ module _ (w : World) (pool name : Name) (r : Report) (t : Tenant) (a : Allocatio
       node_kept = q.node ∙ ap (λ (a : Allocation). a.node) same;
       evaluated = evaluated;
       quiet = quiet;
+      resting = λ lives. resting (λ live. (λ i. is_run (sym q.desired i) && is_held (sym q.client i)) ∙ lives live);
       other_allocations = λ m other. settled_former w x ns t u m is (others m other);
       jobs = settled_jobs w x ns u ∙ jobs;
     }
@@ -303,19 +307,21 @@ module _ (w : World) (pool name : Name) (r : Report) (t : Tenant) (a : Allocatio
   asked : option_map_or (λ t. calls_for_one t a r.client) (get w.tenants ns) false ≡ calls_for_one t a r.client
   asked = ap (λ o. option_map_or (λ t. calls_for_one t a r.client) o false) is
 
-  by : a.client ≢ r.client → (b : Bool) → calls_for_one t a r.client ≡ b → Q (cond b (make_in ns reason w' t') w')
-  by other true e =
+  by : a.client ≢ r.client → may_become a.client r.client ≡ true → (b : Bool) → calls_for_one t a r.client ≡ b → Q (cond b (make_in ns reason w' t') w')
+  by other becomes true e =
       let x : World = make_in ns reason w' t' in
       let u : Tenant = with_evaluation reason t' in (
         u,
         made_there w' ns reason t',
         reports x u b' row' refl refl others' refl (λ _. is_evaluated w x ns t t' reason is refl refl (made_for t' a Trigger.AllocFailure))
-            (λ none. absurd (none (calls t a r.client other e))),
+            (λ none. absurd (none (calls t a r.client other e)))
+            (λ lives. let ends = calls_ends a r.client (get t.jobs a.job) becomes (calls t a r.client other e) in not_both (lives ends.0) ends.1),
       )
-  by other false e = (
+  by other becomes false e = (
     t',
     there,
-    reports w' t' b' row' refl refl others' refl (λ c. absurd (calls_not t a r.client e c)) (λ _. makes_none w w' ns t t' is refl refl),
+    reports w' t' b' row' refl refl others' refl (λ c. absurd (calls_not t a r.client e c)) (λ _. makes_none w w' ns t t' is refl refl)
+        (λ lives. evaluations_rest w w' ns t t' is (keeps_one w ns t r.number a b' is at lives) refl),
   )
 
   of_report : Does (λ content x. Q x) (report_of r w a)
@@ -325,10 +331,11 @@ module _ (w : World) (pool name : Name) (r : Report) (t : Tenant) (a : Allocatio
         t,
         is,
         reports w t a at (client_is a.client r.client e) refl (λ m other. refl) refl
-            (λ c. absurd (c.is_new (client_is a.client r.client e))) (λ _. makes_none w w ns t t is refl refl),
+            (λ c. absurd (c.is_new (client_is a.client r.client e))) (λ _. makes_none w w ns t t is refl refl)
+            (λ _. evaluations_rest w w ns t t is (keeps_all w) refl),
       ))
-      (λ e. does_unless _ _ _ _ (λ _. subst Q (sym (reported_is (calls_for_one t a r.client) asked))
-      (by (new_status a.client r.client e) (calls_for_one t a r.client) refl)))
+      (λ e. does_unless _ _ _ _ (λ becomes. subst Q (sym (reported_is (calls_for_one t a r.client) asked))
+      (by (new_status a.client r.client e) (is_yes _ becomes) (calls_for_one t a r.client) refl)))
 
 pub reported_is_there : law.ReportedIsThere
 reported_is_there pool secret node report s s' reply e = pool_does s pool secret (NodeCommand.Report node report)

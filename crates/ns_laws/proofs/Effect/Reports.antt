@@ -1,23 +1,30 @@
 -- Which reports call for an evaluation, and what the others leave.
-use Rattle.std.specs.Prelude.{◌≡◌, ◌≢◌, ◌⊎◌, true, false, not, ◌&&◌, Option, Some, None}
+use Rattle.std.specs.Prelude.{◌≡◌, ◌≢◌, ◌⊎◌, ℕ, Bool, true, false, not, ◌&&◌, [], Option, Some, None, option_map}
 use Rattle.std.proofs.Common.{inl, inr, refl, sym, ap, ◌∙◌}
-use Rattle.std.specs.FinMap.{get}
+use Rattle.std.specs.FinMap.{get, insert, same_map}
 use Rattle.std.specs.Option.{option_map_or}
 use Rattle.ns_types.specs.declared.allocation.Allocation.{Allocation}
 use Rattle.ns_types.specs.declared.allocation.ClientStatus.{ClientStatus}
 use Rattle.ns_types.specs.declared.allocation.DesiredStatus.{DesiredStatus}
+use Rattle.ns_types.specs.declared.evaluation.Evaluation.{Evaluation}
 use Rattle.ns_types.specs.declared.job.Job.{Job}
 use Rattle.ns_types.specs.declared.job.JobKind.{JobKind}
-use Rattle.ns_types.specs.Asking.Nodes.{same_client, calls_for_one, is_of_batch}
+use Rattle.ns_types.specs.Asking.Nodes.{same_client, may_become, calls_for_one, is_of_batch}
 use Rattle.ns_types.specs.Placing.Wanted.{is_batch}
-use Rattle.ns_types.specs.State.Names.{Name}
-use Rattle.ns_types.specs.State.Rows.{World, Tenant, is_run}
+use Rattle.ns_types.specs.Settling.Making.{put_tenant}
+use Rattle.ns_types.specs.Settling.Releases.{woken}
+use Rattle.ns_types.specs.Settling.Settle.{stamp_tenant, unblocked_in, woken_row}
+use Rattle.ns_types.specs.State.Names.{Name, same_name, same_number}
+use Rattle.ns_types.specs.State.Rows.{World, Tenant, allocation_at, is_held, is_live, is_run}
 use Rattle.ns_types.specs.Wire.Words.{client_text}
 use Rattle.ns_types.proofs.Lists.{not_both}
-use Rattle.ns_types.proofs.Named.{same_name_refl, first_of_both, second_of_both}
-use Rattle.ns_types.proofs.Tests.{is_no}
+use Rattle.ns_types.proofs.Named.{names, one_name, numbers, one_number, same_name_is, same_name_refl, first_of_both, second_of_both}
+use Rattle.ns_types.proofs.Settling.{KeepsRoom, live_in, wakes_none}
+use Rattle.ns_types.proofs.TableRows.{get_put, get_other}
+use Rattle.ns_types.proofs.Tables.{get-map_rows, tied}
+use Rattle.ns_types.proofs.Tests.{is_no, same_Some}
 use Rattle.ns_laws.specs.Effects.{IsBatch, CallsForEvaluation, MakesNone}
-use Rattle.ns_laws.proofs.Effect.Evaluations.{settled_keeps, settled_number}
+use Rattle.ns_laws.proofs.Effect.Evaluations.{settled_keeps, settled_number, stamped_stays}
 use Rattle.ns_laws.proofs.Effect.Rows.{settled_rows}
 
 runs : (d : DesiredStatus) → is_run d ≡ true → d ≡ DesiredStatus.Run
@@ -79,3 +86,70 @@ makes_none w x ns t u is number rows = record {
   number = settled_number w x ns u ∙ number;
   evaluations = λ n. settled_keeps w x ns t u n is (ap (λ rows. get rows n) rows);
 }
+
+-- ---- a report that ends no live allocation
+
+-- where no room is released, the evaluations of the namespace stay as they were
+pub evaluations_rest : (w x : World) (ns : Name) (t u : Tenant) → get w.tenants ns ≡ Some t → KeepsRoom w x → u.evaluations ≡ t.evaluations →
+    (settled_rows w x ns u).evaluations ≡ t.evaluations
+evaluations_rest w x ns t u is keeps rows = same_map numbers one_number _ _ (λ n.
+    ap (λ o. get (stamp_tenant o (unblocked_in (woken w x) ns u)).evaluations n) is
+    ∙ stamped_stays n t (unblocked_in (woken w x) ns u)
+    (ap (λ keys. get (unblocked_in keys ns u).evaluations n) (wakes_none w x keeps) ∙ get-map_rows numbers one_number (woken_row [] ns) u.evaluations n
+    ∙ idle n (get u.evaluations n) ∙ ap (λ rows. get rows n) rows))
+  where
+    idle : (n : ℕ) (o : Option Evaluation) → option_map (woken_row [] ns n) o ≡ o
+    idle n None = refl
+    idle n (Some e) = refl
+
+-- one allocation of one namespace changes, and is live still if it was
+pub keeps_one : (w : World) (ns : Name) (t : Tenant) (n : ℕ) (a b : Allocation) → get w.tenants ns ≡ Some t → get t.allocations n ≡ Some a →
+    (is_live a ≡ true → is_live b ≡ true) → KeepsRoom w (put_tenant ns (record t { allocations = insert t.allocations n b }) w)
+keeps_one w ns t n a b is at lives = record { pools = refl; quotas = refl; live = λ q u m c there row live. by q u m c there row live (same_name q ns) refl }
+  where
+    t' : Tenant
+    t' = record t { allocations = insert t.allocations n b }
+
+    w' : World
+    w' = put_tenant ns t' w
+
+    Lives : Name → ℕ → Type 0
+    Lives q m = option_map_or is_live (allocation_at w' (q, m)) false ≡ true
+
+    own : (m : ℕ) (c : Allocation) → get t.allocations m ≡ Some c → is_live c ≡ true → (e : Bool) → same_number m n ≡ e →
+        (d : Allocation) × (get t'.allocations m ≡ Some d) × (is_live d ≡ true)
+    own m c row live true e = (
+      b,
+      ap (get t'.allocations) (tied one_number m n e) ∙ get_put numbers one_number t.allocations n b,
+      lives (ap is_live (same_Some a c (sym at ∙ ap (get t.allocations) (sym (tied one_number m n e)) ∙ row)) ∙ live),
+    )
+    own m c row live false e = (c, get_other numbers one_number t.allocations n b m e ∙ row, live)
+
+    by : (q : Name) (u : Tenant) (m : ℕ) (c : Allocation) → get w.tenants q ≡ Some u → get u.allocations m ≡ Some c → is_live c ≡ true →
+        (e : Bool) → same_name q ns ≡ e → option_map_or is_live (allocation_at w' (q, m)) false ≡ true
+    by q u m c there row live true e =
+        let same : q ≡ ns = same_name_is q ns e in
+        let d = own m c (ap (λ (t : Tenant). get t.allocations m) (same_Some t u (sym is ∙ ap (get w.tenants) (sym same) ∙ there)) ∙ row) live
+        (same_number m n) refl in
+        live_in t' m d.0 (get w'.tenants q) (ap (get w'.tenants) same ∙ get_put names one_name w.tenants ns t') d.1 d.2
+    by q u m c there row live false e = live_in u m c (get w'.tenants q) (get_other names one_name w.tenants ns t' q e ∙ there) row live
+
+-- a report that calls for an evaluation ends a live allocation
+pub calls_ends : (a : Allocation) (client : ClientStatus) (o : Option Job) → may_become a.client client ≡ true → CallsForEvaluation a client o →
+    (is_live a ≡ true) × (is_live (record a { client = client }) ≡ false)
+calls_ends a client o becomes c = ((λ i. is_run (c.is_to_run i) && held a.client client becomes i), ended c.has_ended)
+  where
+    held : (a b : ClientStatus) → may_become a b ≡ true → is_held a ≡ true
+    held ClientStatus.Pending b e = refl
+    held ClientStatus.Running b e = refl
+    held ClientStatus.Complete b e = not_both e refl
+    held ClientStatus.Failed b e = not_both e refl
+    held ClientStatus.Lost b e = not_both e refl
+
+    none_and : (b : Bool) → (b && false) ≡ false
+    none_and true = refl
+    none_and false = refl
+
+    ended : (client ≡ ClientStatus.Failed) ⊎ ((client ≡ ClientStatus.Complete) × (IsBatch o → ⊥)) → (is_run a.desired && is_held client) ≡ false
+    ended (inl fails) = ap (λ k. is_run a.desired && is_held k) fails ∙ none_and (is_run a.desired)
+    ended (inr completes) = ap (λ k. is_run a.desired && is_held k) completes.0 ∙ none_and (is_run a.desired)
