@@ -77,6 +77,10 @@ pub record IsEvaluated (job : Name) (IsOf : Evaluation → Type 0) (trigger : Tr
 abbrev pub KeepsOtherJobs : Name → Tenant → Tenant → Type 0
 KeepsOtherJobs id before now = (other : Name) → other ≢ id → get now.jobs other ≡ get before.jobs other
 
+-- every evaluation but this one is as it was
+abbrev pub KeepsOtherEvaluations : ℕ → Tenant → Tenant → Type 0
+KeepsOtherEvaluations n before now = (m : ℕ) → m ≢ n → get now.evaluations m ≡ get before.evaluations m
+
 -- every allocation but this one is as it was
 abbrev pub KeepsOtherAllocations : ℕ → Tenant → Tenant → Type 0
 KeepsOtherAllocations n before now = (m : ℕ) → m ≢ n → get now.allocations m ≡ get before.allocations m
@@ -114,13 +118,14 @@ pub record IsRegistered (r : Registration) (reply : Reply) (before now : Tenant)
   pub replied : reply.content ≡ Content.Registered number index job.modify_index
   pub index_shown : reply.index ≡ Some now.index
   pub evaluated : IsEvaluated r.id (IsOfDocument job.document) Trigger.JobRegister number before now
+  pub other_evaluations : KeepsOtherEvaluations number before now
   pub other_jobs : KeepsOtherJobs r.id before now
   pub allocations : now.allocations ≡ before.allocations
 
 -- Once a registration is made, the job is there with the document that was registered, and it is not stopped. A new job
 -- has version 0. A job that was there with this document, and was not stopped, is just as it was; any other one that was
 -- there has a version greater by one. A new evaluation of the job, with its type, priority and pool, is pending, and the
--- reply has its number. Other evaluations are as they were or have woken. Other jobs and all allocations are as they were.
+-- reply has its number. Other evaluations, other jobs and all allocations are as they were.
 abbrev pub RegisteredIsThere : Type 0
 RegisteredIsThere = (ns : Name) (secret : Option Name) (r : Registration) (s s' : State) (reply : Reply) →
     IsMade (Step.Ask ns secret (AskCommand.Register r)) s reply s' → HasRows ns s s' (IsRegistered r reply)
@@ -140,12 +145,13 @@ pub record IsDeregistered (id : Name) (reply : Reply) (before now : Tenant) : Ty
   pub replied : reply.content ≡ Content.Registered number index job.modify_index
   pub index_shown : reply.index ≡ Some now.index
   pub evaluated : IsEvaluated id (IsOfDocument old.document) Trigger.JobDeregister number before now
+  pub other_evaluations : KeepsOtherEvaluations number before now
   pub other_jobs : KeepsOtherJobs id before now
   pub allocations : now.allocations ≡ before.allocations
 
 -- Once a job is deregistered without purge, it is still there with its document and its version, and it is stopped. A new
--- evaluation of it, with its type, priority and pool, is pending, and the reply has its number. Other evaluations are as
--- they were or have woken. Other jobs and all allocations are as they were.
+-- evaluation of it, with its type, priority and pool, is pending, and the reply has its number. Other evaluations, other jobs
+-- and all allocations are as they were.
 abbrev pub DeregisteredIsStopped : Type 0
 DeregisteredIsStopped = (ns : Name) (secret : Option Name) (id : Name) (s s' : State) (reply : Reply) →
     IsMade (Step.Ask ns secret (AskCommand.Deregister id false)) s reply s' → HasRows ns s s' (IsDeregistered id reply)
@@ -160,12 +166,12 @@ pub record IsPurged (id : Name) (reply : Reply) (before now : Tenant) : Type 0 w
   pub replied : reply.content ≡ Content.Registered number index index
   pub index_shown : reply.index ≡ Some now.index
   pub evaluated : IsEvaluated id (IsOfDocument old.document) Trigger.JobDeregister number before now
+  pub other_evaluations : KeepsOtherEvaluations number before now
   pub other_jobs : KeepsOtherJobs id before now
   pub allocations : now.allocations ≡ before.allocations
 
 -- Once a job is deregistered with purge, it is gone. A new evaluation of it, with the type, the priority and the pool that it
--- had, is pending, and the reply has its number. Other evaluations are as they were or have woken. Other jobs and all
--- allocations are as they were.
+-- had, is pending, and the reply has its number. Other evaluations, other jobs and all allocations are as they were.
 abbrev pub PurgedIsGone : Type 0
 PurgedIsGone = (ns : Name) (secret : Option Name) (id : Name) (s s' : State) (reply : Reply) →
     IsMade (Step.Ask ns secret (AskCommand.Deregister id true)) s reply s' → HasRows ns s s' (IsPurged id reply)

@@ -23,21 +23,20 @@ ghost use Rattle.ns_laws.specs.Effects.{
 /// Once a registration is made, the job is there with the document that was registered, and it is not stopped. A new job has
 /// version 0. A job that was there with this document, and was not stopped, is just as it was; any other one that was there has
 /// a version greater by one. A new evaluation of the job, with its type, priority and pool, is pending, and the reply has its
-/// number. Other evaluations are as they were or have woken. Other jobs and all allocations are as they were.
+/// number. Other evaluations, other jobs and all allocations are as they were.
 pub fn registered_is_there()
     ensures { RegisteredIsThere }
 {}
 
 /// Once a job is deregistered without purge, it is still there with its document and its version, and it is stopped. A new
-/// evaluation of it, with its type, priority and pool, is pending, and the reply has its number. Other evaluations are as they
-/// were or have woken. Other jobs and all allocations are as they were.
+/// evaluation of it, with its type, priority and pool, is pending, and the reply has its number. Other evaluations, other jobs
+/// and all allocations are as they were.
 pub fn deregistered_is_stopped()
     ensures { DeregisteredIsStopped }
 {}
 
 /// Once a job is deregistered with purge, it is gone. A new evaluation of it, with the type, the priority and the pool that it
-/// had, is pending, and the reply has its number. Other evaluations are as they were or have woken. Other jobs and all
-/// allocations are as they were.
+/// had, is pending, and the reply has its number. Other evaluations, other jobs and all allocations are as they were.
 pub fn purged_is_gone()
     ensures { PurgedIsGone }
 {}

@@ -32,7 +32,7 @@ use Rattle.ns_audit.specs.Orderly.{IsSteady}
 use Rattle.ns_laws.specs.Effects as law
 use Rattle.ns_laws.specs.Effects.{HasRows, IsEvaluated, IsDocumentOf, IsRegistered, IsDeregistered, IsPurged, IsStopped, IsDated, evaluation_in_reply}
 use Rattle.ns_laws.proofs.Effect.Documents.{document_is}
-use Rattle.ns_laws.proofs.Effect.Evaluations.{IsMadeFor, made_of, made_for, is_evaluated}
+use Rattle.ns_laws.proofs.Effect.Evaluations.{IsMadeFor, made_of, made_for, is_evaluated, others_rest}
 use Rattle.ns_laws.proofs.Effect.Rows.{Does, does_unless, does_refused, does_found, does_if, does_of, does_lift, after_does, put_there, put_elsewhere, removed}
 use Rattle.ns_laws.proofs.Effect.Rows.{removed_elsewhere, settled_rows, settled_there, settled_jobs, settled_allocated, settled_former}
 use Rattle.ns_laws.proofs.Effect.Rows.{made_there, number_there, settled_new}
@@ -130,6 +130,7 @@ registered_is_there ns secret r s s' reply e = asked_does s ns secret (AskComman
         replied = refl;
         index_shown = shown s.world ns secret t t' x is refl refl (AskCommand.Register r);
         evaluated = evaluated s.world ns secret t t' x is refl refl (made_of r.id job.document Trigger.JobRegister);
+        other_evaluations = others_rest s.world ns t t' x is refl refl;
         other_jobs = λ other differs. ap (λ m. get m other) (jobs_now s.world ns secret t t' x is refl refl) ∙ put_elsewhere t.jobs r.id job other differs;
         allocations = allocations_now s.world ns secret t t' x is refl refl refl;
       },
@@ -181,6 +182,7 @@ deregistered_is_stopped ns secret id s s' reply e = asked_does s ns secret (AskC
             replied = refl;
             index_shown = shown s.world ns secret t t' x is refl refl (AskCommand.Deregister id false);
             evaluated = evaluated s.world ns secret t t' x is refl refl (made_of id old.document Trigger.JobDeregister);
+            other_evaluations = others_rest s.world ns t t' x is refl refl;
             other_jobs = λ other differs. ap (λ m. get m other) (jobs_now s.world ns secret t t' x is refl refl) ∙ put_elsewhere t.jobs id job other differs;
             allocations = allocations_now s.world ns secret t t' x is refl refl refl;
           },
@@ -205,6 +207,7 @@ purged_is_gone ns secret id s s' reply e = asked_does s ns secret (AskCommand.De
             replied = refl;
             index_shown = shown s.world ns secret t t' x is refl refl (AskCommand.Deregister id true);
             evaluated = evaluated s.world ns secret t t' x is refl refl (made_of id old.document Trigger.JobDeregister);
+            other_evaluations = others_rest s.world ns t t' x is refl refl;
             other_jobs = λ other differs. ap (λ m. get m other) (jobs_now s.world ns secret t t' x is refl refl) ∙ removed_elsewhere t.jobs id other differs;
             allocations = allocations_now s.world ns secret t t' x is refl refl refl;
           },

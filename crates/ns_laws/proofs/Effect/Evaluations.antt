@@ -1,5 +1,5 @@
 -- Evaluations at the end of a step: the one that is made, and the others.
-use Rattle.std.specs.Prelude.{◌≡◌, ℕ, ◌+◌, Bool, true, false, cond, Option, Some, None, option_map}
+use Rattle.std.specs.Prelude.{◌≡◌, ◌≢◌, ℕ, ◌+◌, Bool, true, false, cond, [], Option, Some, None, option_map}
 use Rattle.std.proofs.Common.{refl, sym, ap, subst, ◌∙◌}
 use Rattle.std.specs.FinMap.{get}
 use Rattle.std.specs.Option.{option_map_or}
@@ -10,14 +10,15 @@ use Rattle.ns_types.specs.declared.evaluation.Trigger.{Trigger}
 use Rattle.ns_types.specs.declared.job.Document.{Document}
 use Rattle.ns_types.specs.declared.job.Job.{Job}
 use Rattle.ns_types.specs.declared.job.JobKind.TheVariants as JobKind
-use Rattle.ns_types.specs.Settling.Making.{new_evaluation, evaluation_of, evaluation_for, with_evaluation}
+use Rattle.ns_types.specs.Settling.Making.{put_tenant, new_evaluation, evaluation_of, evaluation_for, with_evaluation, make_in}
 use Rattle.ns_types.specs.Settling.Releases.{woken}
 use Rattle.ns_types.specs.Settling.Settle.{pending, woken_row, unblocked_in, is_touched, changes_evaluation, created_at}
 use Rattle.ns_types.specs.Settling.Settle.{stamped_evaluation, stamped, stamp_tenant}
 use Rattle.ns_types.specs.State.Names.{Name, has_key}
 use Rattle.ns_types.specs.State.Rows.{World, Tenant}
 use Rattle.ns_types.proofs.Named.{numbers, one_number}
-use Rattle.ns_types.proofs.Settling.{kept_evaluation}
+use Rattle.ns_types.proofs.Queue.{queue_keeps}
+use Rattle.ns_types.proofs.Settling.{KeepsRoom, keeps_elsewhere, kept_evaluation, wakes_none}
 use Rattle.ns_types.proofs.TableRows.{apart, get_put, get_other}
 use Rattle.ns_types.proofs.Tables.{get-map_rows}
 use Rattle.ns_laws.specs.Effects.{IsOfDocument, IsOfAllocation, KeepsEvaluation, IsEvaluated}
@@ -52,7 +53,7 @@ module _ (n : ℕ) where
       by false = (e.create_index, e.modify_index, at)
 
   -- where the evaluation is the former one it stays so
-  pub stamped_stays : (o t : Tenant) → get t.evaluations n ≡ get o.evaluations n → get (stamp_tenant (Some o) t).evaluations n ≡ get o.evaluations n
+  stamped_stays : (o t : Tenant) → get t.evaluations n ≡ get o.evaluations n → get (stamp_tenant (Some o) t).evaluations n ≡ get o.evaluations n
   unfolding stamp_tenant
   stamped_stays o t same = by (is_touched o t)
     where
@@ -169,3 +170,29 @@ is_evaluated w x ns t t' e is number rows made =
       others = λ m other. settled_keeps w x ns t u m is
           (get_other numbers one_number t'.evaluations n e m (apart m n other) ∙ ap (λ rows. get rows m) rows);
     }
+
+-- ---- where no room is released, none wakes
+
+pub row_rests : (w x : World) (ns : Name) (t u : Tenant) (n : ℕ) → get w.tenants ns ≡ Some t → KeepsRoom w x →
+    get u.evaluations n ≡ get t.evaluations n → get (settled_rows w x ns u).evaluations n ≡ get t.evaluations n
+row_rests w x ns t u n is keeps same =
+    ap (λ o. get (stamp_tenant o (unblocked_in (woken w x) ns u)).evaluations n) is
+    ∙ stamped_stays n t (unblocked_in (woken w x) ns u)
+    (ap (λ keys. get (unblocked_in keys ns u).evaluations n) (wakes_none w x keeps) ∙ get-map_rows numbers one_number (woken_row [] ns) u.evaluations n
+    ∙ idle (get u.evaluations n) ∙ same)
+  where
+    idle : (o : Option Evaluation) → option_map (woken_row [] ns n) o ≡ o
+    idle None = refl
+    idle (Some e) = refl
+
+-- the rows t become t' with the same allocations, and e is made of them
+pub others_rest : (w : World) (ns : Name) (t t' : Tenant) (e : Evaluation) → get w.tenants ns ≡ Some t → t'.evaluations ≡ t.evaluations →
+    t'.allocations ≡ t.allocations → (m : ℕ) → m ≢ t'.evaluation_number + 1 →
+    get (settled_rows w (make_in ns e w t') ns (with_evaluation e t')).evaluations m ≡ get t.evaluations m
+others_rest w ns t t' e is rows allocations m other =
+    let n : ℕ = t'.evaluation_number + 1 in
+    let y : World = put_tenant ns (with_evaluation e t') w in
+    row_rests w (make_in ns e w t') ns t (with_evaluation e t') m is
+    (keeps_elsewhere w (make_in ns e w t') ns t (with_evaluation e t') (queue_keeps (λ x. x.pools) (λ x keys. refl) y (ns, n))
+    (queue_keeps (λ x. x.quotas) (λ x keys. refl) y (ns, n)) (queue_keeps (λ x. x.tenants) (λ x keys. refl) y (ns, n)) is allocations)
+    (get_other numbers one_number t'.evaluations n e m (apart m n other) ∙ ap (λ rows. get rows m) rows)

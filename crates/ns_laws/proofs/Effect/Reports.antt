@@ -1,30 +1,27 @@
 -- Which reports call for an evaluation, and what the others leave.
-use Rattle.std.specs.Prelude.{◌≡◌, ◌≢◌, ◌⊎◌, ℕ, Bool, true, false, not, ◌&&◌, [], Option, Some, None, option_map}
+use Rattle.std.specs.Prelude.{◌≡◌, ◌≢◌, ◌⊎◌, ℕ, Bool, true, false, not, ◌&&◌, Option, Some, None}
 use Rattle.std.proofs.Common.{inl, inr, refl, sym, ap, ◌∙◌}
 use Rattle.std.specs.FinMap.{get, insert, same_map}
 use Rattle.std.specs.Option.{option_map_or}
 use Rattle.ns_types.specs.declared.allocation.Allocation.{Allocation}
 use Rattle.ns_types.specs.declared.allocation.ClientStatus.{ClientStatus}
 use Rattle.ns_types.specs.declared.allocation.DesiredStatus.{DesiredStatus}
-use Rattle.ns_types.specs.declared.evaluation.Evaluation.{Evaluation}
 use Rattle.ns_types.specs.declared.job.Job.{Job}
 use Rattle.ns_types.specs.declared.job.JobKind.{JobKind}
 use Rattle.ns_types.specs.Asking.Nodes.{same_client, may_become, calls_for_one, is_of_batch}
 use Rattle.ns_types.specs.Placing.Wanted.{is_batch}
 use Rattle.ns_types.specs.Settling.Making.{put_tenant}
-use Rattle.ns_types.specs.Settling.Releases.{woken}
-use Rattle.ns_types.specs.Settling.Settle.{stamp_tenant, unblocked_in, woken_row}
 use Rattle.ns_types.specs.State.Names.{Name, same_name, same_number}
 use Rattle.ns_types.specs.State.Rows.{World, Tenant, allocation_at, is_held, is_live, is_run}
 use Rattle.ns_types.specs.Wire.Words.{client_text}
 use Rattle.ns_types.proofs.Lists.{not_both}
 use Rattle.ns_types.proofs.Named.{names, one_name, numbers, one_number, same_name_is, same_name_refl, first_of_both, second_of_both}
-use Rattle.ns_types.proofs.Settling.{KeepsRoom, live_in, wakes_none}
+use Rattle.ns_types.proofs.Settling.{KeepsRoom, live_in}
 use Rattle.ns_types.proofs.TableRows.{get_put, get_other}
-use Rattle.ns_types.proofs.Tables.{get-map_rows, tied}
+use Rattle.ns_types.proofs.Tables.{tied}
 use Rattle.ns_types.proofs.Tests.{is_no, same_Some}
 use Rattle.ns_laws.specs.Effects.{IsBatch, CallsForEvaluation, MakesNone}
-use Rattle.ns_laws.proofs.Effect.Evaluations.{settled_keeps, settled_number, stamped_stays}
+use Rattle.ns_laws.proofs.Effect.Evaluations.{row_rests, settled_keeps, settled_number}
 use Rattle.ns_laws.proofs.Effect.Rows.{settled_rows}
 
 runs : (d : DesiredStatus) → is_run d ≡ true → d ≡ DesiredStatus.Run
@@ -89,18 +86,9 @@ makes_none w x ns t u is number rows = record {
 
 -- ---- a report that ends no live allocation
 
--- where no room is released, the evaluations of the namespace stay as they were
 pub evaluations_rest : (w x : World) (ns : Name) (t u : Tenant) → get w.tenants ns ≡ Some t → KeepsRoom w x → u.evaluations ≡ t.evaluations →
     (settled_rows w x ns u).evaluations ≡ t.evaluations
-evaluations_rest w x ns t u is keeps rows = same_map numbers one_number _ _ (λ n.
-    ap (λ o. get (stamp_tenant o (unblocked_in (woken w x) ns u)).evaluations n) is
-    ∙ stamped_stays n t (unblocked_in (woken w x) ns u)
-    (ap (λ keys. get (unblocked_in keys ns u).evaluations n) (wakes_none w x keeps) ∙ get-map_rows numbers one_number (woken_row [] ns) u.evaluations n
-    ∙ idle n (get u.evaluations n) ∙ ap (λ rows. get rows n) rows))
-  where
-    idle : (n : ℕ) (o : Option Evaluation) → option_map (woken_row [] ns n) o ≡ o
-    idle n None = refl
-    idle n (Some e) = refl
+evaluations_rest w x ns t u is keeps rows = same_map numbers one_number _ _ (λ n. row_rests w x ns t u n is keeps (ap (λ rows. get rows n) rows))
 
 -- one allocation of one namespace changes, and is live still if it was
 pub keeps_one : (w : World) (ns : Name) (t : Tenant) (n : ℕ) (a b : Allocation) → get w.tenants ns ≡ Some t → get t.allocations n ≡ Some a →
