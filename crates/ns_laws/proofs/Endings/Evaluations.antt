@@ -46,7 +46,8 @@ pub record IsPendingFor (t : Tenant) (job pool : Name) (trigger : Trigger) (e : 
 
 -- where the jobs are those of t
 pub pending_for : (t : Tenant) (number : ℕ) (origin : Allocation) → get t.allocations number ≡ Some origin → is_live origin ≡ true → (job pool : Name) →
-    origin.job ≡ job → origin.pool ≡ pool → (trigger : Trigger) (u : Tenant) → u.jobs ≡ t.jobs → IsPendingFor t job pool trigger (evaluation_for u origin trigger)
+    origin.job ≡ job → origin.pool ≡ pool → (trigger : Trigger) (u : Tenant) → u.jobs ≡ t.jobs →
+    IsPendingFor t job pool trigger (evaluation_for u origin trigger)
 pending_for t number origin is_there was_live job pool of_job of_pool trigger u same = record {
   number = number;
   origin = origin;
@@ -55,7 +56,8 @@ pending_for t number origin is_there was_live job pool of_job of_pool trigger u 
   same_job = of_job;
   same_pool = of_pool;
   made = subst (λ job. IsMadeFor job (IsOfAllocation (get t.jobs job) origin) trigger (evaluation_for u origin trigger)) of_job
-      (subst (λ jobs. IsMadeFor origin.job (IsOfAllocation (get jobs origin.job) origin) trigger (evaluation_for u origin trigger)) same (made_for u origin trigger));
+      (subst (λ jobs. IsMadeFor origin.job (IsOfAllocation (get jobs origin.job) origin) trigger (evaluation_for u origin trigger)) same
+      (made_for u origin trigger));
 }
 
 module _ (ns : Name) (t : Tenant) where
@@ -214,7 +216,8 @@ down_evaluates pool node w ns t n a is at lives =
     let f = l.4 in
     let its_pool : l.0.1.pool ≡ pool = sym (same_name_is pool l.0.1.pool (first_of_both (same_name pool l.0.1.pool) _
     (second_of_both (is_live l.0.1) _ f.lives))) in
-    one_made ns t a.job pool Trigger.NodeUpdate (λ (l : Name × Allocation). l.0) (λ l t. evaluation_for t l.1 Trigger.NodeUpdate) (losses pool node w) l.0 l.1 l.2
+    one_made ns t a.job pool Trigger.NodeUpdate (λ (l : Name × Allocation). l.0) (λ l t. evaluation_for t l.1 Trigger.NodeUpdate) (losses pool node w)
+    l.0 l.1 l.2
     (pending_for t f.number l.0.1 f.there (first_of_both (is_live l.0.1) _ f.lives) a.job pool l.3 its_pool Trigger.NodeUpdate)
     (lose pool node w)
     (record {

@@ -78,8 +78,7 @@ module _ (w : World) (ns : Name) (live : List ℕ) where
         let r = has_filter (counts stopped kept.pool (node_name kept p.0.node)) p.0.evictions e.0 p.2 in
         let l = counted_on stopped kept.pool (node_name kept p.0.node) e.0 r.1 in
         subst (λ (v : Victim). Lived v.0 v.1.1) {x = (e.0.namespace, (e.0.number, l.0))}
-        (same_Some (e.0.namespace, (e.0.number, l.0)) v (sym (ap (option_map (λ a. (e.0.namespace, (e.0.number, a)))) l.1) ∙ e.2))
-        (
+        (same_Some (e.0.namespace, (e.0.number, l.0)) v (sym (ap (option_map (λ a. (e.0.namespace, (e.0.number, a)))) l.1) ∙ e.2)) (
           e.0.number,
           was_live (victim_key e.0) l.0 l.1 (first_of_both (is_live l.0) _ l.2),
           pool_of_live kept.pool (node_name kept p.0.node) l.0 l.2,
