@@ -21,7 +21,7 @@ use Rattle.ns_types.specs.declared.resources.Resources.{Resources}
 use Rattle.ns_types.specs.declared.step.Step.{Step}
 use Rattle.ns_types.specs.Asking.Admins.{new_tenant}
 use Rattle.ns_types.specs.Settling.Releases.{woken}
-use Rattle.ns_types.specs.Settling.Same.{same_job, same_evaluation, same_allocation, same_document, same_flag}
+use Rattle.ns_types.specs.Settling.Same.{same_job, same_evaluation, same_allocation, same_flag}
 use Rattle.ns_types.specs.Settling.Settle.{unblocked_in, woken_row, is_changed, changes_job, changes_evaluation}
 use Rattle.ns_types.specs.Settling.Settle.{changes_allocation, is_touched, topics_of, events_of, created_at}
 use Rattle.ns_types.specs.Settling.Settle.{stamped_evaluation, stamped_allocation, stamped, stamp_tenant, job_ids, job_topic}
@@ -33,7 +33,7 @@ use Rattle.ns_types.specs.State.Tables.{any_row}
 use Rattle.ns_types.specs.Steps.{Answer, Run, after, said, opening, opening_tenant}
 use Rattle.ns_types.specs.Validity.{IsValid}
 use Rattle.ns_types.specs.Within.{IsGoodStep}
-use Rattle.ns_types.specs.Wire.Words.{kind_text, trigger_text, status_text, desired_text, client_text}
+use Rattle.ns_types.specs.Wire.Words.{kind_text, trigger_text, status_text, desired_text}
 use Rattle.ns_types.proofs.Amounts.{true_at, same_amounts}
 use Rattle.ns_types.proofs.Alike.{same_job_refl}
 use Rattle.ns_types.proofs.Elements.{each_append, each_from_all, each_kept, each_mapped, each_true, any_map}
@@ -131,99 +131,73 @@ resources_one : (a b : Resources) → same_resources a b ≡ true → a ≡ b
 resources_one a b e = same_amounts a b (λ r. tied one_number (quantity r a) (quantity r b) (true_at (λ r. same_number (quantity r a) (quantity r b)) e r))
 
 -- the last of several tests, and those before it
-module _ (a b : Bool) (e : (a && b) ≡ true) where
-  former : a ≡ true
-  former = first_of_both a b e
-
-  latter : b ≡ true
-  latter = second_of_both a b e
+both : {a b : Bool} → (a && b) ≡ true → (a ≡ true) × (b ≡ true)
+both {a} {b} e = (first_of_both a b e, second_of_both a b e)
 
 same_job_is : (a b : Job) → same_job a b ≡ true → a ≡ b
 unfolding same_job
 same_job_is a b e =
-    let d : Bool = same_document a.document b.document in
-    let s : Bool = same_flag a.stop b.stop in
-    let v : Bool = same_number a.version b.version in
-    let c : Bool = same_number a.create_index b.create_index in
-    let m : Bool = same_number a.modify_index b.modify_index in
-    let four = former (d && s && v && c) m e in
-    let three = former (d && s && v) c four in
-    let two = former (d && s) v three in
-    let document = document_is a.document b.document (former d s two) in
-    let stop = flag_one a.stop b.stop (latter d s two) in
-    let version = tied one_number a.version b.version (latter (d && s) v three) in
-    let created = tied one_number a.create_index b.create_index (latter (d && s && v) c four) in
-    let modified = tied one_number a.modify_index b.modify_index (latter (d && s && v && c) m e) in
+    let five = both e in
+    let four = both five.0 in
+    let three = both four.0 in
+    let two = both three.0 in
+    let document = document_is a.document b.document two.0 in
+    let stop = flag_one a.stop b.stop two.1 in
+    let version = tied one_number a.version b.version three.1 in
+    let created = tied one_number a.create_index b.create_index four.1 in
+    let modified = tied one_number a.modify_index b.modify_index five.1 in
     λ i. record { document = document i; stop = stop i; version = version i; create_index = created i; modify_index = modified i }
 
 same_evaluation_was : (old : Tenant) (n : ℕ) (a b : Evaluation) → get old.evaluations n ≡ Some a → same_evaluation a b ≡ true → WasEvaluation old n b
 unfolding same_evaluation
 same_evaluation_was old n a b was e =
-    let j : Bool = same_name a.job b.job in
-    let k : Bool = same_name (kind_text a.kind) (kind_text b.kind) in
-    let p : Bool = same_number a.priority b.priority in
-    let o : Bool = same_name a.pool b.pool in
-    let t : Bool = same_name (trigger_text a.trigger) (trigger_text b.trigger) in
-    let s : Bool = same_name (status_text a.status) (status_text b.status) in
-    let r : Bool = option_eq same_number a.previous b.previous in
-    let f : Bool = option_eq same_number a.follower b.follower in
-    let q : Bool = option_eq same_name a.quota b.quota in
-    let x : Bool = same_flag a.escapes b.escapes in
-    let nine = former (j && k && p && o && t && s && r && f && q) x e in
-    let eight = former (j && k && p && o && t && s && r && f) q nine in
-    let seven = former (j && k && p && o && t && s && r) f eight in
-    let six = former (j && k && p && o && t && s) r seven in
-    let five = former (j && k && p && o && t) s six in
-    let four = former (j && k && p && o) t five in
-    let three = former (j && k && p) o four in
-    let two = former (j && k) p three in record {
+    let ten = both e in
+    let nine = both ten.0 in
+    let eight = both nine.0 in
+    let seven = both eight.0 in
+    let six = both seven.0 in
+    let five = both six.0 in
+    let four = both five.0 in
+    let three = both four.0 in
+    let two = both three.0 in record {
       before = a;
       was = was;
-      job = sym (same_name_is a.job b.job (former j k two));
-      kind = sym (kind_one a.kind b.kind (latter j k two));
-      priority = sym (tied one_number a.priority b.priority (latter (j && k) p three));
-      pool = sym (same_name_is a.pool b.pool (latter (j && k && p) o four));
-      trigger = sym (trigger_one a.trigger b.trigger (latter (j && k && p && o) t five));
-      status = sym (status_one a.status b.status (latter (j && k && p && o && t) s six));
-      previous = sym (option_one same_number (tied one_number) a.previous b.previous (latter (j && k && p && o && t && s) r seven));
-      follower = sym (option_one same_number (tied one_number) a.follower b.follower (latter (j && k && p && o && t && s && r) f eight));
-      quota = sym (option_one same_name same_name_is a.quota b.quota (latter (j && k && p && o && t && s && r && f) q nine));
-      escapes = sym (flag_one a.escapes b.escapes (latter (j && k && p && o && t && s && r && f && q) x e));
+      job = sym (same_name_is a.job b.job two.0);
+      kind = sym (kind_one a.kind b.kind two.1);
+      priority = sym (tied one_number a.priority b.priority three.1);
+      pool = sym (same_name_is a.pool b.pool four.1);
+      trigger = sym (trigger_one a.trigger b.trigger five.1);
+      status = sym (status_one a.status b.status six.1);
+      previous = sym (option_one same_number (tied one_number) a.previous b.previous seven.1);
+      follower = sym (option_one same_number (tied one_number) a.follower b.follower eight.1);
+      quota = sym (option_one same_name same_name_is a.quota b.quota nine.1);
+      escapes = sym (flag_one a.escapes b.escapes ten.1);
     }
 
 same_allocation_was : (old : Tenant) (n : ℕ) (a b : Allocation) → get old.allocations n ≡ Some a → same_allocation a b ≡ true → WasAllocation old n b
 unfolding same_allocation
 same_allocation_was old n a b was e =
-    let j : Bool = same_name a.job b.job in
-    let g : Bool = same_name a.group b.group in
-    let v : Bool = same_number a.evaluation b.evaluation in
-    let o : Bool = same_name a.pool b.pool in
-    let d : Bool = same_name a.node b.node in
-    let z : Bool = same_resources a.size b.size in
-    let p : Bool = same_number a.priority b.priority in
-    let m : Bool = same_number a.job_modify_index b.job_modify_index in
-    let w : Bool = same_name (desired_text a.desired) (desired_text b.desired) in
-    let c : Bool = same_name (client_text a.client) (client_text b.client) in
-    let nine = former (j && g && v && o && d && z && p && m && w) c e in
-    let eight = former (j && g && v && o && d && z && p && m) w nine in
-    let seven = former (j && g && v && o && d && z && p) m eight in
-    let six = former (j && g && v && o && d && z) p seven in
-    let five = former (j && g && v && o && d) z six in
-    let four = former (j && g && v && o) d five in
-    let three = former (j && g && v) o four in
-    let two = former (j && g) v three in record {
+    let ten = both e in
+    let nine = both ten.0 in
+    let eight = both nine.0 in
+    let seven = both eight.0 in
+    let six = both seven.0 in
+    let five = both six.0 in
+    let four = both five.0 in
+    let three = both four.0 in
+    let two = both three.0 in record {
       before = a;
       was = was;
-      job = sym (same_name_is a.job b.job (former j g two));
-      group = sym (same_name_is a.group b.group (latter j g two));
-      evaluation = sym (tied one_number a.evaluation b.evaluation (latter (j && g) v three));
-      pool = sym (same_name_is a.pool b.pool (latter (j && g && v) o four));
-      node = sym (same_name_is a.node b.node (latter (j && g && v && o) d five));
-      size = sym (resources_one a.size b.size (latter (j && g && v && o && d) z six));
-      priority = sym (tied one_number a.priority b.priority (latter (j && g && v && o && d && z) p seven));
-      job_modify_index = sym (tied one_number a.job_modify_index b.job_modify_index (latter (j && g && v && o && d && z && p) m eight));
-      desired = sym (desired_one a.desired b.desired (latter (j && g && v && o && d && z && p && m) w nine));
-      client = sym (client_is a.client b.client (latter (j && g && v && o && d && z && p && m && w) c e));
+      job = sym (same_name_is a.job b.job two.0);
+      group = sym (same_name_is a.group b.group two.1);
+      evaluation = sym (tied one_number a.evaluation b.evaluation three.1);
+      pool = sym (same_name_is a.pool b.pool four.1);
+      node = sym (same_name_is a.node b.node five.1);
+      size = sym (resources_one a.size b.size six.1);
+      priority = sym (tied one_number a.priority b.priority seven.1);
+      job_modify_index = sym (tied one_number a.job_modify_index b.job_modify_index eight.1);
+      desired = sym (desired_one a.desired b.desired nine.1);
+      client = sym (client_is a.client b.client ten.1);
     }
 
 -- ---- what is told
