@@ -38,7 +38,7 @@ use Rattle.ns_laws.proofs.Endings.Laws.{allocation_is_fixed, gone_with_namespace
 use Rattle.ns_laws.proofs.Service.Closing.{Turned, Passes, Leaves}
 use Rattle.ns_laws.proofs.Service.Keeping.{busy_one, ready_queues}
 use Rattle.ns_laws.proofs.Service.Lists.{evaluation_in, evaluation_is, worker_in}
-use Rattle.ns_laws.proofs.Service.Rows.{same_itself, same_then}
+use Rattle.ns_laws.proofs.Service.Rows.{same_but, same_itself, same_then}
 use Rattle.ns_laws.proofs.Service.Steps.{act_leaves}
 use Rattle.ns_laws.proofs.Wakes.Reasons.{all_behind, opened, waked, settled_ready, there_later, stamped_workers, was_stamped}
 use Rattle.ns_laws.proofs.Wakes.Reasons.{settled_rows as waked_rows}
@@ -58,20 +58,7 @@ stamped_same (Some o) t n d at = by (is_touched o t) refl
     row c = cond c (record d { create_index = created_at index (get o.evaluations n) (λ (e : Evaluation). e.create_index); modify_index = index }) d
 
     row_same : (c : Bool) → IsSameEvaluation d (row c) × ((row c).status ≡ d.status)
-    row_same true = (
-      record {
-        job = refl;
-        kind = refl;
-        priority = refl;
-        pool = refl;
-        trigger = refl;
-        previous = refl;
-        quota = refl;
-        escapes = refl;
-        infeasible = refl;
-      },
-      refl,
-    )
+    row_same true = (same_but d _ _ _ _ _, refl)
     row_same false = (same_itself d, refl)
 
     by : (b : Bool) → is_touched o t ≡ b →
@@ -116,20 +103,7 @@ module _ (w x : World) where
       by true has = let s = from (pending b) (u_at ∙ ap (λ c. Some (cond c (pending b) b)) has) in (
         s.0,
         s.1,
-        record {
-          same = same_then b (pending b) s.0 (record {
-            job = refl;
-            kind = refl;
-            priority = refl;
-            pool = refl;
-            trigger = refl;
-            previous = refl;
-            quota = refl;
-            escapes = refl;
-            infeasible = refl;
-          }) s.2;
-          status = inr (has, s.3);
-        },
+        record { same = same_then b (pending b) s.0 (same_but b Statuses.Pending _ _ _ _) s.2; status = inr (has, s.3) },
       )
       by false has = let s = from b (u_at ∙ ap (λ c. Some (cond c (pending b) b)) has) in (s.0, s.1, record { same = s.2; status = inl s.3 })
 

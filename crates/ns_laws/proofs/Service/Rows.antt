@@ -24,8 +24,10 @@ use Rattle.ns_laws.specs.Serving.{IsSameEvaluation}
 
 -- ---- one evaluation
 
-pub same_itself : (a : Evaluation) → IsSameEvaluation a a
-same_itself a = record {
+-- an evaluation is the same with another status, nacks, follower and indexes
+pub same_but : (a : Evaluation) (status : Status) (nacks : ℕ) (follower : Option ℕ) (created modified : ℕ) →
+    IsSameEvaluation a (record a { status = status; nacks = nacks; follower = follower; create_index = created; modify_index = modified })
+same_but a status nacks follower created modified = record {
   job = refl;
   kind = refl;
   priority = refl;
@@ -36,6 +38,9 @@ same_itself a = record {
   escapes = refl;
   infeasible = refl;
 }
+
+pub same_itself : (a : Evaluation) → IsSameEvaluation a a
+same_itself a = same_but a _ _ _ _ _
 
 pub same_then : (a b c : Evaluation) → IsSameEvaluation a b → IsSameEvaluation b c → IsSameEvaluation a c
 same_then a b c p q = record {
@@ -166,20 +171,8 @@ module _ (n : ℕ) (job : Name) (end : Status) (closed : HasFinished end) (Close
       by : (o : Option Evaluation) → get t.evaluations n ≡ o →
           Works t (option_map_or (λ e. record t { evaluations = insert t.evaluations n (record e { status = end }) }) o t)
       by None at = works_same t t refl refl
-      by (Some e) at = works_row n t e (record e { status = end }) at (record {
-        same = record {
-          job = refl;
-          kind = refl;
-          priority = refl;
-          pool = refl;
-          trigger = refl;
-          previous = refl;
-          quota = refl;
-          escapes = refl;
-          infeasible = refl;
-        };
-        shift = finishes may refl refl;
-      }) (λ p. not_both (ap is_pending p) (finished_not_pending end closed))
+      by (Some e) at = works_row n t e (record e { status = end }) at
+          (record { same = same_but e end _ _ _ _; shift = finishes may refl refl }) (λ p. not_both (ap is_pending p) (finished_not_pending end closed))
 
   -- the job's blocked evaluation
   blocked_one : (t : Tenant) (k : ℕ) → blocked_of t job ≡ Some k →
@@ -211,37 +204,13 @@ module _ (n : ℕ) (job : Name) (end : Status) (closed : HasFinished end) (Close
           subst (Works t) (sym (ap (λ o. option_map_or (λ e. record t {
             evaluations = insert t.evaluations k (record e { status = Statuses.Canceled });
           }) o t) b.1))
-          (works_row k t b.0 (record b.0 { status = Statuses.Canceled }) b.1 (record {
-            same = record {
-              job = refl;
-              kind = refl;
-              priority = refl;
-              pool = refl;
-              trigger = refl;
-              previous = refl;
-              quota = refl;
-              escapes = refl;
-              infeasible = refl;
-            };
-            shift = cancels may b.2 b.3 refl;
-          }) (λ p. not_both (ap is_pending p) refl))
+          (works_row k t b.0 (record b.0 { status = Statuses.Canceled }) b.1
+          (record { same = same_but b.0 Statuses.Canceled _ _ _ _; shift = cancels may b.2 b.3 refl }) (λ p. not_both (ap is_pending p) refl))
 
   pub works_nack : (t : Tenant) (e : Evaluation) (nacks : ℕ) → get t.evaluations n ≡ Some e →
       Works t (record t { evaluations = insert t.evaluations n (record e { nacks = nacks }) })
-  works_nack t e nacks at = works_row n t e (record e { nacks = nacks }) at (record {
-    same = record {
-      job = refl;
-      kind = refl;
-      priority = refl;
-      pool = refl;
-      trigger = refl;
-      previous = refl;
-      quota = refl;
-      escapes = refl;
-      infeasible = refl;
-    };
-    shift = rests refl;
-  }) (λ p. p)
+  works_nack t e nacks at = works_row n t e (record e { nacks = nacks }) at
+      (record { same = same_but e _ nacks _ _ _; shift = rests refl }) (λ p. p)
 
   -- a new evaluation of the job
   works_grow : (f : Evaluation) (t : Tenant) → f.job ≡ job → Works t (with_evaluation f t)
@@ -270,17 +239,6 @@ module _ (n : ℕ) (job : Name) (end : Status) (closed : HasFinished end) (Close
       by None at = works_grow f t of_job
       by (Some e) at =
           let row : Evaluation = record e { follower = Some (t.evaluation_number + 1) } in
-          works_then t (record t { evaluations = insert t.evaluations n row }) _ (works_row n t e row at (record {
-            same = record {
-              job = refl;
-              kind = refl;
-              priority = refl;
-              pool = refl;
-              trigger = refl;
-              previous = refl;
-              quota = refl;
-              escapes = refl;
-              infeasible = refl;
-            };
-            shift = rests refl;
-          }) (λ p. p)) (works_grow f (record t { evaluations = insert t.evaluations n row }) of_job)
+          works_then t (record t { evaluations = insert t.evaluations n row }) _
+          (works_row n t e row at (record { same = same_but e _ _ (Some (t.evaluation_number + 1)) _ _; shift = rests refl }) (λ p. p))
+          (works_grow f (record t { evaluations = insert t.evaluations n row }) of_job)
