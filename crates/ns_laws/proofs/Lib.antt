@@ -1,6 +1,7 @@
 pub mod Access
 pub mod Additions
 pub mod Choices
+pub mod CommandLemmas
 pub mod Effect
 pub mod Elements
 pub mod Endings

@@ -22,6 +22,7 @@ use Rattle.ns_types.specs.State.Names.{Name, Key, ByName, ByNumber, name_cmp}
 use Rattle.ns_types.specs.State.Rows.{State, World, Tenant, PoolRows, QuotaRows, node_at}
 use Rattle.ns_types.specs.State.Tables.{any_row}
 use Rattle.ns_types.specs.Steps.{after, act, said, concluded, is_allowed, is_past_bound, reply_of, settled}
+use Rattle.ns_types.proofs.Leads.{Leads}
 use Rattle.ns_types.proofs.Named.{names, one_name, numbers, one_number, same_name_refl, same_name_is}
 use Rattle.ns_types.proofs.Queue.{queue_keeps, queues_keep}
 use Rattle.ns_types.proofs.Settling.{kept_allocation}
@@ -63,6 +64,12 @@ pub does_of : {S : Type 0} (P Q : Content → S → Type 0) → ((content : Cont
 does_of P Q f NotEnabled h = tt
 does_of P Q f (Refused refusal) h = tt
 does_of P Q f (Done content x) h = f content x h
+
+-- what holds wherever the change is made holds with every content
+pub does_led : {S : Type 0} (P : S → Type 0) (o : Outcome S) → Leads P o → Does (λ _. P) o
+does_led P NotEnabled h = tt
+does_led P (Refused refusal) h = tt
+does_led P (Done content x) h = h
 
 pub does_lift : {A B : Type 0} (Q : Content → B → Type 0) (whole : A → B) (o : Outcome A) → Does (λ content a. Q content (whole a)) o → Does Q (lift whole o)
 does_lift Q whole NotEnabled h = tt

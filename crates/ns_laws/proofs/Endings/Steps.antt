@@ -1,5 +1,5 @@
 -- Each step, by what it may make of an allocation.
-use Rattle.std.specs.Prelude.{◌≡◌, ℕ, Bool, true, false, cond, not, List, [], ◌∷◌, Option, Some, None, Ok, Err, ◌||◌, fold, option_map}
+use Rattle.std.specs.Prelude.{◌≡◌, ℕ, Bool, true, false, cond, not, List, [], ◌∷◌, Option, Some, None, Ok, Err, fold, option_map}
 use Rattle.std.proofs.Common.{refl, sym, ap, subst, ◌∙◌}
 use Rattle.std.specs.FinMap.{get, insert, remove, get-empty, get-remove}
 use Rattle.std.specs.Option.{option_map_or}
@@ -18,31 +18,30 @@ use Rattle.ns_types.specs.declared.step.AskCommand.{AskCommand}
 use Rattle.ns_types.specs.declared.step.NodeCommand.{NodeCommand}
 use Rattle.ns_types.specs.declared.step.Report.{Report}
 use Rattle.ns_types.specs.declared.step.Step.{Step}
-use Rattle.ns_types.specs.Asking.Admins.{new_tenant, with_namespace, put_namespace, delete_namespace, put_quota, delete_quota, read_quota, put_pool_record}
-use Rattle.ns_types.specs.Asking.Admins.{delete_pool, has_live, has_open}
+use Rattle.ns_types.specs.Asking.Admins.{has_live, new_tenant, with_namespace}
 use Rattle.ns_types.specs.Asking.Asks.{asked_in, ask}
 use Rattle.ns_types.specs.Asking.Nodes.{losses, lost, lose, go_down, may_become, same_client, calls_for_one, reported, is_on, report_of, report}
 use Rattle.ns_types.specs.Asking.Nodes.{asked_in_pool, ask_pool}
-use Rattle.ns_types.specs.Asking.Policies.{with_world, with_acl, administer}
+use Rattle.ns_types.specs.Asking.Policies.{with_world, administer}
 use Rattle.ns_types.specs.Settling.Making.{put_pool, put_tenant, with_node, change_tenant, with_desired}
 use Rattle.ns_types.specs.Settling.Making.{with_client, with_evaluation, evaluation_for, make_in, make}
 use Rattle.ns_types.specs.Settling.Outcome.{Outcome, NotEnabled, Refused, Done, unless, lift}
 use Rattle.ns_types.specs.Settling.Settle.{settle}
 use Rattle.ns_types.specs.State.Names.{Name, Key, ByNumber, same_name, same_number}
-use Rattle.ns_types.specs.State.Rows.{State, World, Acl, Tenant, PoolRows, is_live, is_live_on, allocation_at}
+use Rattle.ns_types.specs.State.Rows.{State, World, Tenant, PoolRows, is_live, is_live_on, allocation_at}
 use Rattle.ns_types.specs.State.Sums.{names_quota, quota_use}
-use Rattle.ns_types.specs.State.Tables.{map_rows, any_row}
+use Rattle.ns_types.specs.State.Tables.{map_rows}
 use Rattle.ns_types.specs.Steps.{Answer, said, act, after, is_allowed, concluded, reply_of, is_past_bound}
 use Rattle.ns_types.specs.Validity.{IsSound}
 use Rattle.ns_types.proofs.Gone.{stopped_row}
-use Rattle.ns_types.proofs.Leads.{Leads, leads_of, leads_unless, leads_found, leads_if, leads_lift, leads_whole}
-use Rattle.ns_types.proofs.Lists.{right_none}
+use Rattle.ns_types.proofs.Leads.{Leads, leads_of, leads_unless, leads_found, leads_if, leads_lift}
 use Rattle.ns_types.proofs.Named.{names, one_name, numbers, one_number, same_name_is, first_of_both, second_of_both}
 use Rattle.ns_types.proofs.TableRows.{get_put, get_other}
 use Rattle.ns_types.proofs.Tables.{get-map_rows, none_of_any, tied}
 use Rattle.ns_types.proofs.Tests.{not_Some, same_Some, is_yes}
 use Rattle.ns_audit.proofs.ValidAllocations.Sound.{allocation_row}
 use Rattle.ns_laws.specs.Ending.{IsReportOf}
+use Rattle.ns_laws.proofs.CommandLemmas.{leads_administered}
 use Rattle.ns_laws.proofs.Endings.Apply.{apply_moves}
 use Rattle.ns_laws.proofs.Endings.Change.{Change, rests, asks, loses, reports, deletes, Moves, moves_same, moves_then, settled_at, settled_same, Turn}
 use Rattle.ns_laws.proofs.Endings.Rows.{row_at, moves_put, Same, same_still, same_tenants, same_then, same_put, same_make, made_in_tenants}
@@ -260,12 +259,6 @@ module _ (w : World) (secret : Option Name) (name : Name) where
       let t' : Tenant = record t { namespace = namespace } in same_put w (put_tenant name t' w) name t t' is refl refl
   put_same namespace None is = new_same namespace is
 
-  namespace_put : (namespace : Namespace) → Leads (Same w) (put_namespace name namespace w)
-  unfolding put_namespace
-  namespace_put namespace = leads_unless (Same w) _ _ _
-      (λ _. leads_unless (Same w) _ _ _ (λ _. leads_unless (Same w) _ _ _
-      (λ _. leads_unless (Same w) _ _ _ (λ _. leads_unless (Same w) _ _ _ (λ _. put_same namespace (get w.tenants name) refl)))))
-
   abbrev removal : Step
   removal = Step.Admin secret (AdminCommand.DeleteNamespace name)
 
@@ -291,12 +284,6 @@ module _ (w : World) (secret : Option Name) (name : Name) where
         by true e = subst (Change w removal key (allocation_at w key)) (sym (gone true e)) (own (same_name_is key.0 name e) (allocation_at w key) refl)
         by false e = rests (gone false e)
 
-  namespace_deleted : Leads (Moves w removal) (delete_namespace name w)
-  unfolding delete_namespace
-  namespace_deleted = leads_found (Moves w removal) (get w.tenants name) _
-      (λ t is. leads_unless (Moves w removal) _ _ _ (λ _. leads_unless (Moves w removal) _ _ _
-      (λ none. gone_moves t is (right_none (any_row (λ _ job. true) t.jobs || has_open t) (has_live t) none))))
-
 module _ (s : State) where
   abbrev pub MovesIn : Step → State → Type 0
   MovesIn step x = Moves s.world step x.world
@@ -304,39 +291,15 @@ module _ (s : State) where
   of_world : (step : Step) (c : Outcome World) → Leads (Moves s.world step) c → Leads (MovesIn step) (lift (with_world s.acl) c)
   of_world step = leads_lift (MovesIn step) (with_world s.acl) (Moves s.world step) (λ w h. h)
 
-  rested : (step : Step) → Moves s.world step s.world
-  rested step = moves_same s.world step s.world (same_still s.world)
-
-  of_acl : (step : Step) (c : Outcome Acl) → Leads (MovesIn step) (lift (with_acl s.world) c)
-  of_acl step = leads_whole (MovesIn step) (with_acl s.world) (λ acl. rested step)
-
   of_same : (step : Step) (c : Outcome World) → Leads (Same s.world) c → Leads (MovesIn step) (lift (with_world s.acl) c)
   of_same step c h = of_world step c (leads_of (Same s.world) (Moves s.world step) (moves_same s.world step) c h)
 
   admin_moves : (secret : Option Name) (command : AdminCommand) → Leads (MovesIn (Step.Admin secret command)) (administer secret command s)
-  unfolding administer put_quota delete_quota put_pool_record delete_pool
-  admin_moves secret AdminCommand.ListNamespaces = rested _
-  admin_moves secret (AdminCommand.PutNamespace name namespace) = of_same _ _ (namespace_put s.world secret name namespace)
-  admin_moves secret (AdminCommand.DeleteNamespace name) = of_world _ _ (namespace_deleted s.world secret name)
-  admin_moves secret AdminCommand.ListQuotas = rested _
-  admin_moves secret (AdminCommand.ReadQuota name) =
-      of_same _ (read_quota name s.world) (leads_found (Same s.world) (get s.world.quotas name) _ (λ q _. same_still s.world))
-  admin_moves secret (AdminCommand.PutQuota name quota) =
-      of_same _ (put_quota name quota s.world) (leads_unless (Same s.world) _ _ _ (λ _. same_still s.world))
-  admin_moves secret (AdminCommand.DeleteQuota name) =
-      of_same _ (delete_quota name s.world) (leads_found (Same s.world) (get s.world.quotas name) _
-      (λ q _. leads_unless (Same s.world) _ _ _ (λ _. same_still s.world)))
-  admin_moves secret AdminCommand.ListPools = rested _
-  admin_moves secret (AdminCommand.PutPool name pool) =
-      of_same _ (put_pool_record name pool s.world) (leads_unless (Same s.world) _ _ _ (λ _. same_still s.world))
-  admin_moves secret (AdminCommand.DeletePool name) =
-      of_same _ (delete_pool name s.world) (leads_found (Same s.world) (get s.world.pools name) _
-      (λ p _. leads_unless (Same s.world) _ _ _ (λ _. leads_unless (Same s.world) _ _ _ (λ _. same_still s.world))))
-  admin_moves secret (AdminCommand.ReadPolicy name) = of_acl _ _
-  admin_moves secret (AdminCommand.PutPolicy name policy) = of_acl _ _
-  admin_moves secret (AdminCommand.DeletePolicy name) = of_acl _ _
-  admin_moves secret (AdminCommand.CreateToken new) = of_acl _ _
-  admin_moves secret (AdminCommand.DeleteToken accessor) = of_acl _ _
+  admin_moves secret = leads_administered s (λ command. Moves s.world (Step.Admin secret command))
+      (λ command quotas pools. moves_same s.world (Step.Admin secret command) (record s.world { quotas = quotas; pools = pools }) (same_still s.world))
+      (λ name namespace. moves_same s.world (Step.Admin secret (AdminCommand.PutNamespace name namespace))
+      (put_tenant name (with_namespace namespace (get s.world.tenants name)) s.world) (put_same s.world secret name namespace (get s.world.tenants name) refl))
+      (λ name t is _ none_live. gone_moves s.world secret name t is none_live) secret
 
   -- ---- the whole step
 

@@ -15,10 +15,9 @@ use Rattle.ns_types.specs.declared.refusal.Refusal.{Refusal}
 use Rattle.ns_types.specs.declared.step.AdminCommand.{AdminCommand}
 use Rattle.ns_types.specs.declared.step.AskCommand.{AskCommand}
 use Rattle.ns_types.specs.declared.step.Step.{Step}
-use Rattle.ns_types.specs.Asking.Admins.{new_tenant, with_namespace, put_namespace, delete_namespace}
-use Rattle.ns_types.specs.Asking.Admins.{put_quota, delete_quota, read_quota, put_pool_record, delete_pool}
+use Rattle.ns_types.specs.Asking.Admins.{new_tenant, with_namespace}
 use Rattle.ns_types.specs.Asking.Asks.{ask, asked_in, document_of, registered_job, first_refusal, stopped_job, deregistered}
-use Rattle.ns_types.specs.Asking.Policies.{administer, with_acl, with_world}
+use Rattle.ns_types.specs.Asking.Policies.{administer, with_world}
 use Rattle.ns_types.specs.Settling.Making.{put_tenant, with_job, with_desired, make_in}
 use Rattle.ns_types.specs.Settling.Outcome.{Outcome, NotEnabled, Refused, Done, lift}
 use Rattle.ns_types.specs.Settling.Releases.{woken}
@@ -26,10 +25,10 @@ use Rattle.ns_types.specs.Settling.Same.{same_document}
 use Rattle.ns_types.specs.Settling.Settle.{unblocked_in}
 use Rattle.ns_types.specs.Settling.Settle.{stamp_tenant}
 use Rattle.ns_types.specs.State.Names.{Name, ByName}
-use Rattle.ns_types.specs.State.Rows.{State, World, Acl, Tenant, is_live}
+use Rattle.ns_types.specs.State.Rows.{State, World, Tenant, is_live}
 use Rattle.ns_types.specs.State.Sums.{names_quota}
 use Rattle.ns_types.specs.Steps.{Answer, after, act, said, settled}
-use Rattle.ns_types.proofs.Leads.{Leads, leads_of, leads_unless, leads_refused, leads_found, leads_if, leads_lift, leads_whole}
+use Rattle.ns_types.proofs.Leads.{Leads, leads_of, leads_unless, leads_refused, leads_found, leads_if, leads_lift}
 use Rattle.ns_types.proofs.Named.{names, one_name}
 use Rattle.ns_types.proofs.TableRows.{row_of_insert, row_of_remove}
 use Rattle.ns_types.proofs.Tests.{not_Some, same_Some}
@@ -38,6 +37,7 @@ use Rattle.ns_audit.proofs.Alone.Sides.{change, act_is}
 use Rattle.ns_audit.proofs.ValidAllocations.Going.{Onward, onward_same, onward_make_in}
 use Rattle.ns_laws.specs.Indexes as law
 use Rattle.ns_laws.specs.Indexes.{Spans}
+use Rattle.ns_laws.proofs.CommandLemmas.{leads_administered}
 use Rattle.ns_laws.proofs.Effect.Rows.{settled_rows, settled_tenant}
 use Rattle.ns_laws.proofs.Index.OwnChanges.{is_ask, change_fixed, ask_fixed}
 use Rattle.ns_audit.proofs.StepLemmas.{made, refusal_leaves_all}
@@ -233,40 +233,10 @@ module _ (s : State) where
   of_world : (c : Outcome World) → Leads (Begins s.world) c → Leads BeginsIn (lift (with_world s.acl) c)
   of_world = leads_lift BeginsIn (with_world s.acl) (Begins s.world) (λ w h. h)
 
-  still : Begins s.world s.world
-  still = begins_same s.world s.world refl
-
-  of_acl : (c : Outcome Acl) → Leads BeginsIn (lift (with_acl s.world) c)
-  of_acl = leads_whole BeginsIn (with_acl s.world) (λ acl. still)
-
   administer_begins : (secret : Option Name) (command : AdminCommand) → Leads BeginsIn (administer secret command s)
-  unfolding administer put_namespace delete_namespace put_quota delete_quota put_pool_record delete_pool
-  administer_begins secret AdminCommand.ListNamespaces = still
-  administer_begins secret (AdminCommand.PutNamespace name namespace) = of_world (put_namespace name namespace s.world)
-      (leads_unless (Begins s.world) _ _ _ (λ _. leads_unless (Begins s.world) _ _ _ (λ _. leads_unless (Begins s.world) _ _ _ (λ _.
-      leads_unless (Begins s.world) _ _ _ (λ _. leads_unless (Begins s.world) _ _ _ (λ _. put_begins s.world name namespace))))))
-  administer_begins secret (AdminCommand.DeleteNamespace name) = of_world (delete_namespace name s.world)
-      (leads_found (Begins s.world) (get s.world.tenants name) _ (λ t _. leads_unless (Begins s.world) _ _ _ (λ _.
-      leads_unless (Begins s.world) _ _ _ (λ _. delete_begins s.world name))))
-  administer_begins secret AdminCommand.ListQuotas = still
-  administer_begins secret (AdminCommand.ReadQuota name) =
-      of_world (read_quota name s.world) (leads_found (Begins s.world) (get s.world.quotas name) _ (λ q _. still))
-  administer_begins secret (AdminCommand.PutQuota name quota) =
-      of_world (put_quota name quota s.world) (leads_unless (Begins s.world) _ _ _ (λ _. still))
-  administer_begins secret (AdminCommand.DeleteQuota name) =
-      of_world (delete_quota name s.world) (leads_found (Begins s.world) (get s.world.quotas name) _
-      (λ q _. leads_unless (Begins s.world) _ _ _ (λ _. still)))
-  administer_begins secret AdminCommand.ListPools = still
-  administer_begins secret (AdminCommand.PutPool name pool) =
-      of_world (put_pool_record name pool s.world) (leads_unless (Begins s.world) _ _ _ (λ _. still))
-  administer_begins secret (AdminCommand.DeletePool name) =
-      of_world (delete_pool name s.world) (leads_found (Begins s.world) (get s.world.pools name) _
-      (λ p _. leads_unless (Begins s.world) _ _ _ (λ _. leads_unless (Begins s.world) _ _ _ (λ _. still))))
-  administer_begins secret (AdminCommand.ReadPolicy name) = of_acl _
-  administer_begins secret (AdminCommand.PutPolicy name policy) = of_acl _
-  administer_begins secret (AdminCommand.DeletePolicy name) = of_acl _
-  administer_begins secret (AdminCommand.CreateToken new) = of_acl _
-  administer_begins secret (AdminCommand.DeleteToken accessor) = of_acl _
+  administer_begins = leads_administered s (λ _. Begins s.world)
+      (λ _ quotas pools. begins_same s.world (record s.world { quotas = quotas; pools = pools }) refl)
+      (put_begins s.world) (λ name _ _ _ _. delete_begins s.world name)
 
   by_change : (step : Step) → act step s ≡ lift (with_world s.acl) (change step s.world) → is_ask step ≡ false → Leads BeginsIn (act step s)
   by_change step is other = subst (Leads BeginsIn) (sym is) (of_world (change step s.world) (change_begins step s.world other))

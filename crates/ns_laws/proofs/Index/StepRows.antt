@@ -13,15 +13,14 @@ use Rattle.ns_types.specs.declared.snapshot.Snapshot.{Snapshot}
 use Rattle.ns_types.specs.declared.step.AdminCommand.{AdminCommand}
 use Rattle.ns_types.specs.declared.step.Step.{Step}
 use Rattle.ns_types.specs.declared.worker.Phase.TheVariants as Phase
-use Rattle.ns_types.specs.Asking.Admins.{new_tenant, with_namespace, put_namespace, delete_namespace}
-use Rattle.ns_types.specs.Asking.Admins.{put_quota, delete_quota, read_quota, put_pool_record, delete_pool}
-use Rattle.ns_types.specs.Asking.Policies.{administer, with_acl, with_world}
+use Rattle.ns_types.specs.Asking.Admins.{new_tenant, with_namespace}
+use Rattle.ns_types.specs.Asking.Policies.{administer, with_world}
 use Rattle.ns_types.specs.Placing.Plan.{plan}
 use Rattle.ns_types.specs.Settling.Making.{put_tenant, with_status, with_evaluation}
 use Rattle.ns_types.specs.Settling.Outcome.{Outcome, NotEnabled, Done, lift}
 use Rattle.ns_types.specs.Settling.Releases.{missed}
 use Rattle.ns_types.specs.State.Names.{ByNumber, Key, Name, same_number}
-use Rattle.ns_types.specs.State.Rows.{State, World, Acl, Tenant}
+use Rattle.ns_types.specs.State.Rows.{State, World, Tenant}
 use Rattle.ns_types.specs.Steps.{Answer, act, after, said}
 use Rattle.ns_types.specs.Validity.{IsSound}
 use Rattle.ns_types.specs.Working.Commit.{Applied, applied, applied_worker, apply, apply_for, commit}
@@ -32,7 +31,7 @@ use Rattle.ns_types.specs.Working.Work.{with_snapshot, snap_for, snap, may_submi
 use Rattle.ns_types.specs.Working.Work.{given_up, given_back, nack_for, nack, end_of, may_finish, needs_follower, follower_of, blocked_of, cancel_blocked}
 use Rattle.ns_types.specs.Working.Work.{without_blocked, ended, with_follower, followed, finished, finish_for, finish}
 use Rattle.ns_types.specs.Working.Worker.{Worker}
-use Rattle.ns_types.proofs.Leads.{Leads, leads_of, leads_unless, leads_found, leads_there, leads_if, leads_lift, leads_whole, leads_at_work, leads_keeping}
+use Rattle.ns_types.proofs.Leads.{Leads, leads_of, leads_there, leads_if, leads_lift, leads_at_work, leads_keeping}
 use Rattle.ns_types.proofs.Named.{names, one_name, numbers, one_number}
 use Rattle.ns_types.proofs.TableRows.{get_put, get_other, row_of_insert, row_of_remove}
 use Rattle.ns_types.proofs.Tables.{tied}
@@ -42,6 +41,7 @@ use Rattle.ns_audit.proofs.StepLemmas.{made, refusal_leaves_all}
 use Rattle.ns_audit.proofs.ValidAllocations.Work.{unlisted_tenants}
 use Rattle.ns_audit.proofs.ValidWorkers.Busy.{IsNumbered}
 use Rattle.ns_audit.proofs.ValidWorkers.Quiet.{Quiet, quiet_carries}
+use Rattle.ns_laws.proofs.CommandLemmas.{leads_administered}
 use Rattle.ns_laws.proofs.Effect.Rows.{settled_rows, settled_tenant}
 use Rattle.ns_laws.proofs.Service.Closing.{promote_tenants}
 use Rattle.ns_laws.proofs.Service.Lists.{queued_of}
@@ -411,43 +411,10 @@ module _ (s : State) where
   abbrev pub LeavesIn : State → Type 0
   LeavesIn x = Leaves s.world x.world
 
-  of_admin : (c : Outcome World) → Leads (Leaves s.world) c → Leads LeavesIn (lift (with_world s.acl) c)
-  of_admin = leads_lift LeavesIn (with_world s.acl) (Leaves s.world) (λ w h. h)
-
-  still : Leaves s.world s.world
-  still = leaves_same s.world s.world refl
-
-  of_acl : (c : Outcome Acl) → Leads LeavesIn (lift (with_acl s.world) c)
-  of_acl = leads_whole LeavesIn (with_acl s.world) (λ acl. still)
-
   pub admin_leaves : (secret : Option Name) (command : AdminCommand) → Leads LeavesIn (administer secret command s)
-  unfolding administer put_namespace delete_namespace put_quota delete_quota put_pool_record delete_pool
-  admin_leaves secret AdminCommand.ListNamespaces = still
-  admin_leaves secret (AdminCommand.PutNamespace name namespace) = of_admin (put_namespace name namespace s.world)
-      (leads_unless (Leaves s.world) _ _ _ (λ _. leads_unless (Leaves s.world) _ _ _ (λ _. leads_unless (Leaves s.world) _ _ _ (λ _.
-      leads_unless (Leaves s.world) _ _ _ (λ _. leads_unless (Leaves s.world) _ _ _ (λ _. put_leaves s.world name namespace))))))
-  admin_leaves secret (AdminCommand.DeleteNamespace name) = of_admin (delete_namespace name s.world)
-      (leads_found (Leaves s.world) (get s.world.tenants name) _ (λ t _. leads_unless (Leaves s.world) _ _ _ (λ _.
-      leads_unless (Leaves s.world) _ _ _ (λ _. delete_leaves s.world name))))
-  admin_leaves secret AdminCommand.ListQuotas = still
-  admin_leaves secret (AdminCommand.ReadQuota name) =
-      of_admin (read_quota name s.world) (leads_found (Leaves s.world) (get s.world.quotas name) _ (λ q _. still))
-  admin_leaves secret (AdminCommand.PutQuota name quota) =
-      of_admin (put_quota name quota s.world) (leads_unless (Leaves s.world) _ _ _ (λ _. still))
-  admin_leaves secret (AdminCommand.DeleteQuota name) =
-      of_admin (delete_quota name s.world) (leads_found (Leaves s.world) (get s.world.quotas name) _
-      (λ q _. leads_unless (Leaves s.world) _ _ _ (λ _. still)))
-  admin_leaves secret AdminCommand.ListPools = still
-  admin_leaves secret (AdminCommand.PutPool name pool) =
-      of_admin (put_pool_record name pool s.world) (leads_unless (Leaves s.world) _ _ _ (λ _. still))
-  admin_leaves secret (AdminCommand.DeletePool name) =
-      of_admin (delete_pool name s.world) (leads_found (Leaves s.world) (get s.world.pools name) _
-      (λ p _. leads_unless (Leaves s.world) _ _ _ (λ _. leads_unless (Leaves s.world) _ _ _ (λ _. still))))
-  admin_leaves secret (AdminCommand.ReadPolicy name) = of_acl _
-  admin_leaves secret (AdminCommand.PutPolicy name policy) = of_acl _
-  admin_leaves secret (AdminCommand.DeletePolicy name) = of_acl _
-  admin_leaves secret (AdminCommand.CreateToken new) = of_acl _
-  admin_leaves secret (AdminCommand.DeleteToken accessor) = of_acl _
+  admin_leaves = leads_administered s (λ _. Leaves s.world)
+      (λ _ quotas pools. leaves_same s.world (record s.world { quotas = quotas; pools = pools }) refl)
+      (put_leaves s.world) (λ name _ _ _ _. delete_leaves s.world name)
 
 walks_left : (w x : World) → Leaves w x → Walks w x
 walks_left w x h ns u at = by (h ns u at)

@@ -8,24 +8,22 @@ use Rattle.ns_types.specs.declared.evaluation.Evaluation.{Evaluation}
 use Rattle.ns_types.specs.declared.records.Namespace.{Namespace}
 use Rattle.ns_types.specs.declared.step.AdminCommand.{AdminCommand}
 use Rattle.ns_types.specs.declared.step.Step.{Step}
-use Rattle.ns_types.specs.Asking.Admins.{new_tenant, with_namespace, put_namespace, delete_namespace, put_quota, delete_quota, read_quota, put_pool_record}
-use Rattle.ns_types.specs.Asking.Admins.{delete_pool, has_live, has_open}
-use Rattle.ns_types.specs.Asking.Policies.{administer, with_acl, with_world}
+use Rattle.ns_types.specs.Asking.Admins.{has_open, new_tenant, with_namespace}
+use Rattle.ns_types.specs.Asking.Policies.{administer, with_world}
 use Rattle.ns_types.specs.Settling.Making.{put_tenant}
 use Rattle.ns_types.specs.Settling.Outcome.{Outcome, lift}
 use Rattle.ns_types.specs.State.Names.{Key, Name, same_name}
-use Rattle.ns_types.specs.State.Rows.{State, World, Acl, Tenant, evaluation_at, is_open}
-use Rattle.ns_types.specs.State.Tables.{any_row}
+use Rattle.ns_types.specs.State.Rows.{State, World, Tenant, evaluation_at, is_open}
 use Rattle.ns_types.specs.Steps.{act}
 use Rattle.ns_types.specs.Validity.{IsSound}
-use Rattle.ns_types.proofs.Leads.{Leads, leads_of, leads_unless, leads_found, leads_lift, leads_whole}
-use Rattle.ns_types.proofs.Lists.{left_none, right_none}
+use Rattle.ns_types.proofs.Leads.{Leads, leads_of, leads_lift}
 use Rattle.ns_types.proofs.Named.{names, one_name, one_number, same_name_is}
 use Rattle.ns_types.proofs.TableRows.{row_of_insert, get_other, row_of_remove}
 use Rattle.ns_types.proofs.Tables.{none_of_any}
 use Rattle.ns_types.proofs.Tests.{not_Some}
 use Rattle.ns_audit.proofs.Carries.{ask_carries, ask_pool_carries}
 use Rattle.ns_laws.specs.Serving.{IsUnderWay, is_ready, is_with_worker, HasOneUnderWay, ForgetsNone}
+use Rattle.ns_laws.proofs.CommandLemmas.{leads_administered}
 use Rattle.ns_laws.proofs.Service.Closing.{Passes, Leaves, leaves_keeps, finish_leaves_all, nack_leaves_all}
 use Rattle.ns_laws.proofs.Service.Keeping.{Tending, tends_put, tends_carries, still_none}
 use Rattle.ns_laws.proofs.Service.Lists.{evaluation_in, evaluation_is, row_of_tenant, worker_in, queued_of}
@@ -35,12 +33,6 @@ use Rattle.ns_laws.proofs.Service.Worlds.{Keeps, Keeping, keeps_tends, keeps_tab
 -- ---- administrators
 
 module _ (w : World) (sound : IsSound w) (secret : Option Name) where
-  abbrev Admins : AdminCommand → Outcome World → Type 0
-  Admins command = Leads (Leaves w (Step.Admin secret command))
-
-  same : (command : AdminCommand) (x : World) → x.tenants ≡ w.tenants → x.ready ≡ w.ready → Leaves w (Step.Admin secret command) x
-  same command x tenants ready = leaves_keeps w (Step.Admin secret command) x (keeps_tables w x tenants ready)
-
   module _ (name : Name) where
     -- a new namespace has no evaluation
     module _ (namespace : Namespace) (none : get w.tenants name ≡ None) where
@@ -84,14 +76,10 @@ module _ (w : World) (sound : IsSound w) (secret : Option Name) where
         };
       }
 
-    put_leaves : (namespace : Namespace) → Admins (AdminCommand.PutNamespace name namespace) (put_namespace name namespace w)
-    unfolding put_namespace
-    put_leaves namespace = leads_unless P _ _ _ (λ _. leads_unless P _ _ _ (λ _. leads_unless P _ _ _ (λ _.
-        leads_unless P _ _ _ (λ _. leads_unless P _ _ _ (λ _. leaves_keeps w _ _ (by (get w.tenants name) refl))))))
+    put_leaves : (namespace : Namespace) →
+        Leaves w (Step.Admin secret (AdminCommand.PutNamespace name namespace)) (put_tenant name (with_namespace namespace (get w.tenants name)) w)
+    put_leaves namespace = leaves_keeps w _ _ (by (get w.tenants name) refl)
       where
-        P : World → Type 0
-        P = Leaves w (Step.Admin secret (AdminCommand.PutNamespace name namespace))
-
         by : (o : Option Tenant) → get w.tenants name ≡ o → Keeps w (put_tenant name (with_namespace namespace o) w)
         by None is = added_keeps namespace is
         by (Some t) is = keeps_tends w _ (queued_of w sound)
@@ -147,15 +135,6 @@ module _ (w : World) (sound : IsSound w) (secret : Option Name) where
                 under_way = under e o.number o.under_way;
               }
 
-    delete_leaves : Admins (AdminCommand.DeleteNamespace name) (delete_namespace name w)
-    unfolding delete_namespace
-    delete_leaves = leads_found P (get w.tenants name) _
-        (λ t is. leads_unless P _ _ _ (λ _. leads_unless P _ _ _
-        (λ idle. gone_leaves t is (right_none (any_row (λ _ job. true) t.jobs) _ (left_none _ (has_live t) idle)))))
-      where
-        P : World → Type 0
-        P = Leaves w (Step.Admin secret (AdminCommand.DeleteNamespace name))
-
 module _ (s : State) (sound : IsSound s.world) where
   abbrev LeavesIn : Step → State → Type 0
   LeavesIn step x = Leaves s.world step x.world
@@ -163,45 +142,16 @@ module _ (s : State) (sound : IsSound s.world) where
   of_world : (step : Step) (c : Outcome World) → Leads (Leaves s.world step) c → Leads (LeavesIn step) (lift (with_world s.acl) c)
   of_world step = leads_lift (LeavesIn step) (with_world s.acl) (Leaves s.world step) (λ w h. h)
 
-  rested : (step : Step) → Leaves s.world step s.world
-  rested step = leaves_keeps s.world step s.world (keeps_tables s.world s.world refl refl)
-
-  of_acl : (step : Step) (c : Outcome Acl) → Leads (LeavesIn step) (lift (with_acl s.world) c)
-  of_acl step = leads_whole (LeavesIn step) (with_acl s.world) (λ acl. rested step)
-
   of_keeping : (step : Step) (c : Outcome World) → Keeping s.world c → Leads (LeavesIn step) (lift (with_world s.acl) c)
   of_keeping step c h = of_world step c (leads_of (Keeps s.world) (Leaves s.world step) (leaves_keeps s.world step) c h)
 
   of_tending : (step : Step) (c : Outcome World) → Leads (Tending s.world) c → Leads (LeavesIn step) (lift (with_world s.acl) c)
   of_tending step c h = of_keeping step c (leads_of (Tending s.world) (Keeps s.world) (λ x. keeps_tends s.world x (queued_of s.world sound)) c h)
 
-  still : Keeps s.world s.world
-  still = keeps_tables s.world s.world refl refl
-
   admin_leaves : (secret : Option Name) (command : AdminCommand) → Leads (LeavesIn (Step.Admin secret command)) (administer secret command s)
-  unfolding administer put_quota delete_quota put_pool_record delete_pool
-  admin_leaves secret AdminCommand.ListNamespaces = rested _
-  admin_leaves secret (AdminCommand.PutNamespace name namespace) = of_world _ _ (put_leaves s.world sound secret name namespace)
-  admin_leaves secret (AdminCommand.DeleteNamespace name) = of_world _ _ (delete_leaves s.world sound secret name)
-  admin_leaves secret AdminCommand.ListQuotas = rested _
-  admin_leaves secret (AdminCommand.ReadQuota name) =
-      of_keeping _ (read_quota name s.world) (leads_found (Keeps s.world) (get s.world.quotas name) _ (λ q _. still))
-  admin_leaves secret (AdminCommand.PutQuota name quota) =
-      of_keeping _ (put_quota name quota s.world) (leads_unless (Keeps s.world) _ _ _ (λ _. keeps_tables s.world _ refl refl))
-  admin_leaves secret (AdminCommand.DeleteQuota name) =
-      of_keeping _ (delete_quota name s.world) (leads_found (Keeps s.world) (get s.world.quotas name) _
-      (λ q _. leads_unless (Keeps s.world) _ _ _ (λ _. keeps_tables s.world _ refl refl)))
-  admin_leaves secret AdminCommand.ListPools = rested _
-  admin_leaves secret (AdminCommand.PutPool name pool) =
-      of_keeping _ (put_pool_record name pool s.world) (leads_unless (Keeps s.world) _ _ _ (λ _. keeps_tables s.world _ refl refl))
-  admin_leaves secret (AdminCommand.DeletePool name) =
-      of_keeping _ (delete_pool name s.world) (leads_found (Keeps s.world) (get s.world.pools name) _
-      (λ p _. leads_unless (Keeps s.world) _ _ _ (λ _. leads_unless (Keeps s.world) _ _ _ (λ _. keeps_tables s.world _ refl refl))))
-  admin_leaves secret (AdminCommand.ReadPolicy name) = of_acl _ _
-  admin_leaves secret (AdminCommand.PutPolicy name policy) = of_acl _ _
-  admin_leaves secret (AdminCommand.DeletePolicy name) = of_acl _ _
-  admin_leaves secret (AdminCommand.CreateToken new) = of_acl _ _
-  admin_leaves secret (AdminCommand.DeleteToken accessor) = of_acl _ _
+  admin_leaves secret = leads_administered s (λ command. Leaves s.world (Step.Admin secret command))
+      (λ command quotas pools. leaves_keeps s.world (Step.Admin secret command) _ (keeps_tables s.world _ refl refl))
+      (put_leaves s.world sound secret) (λ name t is shut _. gone_leaves s.world sound secret name t is shut) secret
 
   pub act_leaves : (step : Step) → Leads (LeavesIn step) (act step s)
   unfolding act

@@ -22,16 +22,15 @@ use Rattle.ns_types.specs.declared.step.AskCommand.{AskCommand}
 use Rattle.ns_types.specs.declared.step.NodeCommand.{NodeCommand}
 use Rattle.ns_types.specs.declared.step.Report.{Report}
 use Rattle.ns_types.specs.declared.step.Step.{Step}
-use Rattle.ns_types.specs.Asking.Admins.{delete_namespace, delete_pool, delete_quota, put_namespace, put_pool_record, put_quota, read_quota}
 use Rattle.ns_types.specs.Asking.Asks.{ask, asked_in, first_refusal}
 use Rattle.ns_types.specs.Asking.Nodes.{ask_pool, asked_in_pool, calls_for_one, go_down, lose, losses, reported, same_client}
-use Rattle.ns_types.specs.Asking.Policies.{administer, create_token, delete_policy, delete_token, put_policy, read_policy, with_acl, with_world}
+use Rattle.ns_types.specs.Asking.Policies.{administer, with_world}
 use Rattle.ns_types.specs.Placing.Plan.{plan}
 use Rattle.ns_types.specs.Settling.Making.{change_tenant, evaluation_for, make, make_in, put_pool, put_tenant, with_client}
 use Rattle.ns_types.specs.Settling.Making.{with_desired, with_evaluation, with_node}
-use Rattle.ns_types.specs.Settling.Outcome.{Outcome, NotEnabled, Refused, Done, lift}
+use Rattle.ns_types.specs.Settling.Outcome.{Outcome, NotEnabled, lift}
 use Rattle.ns_types.specs.State.Names.{Key, Name}
-use Rattle.ns_types.specs.State.Rows.{Acl, State, World, Tenant, PoolRows, allocation_at, is_live, is_ready, node_at}
+use Rattle.ns_types.specs.State.Rows.{State, World, Tenant, PoolRows, allocation_at, is_live, is_ready, node_at}
 use Rattle.ns_types.specs.State.Sums.{names_quota}
 use Rattle.ns_types.specs.Working.Commit.{Commit, Victim, accepts_at, apply, apply_for, applied_worker, begun, commit, committed_placements}
 use Rattle.ns_types.specs.Working.Commit.{counted, decide, done, done_with, evict, evict_all, evicted_rows, live_stops, new_allocation, nodes_in}
@@ -45,7 +44,8 @@ use Rattle.ns_types.specs.Working.Worker.{Worker}
 use Rattle.ns_types.specs.Steps.{act}
 use Rattle.ns_types.specs.State.Lists.{first_each}
 use Rattle.ns_types.proofs.Queue.{queue_keeps}
-use Rattle.ns_laws.proofs.Effect.Rows.{Does, does_found, does_if, does_lift, does_refused, does_unless}
+use Rattle.ns_laws.proofs.CommandLemmas.{leads_administered}
+use Rattle.ns_laws.proofs.Effect.Rows.{Does, does_found, does_if, does_led, does_lift, does_refused, does_unless}
 
 -- ---- changes of worlds
 
@@ -261,38 +261,13 @@ module _ (s : State) where
   abbrev StateKeeps : Content → State → Type 0
   StateKeeps content y = y.world.blocked ≡ s.world.blocked
 
-  abbrev AclKeeps : Content → Acl → Type 0
-  AclKeeps content acl = s.world.blocked ≡ s.world.blocked
-
   in_world : (o : Outcome World) → Does (Keeps s.world) o → Does StateKeeps (lift (with_world s.acl) o)
   in_world o h = does_lift StateKeeps (with_world s.acl) o h
 
-  in_acl : (o : Outcome Acl) → Does StateKeeps (lift (with_acl s.world) o)
-  in_acl NotEnabled = tt
-  in_acl (Refused refusal) = tt
-  in_acl (Done content acl) = refl
-
   admin_keeps : (secret : Option Name) (command : AdminCommand) → Does StateKeeps (administer secret command s)
-  unfolding administer put_namespace delete_namespace put_quota delete_quota put_pool_record delete_pool
-  admin_keeps secret AdminCommand.ListNamespaces = refl
-  admin_keeps secret (AdminCommand.PutNamespace name namespace) = in_world (put_namespace name namespace s.world)
-      (does_unless _ _ _ _ (λ _. does_unless _ _ _ _ (λ _. does_unless _ _ _ _ (λ _. does_unless _ _ _ _ (λ _. does_unless _ _ _ _ (λ _. refl))))))
-  admin_keeps secret (AdminCommand.DeleteNamespace name) = in_world (delete_namespace name s.world)
-      (does_found _ (get s.world.tenants name) _ (λ t is. does_unless _ _ _ _ (λ _. does_unless _ _ _ _ (λ _. refl))))
-  admin_keeps secret AdminCommand.ListQuotas = refl
-  admin_keeps secret (AdminCommand.ReadQuota name) = in_world (read_quota name s.world) (does_found (Keeps s.world) (get s.world.quotas name) _ (λ q is. refl))
-  admin_keeps secret (AdminCommand.PutQuota name quota) = in_world (put_quota name quota s.world) (does_unless _ _ _ _ (λ _. refl))
-  admin_keeps secret (AdminCommand.DeleteQuota name) = in_world (delete_quota name s.world)
-      (does_found _ (get s.world.quotas name) _ (λ q is. does_unless _ _ _ _ (λ _. refl)))
-  admin_keeps secret AdminCommand.ListPools = refl
-  admin_keeps secret (AdminCommand.PutPool name pool) = in_world (put_pool_record name pool s.world) (does_unless _ _ _ _ (λ _. refl))
-  admin_keeps secret (AdminCommand.DeletePool name) = in_world (delete_pool name s.world)
-      (does_found _ (get s.world.pools name) _ (λ p is. does_unless _ _ _ _ (λ _. does_unless _ _ _ _ (λ _. refl))))
-  admin_keeps secret (AdminCommand.ReadPolicy name) = in_acl (read_policy name s.acl)
-  admin_keeps secret (AdminCommand.PutPolicy name policy) = in_acl (put_policy name policy s.acl)
-  admin_keeps secret (AdminCommand.DeletePolicy name) = in_acl (delete_policy name s.acl)
-  admin_keeps secret (AdminCommand.CreateToken new) = in_acl (create_token new s.acl)
-  admin_keeps secret (AdminCommand.DeleteToken accessor) = in_acl (delete_token accessor s.acl)
+  admin_keeps secret command = does_led (λ (y : State). y.world.blocked ≡ s.world.blocked) (administer secret command s)
+      (leads_administered s (λ _ x. x.blocked ≡ s.world.blocked) (λ _ quotas pools. refl) (λ name namespace. refl) (λ name t is shut none_live. refl)
+      secret command)
 
   pub own_blocked : (step : Step) → ((worker : ℕ) (ns : Name) → step ≢ Step.Finish worker ns) → Does StateKeeps (act step s)
   unfolding act ask ask_pool
