@@ -1,18 +1,28 @@
--- What commands of administrators lead to.
-use Rattle.std.specs.Prelude.{◌≡◌, true, false, Option, Some}
+-- What commands of administrators, and requests in a namespace, lead to.
+use Rattle.std.specs.Prelude.{◌≡◌, ℕ, ◌+◌, Bool, true, false, not, Option, Some}
 use Rattle.std.specs.FinMap.{get, remove}
+use Rattle.ns_types.specs.declared.allocation.Allocation.{Allocation}
+use Rattle.ns_types.specs.declared.allocation.DesiredStatus.{DesiredStatus}
+use Rattle.ns_types.specs.declared.evaluation.Trigger.TheVariants as Trigger
+use Rattle.ns_types.specs.declared.job.Job.{Job}
+use Rattle.ns_types.specs.declared.job.Registration.{Registration}
 use Rattle.ns_types.specs.declared.records.Namespace.{Namespace}
+use Rattle.ns_types.specs.declared.refusal.Refusal.TheVariants as Refusal
 use Rattle.ns_types.specs.declared.step.AdminCommand.{AdminCommand}
+use Rattle.ns_types.specs.declared.step.AskCommand.{AskCommand}
 use Rattle.ns_types.specs.Asking.Admins.{has_live, has_open, with_namespace, put_namespace, delete_namespace}
 use Rattle.ns_types.specs.Asking.Admins.{put_quota, delete_quota, read_quota, put_pool_record, delete_pool}
+use Rattle.ns_types.specs.Asking.Asks.{asked_in, deregistered, document_of, first_refusal, registered_job}
 use Rattle.ns_types.specs.Asking.Policies.{administer, with_acl, with_world}
-use Rattle.ns_types.specs.Settling.Making.{put_tenant}
+use Rattle.ns_types.specs.Settling.Making.{evaluation_for, evaluation_of, make_in, put_tenant, with_desired, with_job}
 use Rattle.ns_types.specs.Settling.Outcome.{Outcome, lift}
 use Rattle.ns_types.specs.State.Names.{Name, ByName}
-use Rattle.ns_types.specs.State.Rows.{State, World, Acl, Tenant, PoolRows, QuotaRows}
+use Rattle.ns_types.specs.State.Rows.{State, World, Acl, Tenant, PoolRows, QuotaRows, is_live}
+use Rattle.ns_types.specs.State.Sums.{names_quota}
 use Rattle.ns_types.specs.State.Tables.{any_row}
-use Rattle.ns_types.proofs.Leads.{Leads, leads_unless, leads_found, leads_lift, leads_whole}
+use Rattle.ns_types.proofs.Leads.{Leads, leads_unless, leads_refused, leads_found, leads_if, leads_lift, leads_whole}
 use Rattle.ns_types.proofs.Lists.{left_none, right_none}
+use Rattle.ns_types.proofs.Tests.{is_yes}
 
 -- ---- administrators
 
@@ -63,3 +73,35 @@ module _ (s : State) (P : AdminCommand → World → Type 0)
   leads_administered secret (AdminCommand.DeletePolicy name) = in_acl _ _
   leads_administered secret (AdminCommand.CreateToken new) = in_acl _ _
   leads_administered secret (AdminCommand.DeleteToken accessor) = in_acl _ _
+
+-- ---- requests in a namespace
+
+-- the job that a registration makes
+abbrev pub job_of : Tenant → Registration → Job
+job_of t r = registered_job (t.index + 1) (document_of t r) (get t.jobs r.id)
+
+-- what holds without a change, and of the worlds that registrations, deregistrations and stops make, holds of all that a request leads to
+module _ (w : World) (ns : Name) (t : Tenant) (P : AskCommand → World → Type 0) (still : (command : AskCommand) → P command w)
+    (registers : (r : Registration) →
+    P (AskCommand.Register r) (make_in ns (evaluation_of r.id (job_of t r).document Trigger.JobRegister) w (with_job r.id (job_of t r) t)))
+    (deregisters : (id : Name) (purge : Bool) (job : Job) → get t.jobs id ≡ Some job →
+    P (AskCommand.Deregister id purge) (make_in ns (evaluation_of id job.document Trigger.JobDeregister) w (deregistered purge id job t)))
+    (stops : (n : ℕ) (a : Allocation) → get t.allocations n ≡ Some a → is_live a ≡ true →
+    P (AskCommand.StopAllocation n) (make_in ns (evaluation_for t a Trigger.AllocStop) w (with_desired n DesiredStatus.Stop t))) where
+  pub leads_asked : (command : AskCommand) → Leads (P command) (asked_in ns command w t)
+  leads_asked (AskCommand.ListJobs prefix) = still _
+  leads_asked (AskCommand.Register r) = leads_refused (P (AskCommand.Register r)) (first_refusal w t r) _ (λ _. registers r)
+  leads_asked (AskCommand.ReadJob id) = leads_found (P (AskCommand.ReadJob id)) (get t.jobs id) _ (λ job _. still _)
+  leads_asked (AskCommand.Deregister id purge) = leads_found (P (AskCommand.Deregister id purge)) (get t.jobs id) _ (λ job at. deregisters id purge job at)
+  leads_asked (AskCommand.JobAllocations id) = still _
+  leads_asked (AskCommand.JobEvaluations id) = still _
+  leads_asked (AskCommand.ListEvaluations prefix) = still _
+  leads_asked (AskCommand.ReadEvaluation n) = leads_found (P (AskCommand.ReadEvaluation n)) (get t.evaluations n) _ (λ e _. still _)
+  leads_asked (AskCommand.ListAllocations prefix) = still _
+  leads_asked (AskCommand.ReadAllocation n) = leads_found (P (AskCommand.ReadAllocation n)) (get t.allocations n) _ (λ a _. still _)
+  leads_asked (AskCommand.StopAllocation n) = leads_found (P (AskCommand.StopAllocation n)) (get t.allocations n) _
+      (λ a at. leads_unless (P (AskCommand.StopAllocation n)) (not (is_live a)) Refusal.Conflict _ (λ live. stops n a at (is_yes _ live)))
+  leads_asked AskCommand.ReadNamespace = still _
+  leads_asked (AskCommand.QuotaUsage quota) =
+      leads_if (P (AskCommand.QuotaUsage quota)) (names_quota quota t.namespace) _ _ (λ _. still (AskCommand.QuotaUsage quota)) (λ _. tt)
+  leads_asked (AskCommand.Events index) = still _

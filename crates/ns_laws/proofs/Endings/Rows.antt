@@ -6,15 +6,10 @@ use Rattle.std.specs.Option.{option_map_or, option_and_then}
 use Rattle.ns_types.specs.declared.allocation.Allocation.{Allocation}
 use Rattle.ns_types.specs.declared.evaluation.Evaluation.{Evaluation}
 use Rattle.ns_types.specs.declared.evaluation.Status.{Status}
-use Rattle.ns_types.specs.declared.evaluation.Trigger.TheVariants as Trigger
-use Rattle.ns_types.specs.declared.job.Job.{Job}
-use Rattle.ns_types.specs.declared.job.Registration.{Registration}
 use Rattle.ns_types.specs.declared.reply.Content.TheVariants as Content
 use Rattle.ns_types.specs.declared.snapshot.Snapshot.{Snapshot}
 use Rattle.ns_types.specs.declared.worker.Phase.TheVariants as Phase
-use Rattle.ns_types.specs.Asking.Asks.{first_refusal, document_of, registered_job, register, deregistered, deregister}
-use Rattle.ns_types.specs.Asking.Asks.{deregister_job}
-use Rattle.ns_types.specs.Settling.Making.{put_tenant, with_job, with_status, with_evaluation, evaluation_of, make_in, make}
+use Rattle.ns_types.specs.Settling.Making.{put_tenant, with_status, with_evaluation, make_in, make}
 use Rattle.ns_types.specs.Settling.Outcome.{NotEnabled, Done}
 use Rattle.ns_types.specs.Settling.Releases.{missed}
 use Rattle.ns_types.specs.State.Names.{Name, Key, same_name}
@@ -26,12 +21,12 @@ use Rattle.ns_types.specs.Working.Work.{may_snap, with_snapshot, snap_for, snap,
 use Rattle.ns_types.specs.Working.Work.{follower_of, without_blocked, ended, with_follower, followed, finished, finish_for}
 use Rattle.ns_types.specs.Working.Work.{finish, is_submitted, most_nacks, with_nack, given_back, given_up, nack_for, nack}
 use Rattle.ns_types.specs.Working.Worker.{Worker}
-use Rattle.ns_types.proofs.Leads.{Leads, leads_refused, leads_found, leads_there, leads_if, leads_at_work, leads_keeping}
+use Rattle.ns_types.proofs.Leads.{Leads, leads_there, leads_if, leads_at_work, leads_keeping}
 use Rattle.ns_types.proofs.Named.{names, one_name, same_name_is}
 use Rattle.ns_types.proofs.Queue.{queue_keeps}
 use Rattle.ns_types.proofs.TableRows.{get_put, get_other}
 use Rattle.ns_audit.proofs.ValidAllocations.Work.{unlisted_tenants}
-use Rattle.ns_audit.proofs.Held.Work.{status_leaves, ended_leaves, tied_leaves, deregistered_leaves}
+use Rattle.ns_audit.proofs.Held.Work.{status_leaves, ended_leaves, tied_leaves}
 
 -- the allocation with that number
 abbrev pub row_at : ℕ → Option Tenant → Option Allocation
@@ -85,19 +80,6 @@ same_make ns evaluation w = by (get w.tenants ns) refl
     by : (o : Option Tenant) → get w.tenants ns ≡ o → Same w (option_map_or (λ t. make_in ns (evaluation t) w t) o w)
     by None is = same_still w
     by (Some t) is = same_make_in w ns (evaluation t) t t is refl
-
--- ---- registrations and deregistrations
-
-module _ (w : World) (ns : Name) (t : Tenant) (is : get w.tenants ns ≡ Some t) where
-  pub register_same : (r : Registration) → Leads (Same w) (register ns r w t)
-  register_same r = leads_refused (Same w) (first_refusal w t r) _ (λ _. by (registered_job (t.index + 1) (document_of t r) (get t.jobs r.id)))
-    where
-      by : (job : Job) → Same w (make_in ns (evaluation_of r.id job.document Trigger.JobRegister) w (with_job r.id job t))
-      by job = same_make_in w ns (evaluation_of r.id job.document Trigger.JobRegister) t (with_job r.id job t) is refl
-
-  pub deregister_same : (id : Name) (purge : Bool) → Leads (Same w) (deregister ns id purge w t)
-  deregister_same id purge = leads_found (Same w) (get t.jobs id) (deregister_job ns id purge w t) (λ job at.
-      same_make_in w ns (evaluation_of id job.document Trigger.JobDeregister) t (deregistered purge id job t) is (deregistered_leaves purge id job t))
 
 -- ---- a worker's steps
 

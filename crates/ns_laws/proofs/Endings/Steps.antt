@@ -19,17 +19,16 @@ use Rattle.ns_types.specs.declared.step.NodeCommand.{NodeCommand}
 use Rattle.ns_types.specs.declared.step.Report.{Report}
 use Rattle.ns_types.specs.declared.step.Step.{Step}
 use Rattle.ns_types.specs.Asking.Admins.{has_live, new_tenant, with_namespace}
-use Rattle.ns_types.specs.Asking.Asks.{asked_in, ask}
+use Rattle.ns_types.specs.Asking.Asks.{asked_in, ask, deregistered}
 use Rattle.ns_types.specs.Asking.Nodes.{losses, lost, lose, go_down, may_become, same_client, calls_for_one, reported, is_on, report_of, report}
 use Rattle.ns_types.specs.Asking.Nodes.{asked_in_pool, ask_pool}
 use Rattle.ns_types.specs.Asking.Policies.{with_world, administer}
 use Rattle.ns_types.specs.Settling.Making.{put_pool, put_tenant, with_node, change_tenant, with_desired}
-use Rattle.ns_types.specs.Settling.Making.{with_client, with_evaluation, evaluation_for, make_in, make}
+use Rattle.ns_types.specs.Settling.Making.{with_client, with_evaluation, evaluation_for, make_in, make, with_job}
 use Rattle.ns_types.specs.Settling.Outcome.{Outcome, NotEnabled, Refused, Done, unless, lift}
 use Rattle.ns_types.specs.Settling.Settle.{settle}
 use Rattle.ns_types.specs.State.Names.{Name, Key, ByNumber, same_name, same_number}
 use Rattle.ns_types.specs.State.Rows.{State, World, Tenant, PoolRows, is_live, is_live_on, allocation_at}
-use Rattle.ns_types.specs.State.Sums.{names_quota, quota_use}
 use Rattle.ns_types.specs.State.Tables.{map_rows}
 use Rattle.ns_types.specs.Steps.{Answer, said, act, after, is_allowed, concluded, reply_of, is_past_bound}
 use Rattle.ns_types.specs.Validity.{IsSound}
@@ -39,13 +38,14 @@ use Rattle.ns_types.proofs.Named.{names, one_name, numbers, one_number, same_nam
 use Rattle.ns_types.proofs.TableRows.{get_put, get_other}
 use Rattle.ns_types.proofs.Tables.{get-map_rows, none_of_any, tied}
 use Rattle.ns_types.proofs.Tests.{not_Some, same_Some, is_yes}
+use Rattle.ns_audit.proofs.Held.Work.{deregistered_leaves}
 use Rattle.ns_audit.proofs.ValidAllocations.Sound.{allocation_row}
 use Rattle.ns_laws.specs.Ending.{IsReportOf}
-use Rattle.ns_laws.proofs.CommandLemmas.{leads_administered}
+use Rattle.ns_laws.proofs.CommandLemmas.{job_of, leads_administered, leads_asked}
 use Rattle.ns_laws.proofs.Endings.Apply.{apply_moves}
 use Rattle.ns_laws.proofs.Endings.Change.{Change, rests, asks, loses, reports, deletes, Moves, moves_same, moves_then, settled_at, settled_same, Turn}
 use Rattle.ns_laws.proofs.Endings.Rows.{row_at, moves_put, Same, same_still, same_tenants, same_then, same_put, same_make, made_in_tenants}
-use Rattle.ns_laws.proofs.Endings.Rows.{register_same, deregister_same, dequeue_same, snap_same, submit_same, finish_same, nack_same}
+use Rattle.ns_laws.proofs.Endings.Rows.{same_make_in, dequeue_same, snap_same, submit_same, finish_same, nack_same}
 
 -- one row of a namespace has another in its place
 row_moves : (P : Key → Option Allocation → Option Allocation → Type 0) → ((key : Key) (o : Option Allocation) → P key o o) →
@@ -65,8 +65,9 @@ module _ (w : World) (ns : Name) (secret : Option Name) (t : Tenant) (is : get w
   still : (command : AskCommand) → Moves w (Step.Ask ns secret command) w
   still command = moves_same w (Step.Ask ns secret command) w (same_still w)
 
-  quiet : (command : AskCommand) (o : Outcome World) → Leads (Same w) o → Leads (Moves w (Step.Ask ns secret command)) o
-  quiet command = leads_of (Same w) (Moves w (Step.Ask ns secret command)) (moves_same w (Step.Ask ns secret command))
+  -- a request that makes an evaluation and leaves the allocations as they are moves none
+  makes : (command : AskCommand) (e : Evaluation) (u : Tenant) → u.allocations ≡ t.allocations → Moves w (Step.Ask ns secret command) (make_in ns e w u)
+  makes command e u same = moves_same w (Step.Ask ns secret command) (make_in ns e w u) (same_make_in w ns e t u is same)
 
   module _ (n : ℕ) (a : Allocation) (at : get t.allocations n ≡ Some a) (live : is_live a ≡ true) where
     abbrev step : Step
@@ -85,26 +86,11 @@ module _ (w : World) (ns : Name) (secret : Option Name) (t : Tenant) (is : get w
         (same_tenants (put_tenant ns (with_evaluation e t') w) (make_in ns e w t') (made_in_tenants w ns e t'))
 
   asked_moves : (command : AskCommand) → Leads (Moves w (Step.Ask ns secret command)) (asked_in ns command w t)
-  asked_moves (AskCommand.ListJobs prefix) = still _
-  asked_moves (AskCommand.Register r) = quiet (AskCommand.Register r) _ (register_same w ns t is r)
-  asked_moves (AskCommand.ReadJob id) = leads_found (Moves w (Step.Ask ns secret (AskCommand.ReadJob id))) (get t.jobs id) _ (λ job _. still _)
-  asked_moves (AskCommand.Deregister id purge) = quiet (AskCommand.Deregister id purge) _ (deregister_same w ns t is id purge)
-  asked_moves (AskCommand.JobAllocations id) = still _
-  asked_moves (AskCommand.JobEvaluations id) = still _
-  asked_moves (AskCommand.ListEvaluations prefix) = still _
-  asked_moves (AskCommand.ReadEvaluation n) =
-      leads_found (Moves w (Step.Ask ns secret (AskCommand.ReadEvaluation n))) (get t.evaluations n) _ (λ e _. still _)
-  asked_moves (AskCommand.ListAllocations prefix) = still _
-  asked_moves (AskCommand.ReadAllocation n) =
-      leads_found (Moves w (Step.Ask ns secret (AskCommand.ReadAllocation n))) (get t.allocations n) _ (λ a _. still _)
-  asked_moves (AskCommand.StopAllocation n) = leads_found (Moves w (Step.Ask ns secret (AskCommand.StopAllocation n))) (get t.allocations n) _
-      (λ a at. leads_unless (Moves w (Step.Ask ns secret (AskCommand.StopAllocation n))) (not (is_live a)) Refusal.Conflict _ (λ live.
-      subst (λ u. Moves w (Step.Ask ns secret (AskCommand.StopAllocation n)) (make_in ns (evaluation_for t a Trigger.AllocStop) w u))
-      (sym (stopped_is n a at (is_yes _ live))) (stopped_moves n a at (is_yes _ live) (evaluation_for t a Trigger.AllocStop))))
-  asked_moves AskCommand.ReadNamespace = still _
-  asked_moves (AskCommand.QuotaUsage quota) = leads_if (Moves w (Step.Ask ns secret (AskCommand.QuotaUsage quota))) (names_quota quota t.namespace)
-      (Done (Content.Usage quota (quota_use w quota)) w) (Refused Refusal.NotFound) (λ _. still (AskCommand.QuotaUsage quota)) (λ _. tt)
-  asked_moves (AskCommand.Events index) = still _
+  asked_moves = leads_asked w ns t (λ command. Moves w (Step.Ask ns secret command)) still
+      (λ r. makes (AskCommand.Register r) _ (with_job r.id (job_of t r) t) refl)
+      (λ id purge job _. makes (AskCommand.Deregister id purge) _ (deregistered purge id job t) (deregistered_leaves purge id job t))
+      (λ n a at live. subst (λ u. Moves w (Step.Ask ns secret (AskCommand.StopAllocation n)) (make_in ns (evaluation_for t a Trigger.AllocStop) w u))
+      (sym (stopped_is n a at live)) (stopped_moves n a at live (evaluation_for t a Trigger.AllocStop)))
 
 ask_moves : (w : World) (ns : Name) (secret : Option Name) (command : AskCommand) → Leads (Moves w (Step.Ask ns secret command)) (ask ns command w)
 unfolding ask

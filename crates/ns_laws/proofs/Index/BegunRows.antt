@@ -11,12 +11,11 @@ use Rattle.ns_types.specs.declared.event.Event.{Event}
 use Rattle.ns_types.specs.declared.job.Document.{Document}
 use Rattle.ns_types.specs.declared.job.Job.{Job}
 use Rattle.ns_types.specs.declared.records.Namespace.{Namespace}
-use Rattle.ns_types.specs.declared.refusal.Refusal.{Refusal}
 use Rattle.ns_types.specs.declared.step.AdminCommand.{AdminCommand}
 use Rattle.ns_types.specs.declared.step.AskCommand.{AskCommand}
 use Rattle.ns_types.specs.declared.step.Step.{Step}
 use Rattle.ns_types.specs.Asking.Admins.{new_tenant, with_namespace}
-use Rattle.ns_types.specs.Asking.Asks.{ask, asked_in, document_of, registered_job, first_refusal, stopped_job, deregistered}
+use Rattle.ns_types.specs.Asking.Asks.{ask, asked_in, document_of, registered_job, stopped_job, deregistered}
 use Rattle.ns_types.specs.Asking.Policies.{administer, with_world}
 use Rattle.ns_types.specs.Settling.Making.{put_tenant, with_job, with_desired, make_in}
 use Rattle.ns_types.specs.Settling.Outcome.{Outcome, NotEnabled, Refused, Done, lift}
@@ -25,10 +24,9 @@ use Rattle.ns_types.specs.Settling.Same.{same_document}
 use Rattle.ns_types.specs.Settling.Settle.{unblocked_in}
 use Rattle.ns_types.specs.Settling.Settle.{stamp_tenant}
 use Rattle.ns_types.specs.State.Names.{Name, ByName}
-use Rattle.ns_types.specs.State.Rows.{State, World, Tenant, is_live}
-use Rattle.ns_types.specs.State.Sums.{names_quota}
+use Rattle.ns_types.specs.State.Rows.{State, World, Tenant}
 use Rattle.ns_types.specs.Steps.{Answer, after, act, said, settled}
-use Rattle.ns_types.proofs.Leads.{Leads, leads_of, leads_unless, leads_refused, leads_found, leads_if, leads_lift}
+use Rattle.ns_types.proofs.Leads.{Leads, leads_of, leads_found, leads_lift}
 use Rattle.ns_types.proofs.Named.{names, one_name}
 use Rattle.ns_types.proofs.TableRows.{row_of_insert, row_of_remove}
 use Rattle.ns_types.proofs.Tests.{not_Some, same_Some}
@@ -37,7 +35,7 @@ use Rattle.ns_audit.proofs.Alone.Sides.{change, act_is}
 use Rattle.ns_audit.proofs.ValidAllocations.Going.{Onward, onward_same, onward_make_in}
 use Rattle.ns_laws.specs.Indexes as law
 use Rattle.ns_laws.specs.Indexes.{Spans}
-use Rattle.ns_laws.proofs.CommandLemmas.{leads_administered}
+use Rattle.ns_laws.proofs.CommandLemmas.{job_of, leads_administered, leads_asked}
 use Rattle.ns_laws.proofs.Effect.Rows.{settled_rows, settled_tenant}
 use Rattle.ns_laws.proofs.Index.OwnChanges.{is_ask, change_fixed, ask_fixed}
 use Rattle.ns_audit.proofs.StepLemmas.{made, refusal_leaves_all}
@@ -138,25 +136,10 @@ module _ (w : World) (ns : Name) (t : Tenant) (is : get w.tenants ns ≡ Some t)
       [ Some a ↦ dates_same t (record t { allocations = insert t.allocations n (record a { desired = desired }) }) refl | None ↦ dates_still t ]
 
   asked_dates : (command : AskCommand) → Leads (Onward DatesJobs w) (asked_in ns command w t)
-  asked_dates (AskCommand.ListJobs prefix) = here
-  asked_dates (AskCommand.Register r) = leads_refused (Onward DatesJobs w) (first_refusal w t r) _ (λ _.
-      dates_made _ (with_job r.id (registered_job (t.index + 1) (document_of t r) (get t.jobs r.id)) t)
-      (dates_put t r.id _ (registered_dates (document_of t r) r.id (get t.jobs r.id) refl)))
-  asked_dates (AskCommand.ReadJob id) = leads_found (Onward DatesJobs w) (get t.jobs id) _ (λ job _. here)
-  asked_dates (AskCommand.Deregister id purge) = leads_found (Onward DatesJobs w) (get t.jobs id) _ (λ job at.
-      dates_made _ (deregistered purge id job t) (deregistered_dates purge id job at))
-  asked_dates (AskCommand.JobAllocations id) = here
-  asked_dates (AskCommand.JobEvaluations id) = here
-  asked_dates (AskCommand.ListEvaluations prefix) = here
-  asked_dates (AskCommand.ReadEvaluation n) = leads_found (Onward DatesJobs w) (get t.evaluations n) _ (λ e _. here)
-  asked_dates (AskCommand.ListAllocations prefix) = here
-  asked_dates (AskCommand.ReadAllocation n) = leads_found (Onward DatesJobs w) (get t.allocations n) _ (λ a _. here)
-  asked_dates (AskCommand.StopAllocation n) = leads_found (Onward DatesJobs w) (get t.allocations n) _ (λ a _.
-      leads_unless (Onward DatesJobs w) (not (is_live a)) Refusal.Conflict _ (λ _.
-      dates_made _ (with_desired n DesiredStatus.Stop t) (stopped_dates n DesiredStatus.Stop)))
-  asked_dates AskCommand.ReadNamespace = here
-  asked_dates (AskCommand.QuotaUsage quota) = leads_if (Onward DatesJobs w) (names_quota quota t.namespace) _ _ (λ _. here) (λ _. tt)
-  asked_dates (AskCommand.Events index) = here
+  asked_dates = leads_asked w ns t (λ _. Onward DatesJobs w) (λ _. here)
+      (λ r. dates_made _ (with_job r.id (job_of t r) t) (dates_put t r.id _ (registered_dates (document_of t r) r.id (get t.jobs r.id) refl)))
+      (λ id purge job at. dates_made _ (deregistered purge id job t) (deregistered_dates purge id job at))
+      (λ n a _ _. dates_made _ (with_desired n DesiredStatus.Stop t) (stopped_dates n DesiredStatus.Stop))
 
 leads_both : {S : Type 0} (P Q R : S → Type 0) → ((x : S) → P x → Q x → R x) → (o : Outcome S) → Leads P o → Leads Q o → Leads R o
 leads_both P Q R f NotEnabled h k = tt

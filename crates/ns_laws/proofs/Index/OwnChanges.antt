@@ -17,7 +17,7 @@ use Rattle.ns_types.specs.declared.step.NodeCommand.{NodeCommand}
 use Rattle.ns_types.specs.declared.step.Report.{Report}
 use Rattle.ns_types.specs.declared.step.Step.{Step}
 use Rattle.ns_types.specs.Working.Worker.{Worker}
-use Rattle.ns_types.specs.Asking.Asks.{deregistered, stopped_job, registered_job, document_of, asked_in, ask, first_refusal}
+use Rattle.ns_types.specs.Asking.Asks.{deregistered, stopped_job, asked_in, ask}
 use Rattle.ns_types.specs.Working.Commit.{commit, applied_worker, applied, apply_for, apply}
 use Rattle.ns_types.specs.Settling.Making.{put_tenant, with_job, change_tenant, put_pool, with_status, with_desired, with_client, evaluation_for, make_in, make}
 use Rattle.ns_types.specs.State.Names.{Name, ByName, ByNumber}
@@ -25,7 +25,7 @@ use Rattle.std.specs.Prelude.{not}
 use Rattle.ns_types.specs.State.Rows.{allocation_at}
 use Rattle.ns_types.specs.Asking.Nodes.{is_on, report_of, same_client, may_become, lose, lost, losses, go_down, reported, calls_for_one, asked_in_pool}
 use Rattle.ns_types.specs.Asking.Nodes.{ask_pool}
-use Rattle.ns_types.specs.Settling.Outcome.{Outcome, NotEnabled, Refused, Done, unless}
+use Rattle.ns_types.specs.Settling.Outcome.{Outcome, NotEnabled, Done, unless}
 use Rattle.ns_types.specs.Working.Queue.{promote, first_waiting, is_busy}
 use Rattle.ns_types.specs.State.Rows.{World, Tenant, PoolRows}
 use Rattle.ns_types.specs.State.Tables.{map_rows}
@@ -36,7 +36,6 @@ use Rattle.ns_types.specs.State.Rows.{is_ready}
 use Rattle.std.specs.Prelude.{nat_le}
 use Rattle.ns_types.specs.declared.reply.Content.TheVariants as Content
 use Rattle.ns_types.specs.Working.Queue.{is_served}
-use Rattle.ns_types.specs.State.Sums.{names_quota, quota_use}
 use Rattle.std.specs.Prelude.{nat_lt}
 use Rattle.ns_types.specs.declared.worker.Phase.TheVariants as Phase
 use Rattle.ns_types.specs.Working.Snapshot.{snapshot_of}
@@ -46,10 +45,11 @@ use Rattle.ns_types.specs.Working.Work.{end_of, without_key, at_work, with_worke
 use Rattle.ns_types.specs.Working.Work.{with_follower, tied_to, followed, dequeue_in, dequeue, snap, submit, finish, nack, with_nack}
 use Rattle.ns_audit.proofs.Alone.Fixed.{of_at, SameIn, fixed_put, fixed_change, fixed_make_in, fixed_make, fixed_each, fixed_desired}
 use Rattle.ns_audit.proofs.Alone.Fixed.{fixed_commit}
-use Rattle.ns_types.proofs.Leads.{Leads, leads_unless, leads_refused, leads_found, leads_there, leads_if}
+use Rattle.ns_types.proofs.Leads.{Leads, leads_unless, leads_found, leads_there, leads_if}
 use Rattle.ns_audit.proofs.Alone.Recording.{record_kept}
 use Rattle.ns_audit.proofs.Alone.Sides.{change}
 use Rattle.ns_types.proofs.Lists.{not_both}
+use Rattle.ns_laws.proofs.CommandLemmas.{job_of, leads_asked}
 
 abbrev pub is_ask : Step → Bool
 is_ask (Step.Ask ns secret command) = true
@@ -290,24 +290,10 @@ module _ {Y : Type 0} (of : Tenant → Y)
     deregistered_same false id job t = same_jobs t (insert t.jobs id (stopped_job (t.index + 1) job))
 
     own_asked : (ns : Name) (command : AskCommand) (t : Tenant) → get w.tenants ns ≡ Some t → Named w (asked_in ns command w t)
-    own_asked ns (AskCommand.ListJobs prefix) t is = λ k. refl
-    own_asked ns (AskCommand.Register r) t is = leads_refused (SameIn of w) (first_refusal w t r) _ (λ _. own_make_in ns _ t (with_job r.id (registered_job (t.index + 1) (document_of t r) (get t.jobs r.id)) t) w is (same_jobs t _))
-    own_asked ns (AskCommand.ReadJob id) t is = leads_found (SameIn of w) (get t.jobs id) _ (λ job _ k. refl)
-    own_asked ns (AskCommand.Deregister id purge) t is =
-        leads_found (SameIn of w) (get t.jobs id) _ (λ job _. own_make_in ns _ t (deregistered purge id job t) w is (deregistered_same purge id job t))
-    own_asked ns (AskCommand.JobAllocations id) t is = λ k. refl
-    own_asked ns (AskCommand.JobEvaluations id) t is = λ k. refl
-    own_asked ns (AskCommand.ListEvaluations prefix) t is = λ k. refl
-    own_asked ns (AskCommand.ReadEvaluation n) t is = leads_found (SameIn of w) (get t.evaluations n) _ (λ e _ k. refl)
-    own_asked ns (AskCommand.ListAllocations prefix) t is = λ k. refl
-    own_asked ns (AskCommand.ReadAllocation n) t is = leads_found (SameIn of w) (get t.allocations n) _ (λ a _ k. refl)
-    own_asked ns (AskCommand.StopAllocation n) t is =
-        leads_found (SameIn of w) (get t.allocations n) _
-        (λ a _. own_unless w _ _ _ (own_make_in ns _ t (with_desired n DesiredStatus.Stop t) w is (desired_same n DesiredStatus.Stop t)))
-    own_asked ns AskCommand.ReadNamespace t is = λ k. refl
-    own_asked ns (AskCommand.QuotaUsage quota) t is = own_either w (names_quota quota t.namespace) (Done (Content.Usage quota (quota_use w quota)) w)
-        (Refused Refusal.NotFound) (λ k. refl) tt
-    own_asked ns (AskCommand.Events index) t is = λ k. refl
+    own_asked ns command t is = leads_asked w ns t (λ _. SameIn of w) (λ _ k. refl)
+        (λ r. own_make_in ns _ t (with_job r.id (job_of t r) t) w is (same_jobs t _))
+        (λ id purge job _. own_make_in ns _ t (deregistered purge id job t) w is (deregistered_same purge id job t))
+        (λ n a _ _. own_make_in ns _ t (with_desired n DesiredStatus.Stop t) w is (desired_same n DesiredStatus.Stop t)) command
 
     pub ask_fixed : (ns : Name) (command : AskCommand) → Leads (SameIn of w) (ask ns command w)
     unfolding ask

@@ -10,10 +10,9 @@ use Rattle.ns_types.specs.declared.allocation.DesiredStatus.TheVariants as Desir
 use Rattle.ns_types.specs.declared.evaluation.Evaluation.{Evaluation}
 use Rattle.ns_types.specs.declared.job.Document.{Document}
 use Rattle.ns_types.specs.declared.job.Job.{Job}
-use Rattle.ns_types.specs.declared.refusal.Refusal.{Refusal}
 use Rattle.ns_types.specs.declared.step.AskCommand.{AskCommand}
 use Rattle.ns_types.specs.declared.step.Step.{Step}
-use Rattle.ns_types.specs.Asking.Asks.{ask, asked_in, deregistered, document_of, first_refusal, registered_job, stopped_job}
+use Rattle.ns_types.specs.Asking.Asks.{ask, asked_in, deregistered, document_of, registered_job, stopped_job}
 use Rattle.ns_types.specs.Asking.Policies.{administer, with_world}
 use Rattle.ns_types.specs.Settling.Making.{make_in, with_desired, with_job}
 use Rattle.ns_types.specs.Settling.Outcome.{Outcome, lift}
@@ -23,13 +22,12 @@ use Rattle.ns_types.specs.Settling.Settle.{changes_allocation, changes_evaluatio
 use Rattle.ns_types.specs.Settling.Settle.{stamped_allocation, stamped_evaluation, unblocked_in, woken_row}
 use Rattle.ns_types.specs.State.Names.{Key, Name, has_key, same_name, same_number}
 use Rattle.ns_types.specs.State.Resources.{same_resources}
-use Rattle.ns_types.specs.State.Rows.{State, Tenant, World, allocation_at, is_live}
-use Rattle.ns_types.specs.State.Sums.{names_quota}
+use Rattle.ns_types.specs.State.Rows.{State, Tenant, World, allocation_at}
 use Rattle.ns_types.specs.Steps.{act}
 use Rattle.ns_types.specs.Wire.Words.{client_text, desired_text, kind_text, status_text, trigger_text}
 use Rattle.ns_types.proofs.Alike.{same_allocation_refl, same_evaluation_refl}
 use Rattle.ns_types.proofs.Gone.{evicted_row, stopped_row}
-use Rattle.ns_types.proofs.Leads.{Leads, leads_of, leads_unless, leads_refused, leads_found, leads_if, leads_lift}
+use Rattle.ns_types.proofs.Leads.{Leads, leads_of, leads_found, leads_lift}
 use Rattle.ns_types.proofs.Lists.{not_both}
 use Rattle.ns_types.proofs.Named.{names, one_name, numbers, one_number}
 use Rattle.ns_types.proofs.TableRows.{row_of_insert, row_of_remove}
@@ -40,6 +38,7 @@ use Rattle.ns_audit.proofs.Alone.Sides.{act_is, change}
 use Rattle.ns_audit.proofs.ValidAllocations.Going.{Onward, onward_make_in, onward_same}
 use Rattle.ns_laws.specs.Indexes as law
 use Rattle.ns_laws.specs.Indexes.{WasAllocation, WasEvaluation}
+use Rattle.ns_laws.proofs.CommandLemmas.{job_of, leads_asked}
 use Rattle.ns_laws.proofs.Endings.Change.{Change, asks, cuts, deletes, evicts, left, loses, places, plans, reports, rests, stops}
 use Rattle.ns_laws.proofs.Endings.Steps.{MovesIn, act_moves}
 use Rattle.ns_laws.proofs.Index.OwnChanges.{change_fixed, is_ask}
@@ -300,25 +299,10 @@ module _ (w : World) (ns : Name) (t : Tenant) (is : get w.tenants ns ≡ Some t)
       [ Some a ↦ keeps_same t (record t { allocations = insert t.allocations n (record a { desired = desired }) }) refl | None ↦ keeps_still t ]
 
   asked_keeps : (command : AskCommand) → Leads (Onward KeepsJobs w) (asked_in ns command w t)
-  asked_keeps (AskCommand.ListJobs prefix) = here
-  asked_keeps (AskCommand.Register r) = leads_refused (Onward KeepsJobs w) (first_refusal w t r) _ (λ _.
-      keeps_made _ (with_job r.id (registered_job (t.index + 1) (document_of t r) (get t.jobs r.id)) t)
-      (keeps_put t r.id _ (registered_differs (document_of t r) r.id (get t.jobs r.id) refl)))
-  asked_keeps (AskCommand.ReadJob id) = leads_found (Onward KeepsJobs w) (get t.jobs id) _ (λ job _. here)
-  asked_keeps (AskCommand.Deregister id purge) = leads_found (Onward KeepsJobs w) (get t.jobs id) _ (λ job at.
-      keeps_made _ (deregistered purge id job t) (deregistered_keeps purge id job at))
-  asked_keeps (AskCommand.JobAllocations id) = here
-  asked_keeps (AskCommand.JobEvaluations id) = here
-  asked_keeps (AskCommand.ListEvaluations prefix) = here
-  asked_keeps (AskCommand.ReadEvaluation n) = leads_found (Onward KeepsJobs w) (get t.evaluations n) _ (λ e _. here)
-  asked_keeps (AskCommand.ListAllocations prefix) = here
-  asked_keeps (AskCommand.ReadAllocation n) = leads_found (Onward KeepsJobs w) (get t.allocations n) _ (λ a _. here)
-  asked_keeps (AskCommand.StopAllocation n) = leads_found (Onward KeepsJobs w) (get t.allocations n) _ (λ a _.
-      leads_unless (Onward KeepsJobs w) (not (is_live a)) Refusal.Conflict _ (λ _.
-      keeps_made _ (with_desired n DesiredStatuses.Stop t) (stopped_keeps n DesiredStatuses.Stop)))
-  asked_keeps AskCommand.ReadNamespace = here
-  asked_keeps (AskCommand.QuotaUsage quota) = leads_if (Onward KeepsJobs w) (names_quota quota t.namespace) _ _ (λ _. here) (λ _. tt)
-  asked_keeps (AskCommand.Events index) = here
+  asked_keeps = leads_asked w ns t (λ _. Onward KeepsJobs w) (λ _. here)
+      (λ r. keeps_made _ (with_job r.id (job_of t r) t) (keeps_put t r.id _ (registered_differs (document_of t r) r.id (get t.jobs r.id) refl)))
+      (λ id purge job at. keeps_made _ (deregistered purge id job t) (deregistered_keeps purge id job at))
+      (λ n a _ _. keeps_made _ (with_desired n DesiredStatuses.Stop t) (stopped_keeps n DesiredStatuses.Stop))
 
 ask_keeps : (w : World) (ns : Name) (command : AskCommand) → Leads (Onward KeepsJobs w) (ask ns command w)
 unfolding ask

@@ -1,5 +1,5 @@
 -- No step's own change, but that of a Finish, changes the list of blocked evaluations.
-use Rattle.std.specs.Prelude.{◌≡◌, ◌≢◌, ℕ, ◌+◌, Bool, true, false, cond, not, ◌&&◌, List, [], ◌∷◌, ◌++◌, Option, Some, None, fold, nat_le}
+use Rattle.std.specs.Prelude.{◌≡◌, ◌≢◌, ℕ, ◌+◌, Bool, true, false, cond, ◌&&◌, List, [], ◌∷◌, ◌++◌, Option, Some, None, fold, nat_le}
 use Rattle.std.specs.Prelude.{nat_lt}
 use Rattle.std.proofs.Common.{refl, ◌∙◌}
 use Rattle.std.specs.FinMap.{get}
@@ -22,7 +22,7 @@ use Rattle.ns_types.specs.declared.step.AskCommand.{AskCommand}
 use Rattle.ns_types.specs.declared.step.NodeCommand.{NodeCommand}
 use Rattle.ns_types.specs.declared.step.Report.{Report}
 use Rattle.ns_types.specs.declared.step.Step.{Step}
-use Rattle.ns_types.specs.Asking.Asks.{ask, asked_in, first_refusal}
+use Rattle.ns_types.specs.Asking.Asks.{ask, asked_in}
 use Rattle.ns_types.specs.Asking.Nodes.{ask_pool, asked_in_pool, calls_for_one, go_down, lose, losses, reported, same_client}
 use Rattle.ns_types.specs.Asking.Policies.{administer, with_world}
 use Rattle.ns_types.specs.Placing.Plan.{plan}
@@ -30,8 +30,7 @@ use Rattle.ns_types.specs.Settling.Making.{change_tenant, evaluation_for, make, 
 use Rattle.ns_types.specs.Settling.Making.{with_desired, with_evaluation, with_node}
 use Rattle.ns_types.specs.Settling.Outcome.{Outcome, NotEnabled, lift}
 use Rattle.ns_types.specs.State.Names.{Key, Name}
-use Rattle.ns_types.specs.State.Rows.{State, World, Tenant, PoolRows, allocation_at, is_live, is_ready, node_at}
-use Rattle.ns_types.specs.State.Sums.{names_quota}
+use Rattle.ns_types.specs.State.Rows.{State, World, Tenant, PoolRows, allocation_at, is_ready, node_at}
 use Rattle.ns_types.specs.Working.Commit.{Commit, Victim, accepts_at, apply, apply_for, applied_worker, begun, commit, committed_placements}
 use Rattle.ns_types.specs.Working.Commit.{counted, decide, done, done_with, evict, evict_all, evicted_rows, live_stops, new_allocation, nodes_in}
 use Rattle.ns_types.specs.Working.Commit.{refused_whole, with_allocation, with_place}
@@ -44,8 +43,8 @@ use Rattle.ns_types.specs.Working.Worker.{Worker}
 use Rattle.ns_types.specs.Steps.{act}
 use Rattle.ns_types.specs.State.Lists.{first_each}
 use Rattle.ns_types.proofs.Queue.{queue_keeps}
-use Rattle.ns_laws.proofs.CommandLemmas.{leads_administered}
-use Rattle.ns_laws.proofs.Effect.Rows.{Does, does_found, does_if, does_led, does_lift, does_refused, does_unless}
+use Rattle.ns_laws.proofs.CommandLemmas.{leads_administered, leads_asked}
+use Rattle.ns_laws.proofs.Effect.Rows.{Does, does_found, does_if, does_led, does_lift, does_unless}
 
 -- ---- changes of worlds
 
@@ -182,21 +181,9 @@ does_work w number ns f h = does_option (Keeps w) (λ t. option_map_or
 
 module _ (w : World) where
   asked_keeps : (ns : Name) (t : Tenant) (command : AskCommand) → Does (Keeps w) (asked_in ns command w t)
-  asked_keeps ns t (AskCommand.ListJobs prefix) = refl
-  asked_keeps ns t (AskCommand.Register r) = does_refused (Keeps w) (first_refusal w t r) _ (made_keeps ns _ w _)
-  asked_keeps ns t (AskCommand.ReadJob id) = does_found (Keeps w) (get t.jobs id) _ (λ job there. refl)
-  asked_keeps ns t (AskCommand.Deregister id purge) = does_found (Keeps w) (get t.jobs id) _ (λ job there. made_keeps ns _ w _)
-  asked_keeps ns t (AskCommand.JobAllocations id) = refl
-  asked_keeps ns t (AskCommand.JobEvaluations id) = refl
-  asked_keeps ns t (AskCommand.ListEvaluations prefix) = refl
-  asked_keeps ns t (AskCommand.ReadEvaluation n) = does_found (Keeps w) (get t.evaluations n) _ (λ e there. refl)
-  asked_keeps ns t (AskCommand.ListAllocations prefix) = refl
-  asked_keeps ns t (AskCommand.ReadAllocation n) = does_found (Keeps w) (get t.allocations n) _ (λ a there. refl)
-  asked_keeps ns t (AskCommand.StopAllocation n) = does_found (Keeps w) (get t.allocations n) _
-      (λ a there. does_unless (Keeps w) (not (is_live a)) Refusal.Conflict _ (λ _. made_keeps ns _ w _))
-  asked_keeps ns t AskCommand.ReadNamespace = refl
-  asked_keeps ns t (AskCommand.QuotaUsage quota) = does_if (Keeps w) (names_quota quota t.namespace) _ _ (λ _. refl) (λ _. tt)
-  asked_keeps ns t (AskCommand.Events index) = refl
+  asked_keeps ns t command = does_led (λ (y : World). y.blocked ≡ w.blocked) (asked_in ns command w t)
+      (leads_asked w ns t (λ _ y. y.blocked ≡ w.blocked) (λ _. refl) (λ r. made_keeps ns _ w _) (λ id purge job there. made_keeps ns _ w _)
+      (λ n a there live. made_keeps ns _ w _) command)
 
   reported_keeps : (r : Report) (a : Allocation) → (reported r a w).blocked ≡ w.blocked
   reported_keeps r a = by (option_map_or (λ t. calls_for_one t a r.client) (get w.tenants r.namespace) false)
