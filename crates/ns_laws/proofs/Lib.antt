@@ -8,6 +8,7 @@ pub mod Endings
 pub mod Index
 pub mod OrderedLemmas
 pub mod Plans
+pub mod QueueLemmas
 pub mod ReadsLemmas
 pub mod Refusal
 pub mod Scope

@@ -62,7 +62,7 @@ use Rattle.ns_laws.proofs.Endings.Rows.{Same, made_in_tenants, same_make}
 use Rattle.ns_laws.proofs.Endings.Steps.{losses_same, lost_at}
 use Rattle.ns_laws.proofs.Index.StepRows.{Left, Leaves, added, stayed}
 use Rattle.ns_laws.proofs.OrderedLemmas.{losers_are_first}
-use Rattle.ns_laws.proofs.Service.Closing.{promote_tenants}
+use Rattle.ns_laws.proofs.QueueLemmas.{promote_tenants}
 use Rattle.ns_laws.specs.Nodes.{IsFirstOfJob}
 
 -- ---- what is added in a namespace

@@ -1,5 +1,5 @@
 -- Changes that leave every allocation as it is: requests but those to stop one, and a worker's steps but Apply.
-use Rattle.std.specs.Prelude.{◌≡◌, ℕ, ◌+◌, Bool, true, false, cond, [], ◌∷◌, ◌++◌, Option, Some, None, ◌&&◌, nat_le, nat_lt}
+use Rattle.std.specs.Prelude.{◌≡◌, ℕ, ◌+◌, Bool, true, false, cond, Option, Some, None, ◌&&◌, nat_le, nat_lt}
 use Rattle.std.proofs.Common.{refl, sym, ap, subst, ◌∙◌}
 use Rattle.std.specs.FinMap.{get, insert}
 use Rattle.std.specs.Option.{option_map_or, option_and_then}
@@ -14,7 +14,7 @@ use Rattle.ns_types.specs.Settling.Outcome.{NotEnabled, Done}
 use Rattle.ns_types.specs.Settling.Releases.{missed}
 use Rattle.ns_types.specs.State.Names.{Name, Key, same_name}
 use Rattle.ns_types.specs.State.Rows.{World, Tenant, allocation_at}
-use Rattle.ns_types.specs.Working.Queue.{is_busy, first_waiting, promote, is_served}
+use Rattle.ns_types.specs.Working.Queue.{promote, is_served}
 use Rattle.ns_types.specs.Working.Snapshot.{snapshot_of}
 use Rattle.ns_types.specs.Working.Work.{with_worker, without_worker, workers_end, is_idle, new_worker, taken, dequeue_in, dequeue}
 use Rattle.ns_types.specs.Working.Work.{may_snap, with_snapshot, snap_for, snap, may_submit, submitted, submit_for, submit, may_finish, end_of, needs_follower}
@@ -27,6 +27,7 @@ use Rattle.ns_types.proofs.Queue.{queue_keeps}
 use Rattle.ns_types.proofs.TableRows.{get_put, get_other}
 use Rattle.ns_audit.proofs.ValidAllocations.Work.{unlisted_tenants}
 use Rattle.ns_audit.proofs.Held.Work.{status_leaves, ended_leaves, tied_leaves}
+use Rattle.ns_laws.proofs.QueueLemmas.{promote_part}
 
 -- the allocation with that number
 abbrev pub row_at : ℕ → Option Tenant → Option Allocation
@@ -110,19 +111,7 @@ module _ (w : World) (number : ℕ) where
 
     -- the next one of the job is ready
     promote_same : (job : Name) (x : World) → Same w x → Same w (promote ns job x)
-    unfolding promote
-    promote_same job x c = elim (is_busy x ns job) as
-        (λ b. Same w (cond b x (option_map_or (λ t. option_map_or (λ n. record x { ready = x.ready ++ (ns, n) ∷ [] }) (first_waiting job t) x)
-        (get x.tenants ns) x))) [ true ↦ c | false ↦ tenant (get x.tenants ns) ]
-      where
-        waiting : (o : Option ℕ) → Same w (option_map_or (λ n. record x { ready = x.ready ++ (ns, n) ∷ [] }) o x)
-        waiting None = c
-        waiting (Some n) = c
-
-        tenant : (o : Option Tenant) → Same w
-            (option_map_or (λ t. option_map_or (λ n. record x { ready = x.ready ++ (ns, n) ∷ [] }) (first_waiting job t) x) o x)
-        tenant None = c
-        tenant (Some t) = waiting (first_waiting job t)
+    promote_same job x c key = promote_part (λ y. allocation_at y key) (λ y keys. refl) ns job x ∙ c key
 
     module _ (t : Tenant) (is : get w.tenants ns ≡ Some t) (worker : Worker) (e : Evaluation) where
       followed_same : (t' : Tenant) → t'.allocations ≡ t.allocations → (follower : Evaluation) (b : Bool) →

@@ -1,5 +1,5 @@
 -- What no step but a request in a namespace changes itself, of what is no evaluation, allocation or worker of a namespace.
-use Rattle.std.specs.Prelude.{◌≡◌, ℕ, ◌+◌, Bool, true, false, cond, List, [], ◌∷◌, ◌++◌, Option, Some, None, ◌&&◌, fold}
+use Rattle.std.specs.Prelude.{◌≡◌, ℕ, ◌+◌, Bool, true, false, cond, List, Option, Some, None, ◌&&◌, fold}
 use Rattle.std.proofs.Common.{refl, ◌∙◌}
 use Rattle.std.specs.FinMap.{get, insert, remove}
 use Rattle.std.specs.Option.{option_map_or}
@@ -26,7 +26,7 @@ use Rattle.ns_types.specs.State.Rows.{allocation_at}
 use Rattle.ns_types.specs.Asking.Nodes.{is_on, report_of, same_client, may_become, lose, lost, losses, go_down, reported, calls_for_one, asked_in_pool}
 use Rattle.ns_types.specs.Asking.Nodes.{ask_pool}
 use Rattle.ns_types.specs.Settling.Outcome.{Outcome, NotEnabled, Done, unless}
-use Rattle.ns_types.specs.Working.Queue.{promote, first_waiting, is_busy}
+use Rattle.ns_types.specs.Working.Queue.{promote}
 use Rattle.ns_types.specs.State.Rows.{World, Tenant, PoolRows}
 use Rattle.ns_types.specs.State.Tables.{map_rows}
 use Rattle.ns_types.specs.Placing.Plan.{plan}
@@ -50,6 +50,7 @@ use Rattle.ns_audit.proofs.Alone.Recording.{record_kept}
 use Rattle.ns_audit.proofs.Alone.Sides.{change}
 use Rattle.ns_types.proofs.Lists.{not_both}
 use Rattle.ns_laws.proofs.CommandLemmas.{job_of, leads_asked}
+use Rattle.ns_laws.proofs.QueueLemmas.{promote_part}
 
 abbrev pub is_ask : Step → Bool
 is_ask (Step.Ask ns secret command) = true
@@ -79,19 +80,7 @@ module _ {Y : Type 0} (of : Tenant → Y)
   own_each = fixed_each of same_evaluations same_allocations
 
   own_promote : (ns job : Name) (w : World) → SameIn of w (promote ns job w)
-  unfolding promote
-  own_promote ns job w k = elim (is_busy w ns job) as
-      (λ b. of_at of (cond b w (option_map_or (λ t. option_map_or (λ n. record w { ready = w.ready ++ (ns, n) ∷ [] }) (first_waiting job t) w)
-      (get w.tenants ns) w)) k ≡ of_at of w k) [ true ↦ refl | false ↦ tenant (get w.tenants ns) ]
-    where
-      waiting : (o : Option ℕ) → of_at of (option_map_or (λ n. record w { ready = w.ready ++ (ns, n) ∷ [] }) o w) k ≡ of_at of w k
-      waiting None = refl
-      waiting (Some n) = refl
-
-      tenant : (o : Option Tenant) → of_at of (option_map_or (λ t. option_map_or (λ n. record w { ready = w.ready ++ (ns, n) ∷ [] }) (first_waiting job t) w)
-          o w) k ≡ of_at of w k
-      tenant None = refl
-      tenant (Some t) = waiting (first_waiting job t)
+  own_promote ns job w k = promote_part (λ y. of_at of y k) (λ y keys. refl) ns job w
 
   -- ---- rows of one namespace
 

@@ -43,7 +43,7 @@ use Rattle.ns_audit.proofs.ValidWorkers.Busy.{IsNumbered}
 use Rattle.ns_audit.proofs.ValidWorkers.Quiet.{Quiet, quiet_carries}
 use Rattle.ns_laws.proofs.CommandLemmas.{leads_administered}
 use Rattle.ns_laws.proofs.Effect.Rows.{settled_rows, settled_tenant}
-use Rattle.ns_laws.proofs.Service.Closing.{promote_tenants}
+use Rattle.ns_laws.proofs.QueueLemmas.{promote_tenants}
 use Rattle.ns_laws.proofs.Service.Lists.{queued_of}
 
 -- ---- the indexes of evaluations

@@ -17,7 +17,7 @@ use Rattle.ns_types.specs.State.Names.{Key, Name, has_key, same_name, same_numbe
 use Rattle.ns_types.specs.State.Rows.{World, Tenant, evaluation_at, is_open}
 use Rattle.ns_types.specs.Validity.{IsSound}
 use Rattle.ns_types.specs.Working.Looks.{worker_at}
-use Rattle.ns_types.specs.Working.Queue.{promote, first_waiting, is_busy}
+use Rattle.ns_types.specs.Working.Queue.{promote}
 use Rattle.ns_types.specs.Working.Work.{without_worker, without_key, is_submitted, most_nacks, with_nack}
 use Rattle.ns_types.specs.Working.Work.{given_back, given_up, nack_for, nack, end_of, has_failed}
 use Rattle.ns_types.specs.Working.Work.{needs_follower, follower_of, without_blocked, ended, with_follower}
@@ -37,6 +37,7 @@ use Rattle.ns_audit.proofs.ValidWorkers.Finish.{with_status_workers, cancel_work
 use Rattle.ns_laws.specs.Ending.{IsDeletionOf}
 use Rattle.ns_laws.specs.Serving as law
 use Rattle.ns_laws.specs.Serving.{IsUnderWay, is_ready, HasOneUnderWay, IsSameEvaluation, ForgetsNone, EvaluationEnds}
+use Rattle.ns_laws.proofs.QueueLemmas.{promote_tenants}
 use Rattle.ns_laws.proofs.Service.Keeping.{longer, last_one, ready_promote, promote_one}
 use Rattle.ns_laws.proofs.Service.Lists.{evaluation_is, row_of_tenant}
 use Rattle.ns_laws.proofs.Service.Rows.{Shift, Shifts, Works, works_same, works_then, works_finish, works_cancel, works_nack, works_follower, HasFinished}
@@ -176,24 +177,6 @@ module _ (w : World) (sound : IsSound w) (ns : Name) (number : ℕ) (t : Tenant)
         by key a a_at (b, b_at, inr p) = inl (b, b_at, record { same = p.1.same; status = turned key a b a_at p.0 p.1.shift })
 
 -- ---- lists
-
-pub promote_tenants : (ns job : Name) (w : World) → (promote ns job w).tenants ≡ w.tenants
-unfolding promote
-promote_tenants ns job w = by (is_busy w ns job)
-  where
-    waiting : (o : Option ℕ) → (option_map_or (λ n. record w { ready = w.ready ++ (ns, n) ∷ [] }) o w).tenants ≡ w.tenants
-    waiting None = refl
-    waiting (Some n) = refl
-
-    tenant : (o : Option Tenant) →
-        (option_map_or (λ t. option_map_or (λ n. record w { ready = w.ready ++ (ns, n) ∷ [] }) (first_waiting job t) w) o w).tenants ≡ w.tenants
-    tenant None = refl
-    tenant (Some t) = waiting (first_waiting job t)
-
-    by : (b : Bool) → (cond b w (option_map_or (λ t. option_map_or (λ n. record w { ready = w.ready ++ (ns, n) ∷ [] }) (first_waiting job t) w)
-        (get w.tenants ns) w)).tenants ≡ w.tenants
-    by true = refl
-    by false = tenant (get w.tenants ns)
 
 unlisted_ready : (ns job : Name) (t : Tenant) (w : World) → (without_blocked ns job t w).ready ≡ w.ready
 unlisted_ready ns job t w = by (blocked_of t job)

@@ -1,5 +1,5 @@
 -- A Finish wakes no evaluation.
-use Rattle.std.specs.Prelude.{◌≡◌, ◌⊎◌, ℕ, Bool, true, false, cond, ◌&&◌, [], ◌∷◌, ◌++◌, Option, Some, None, Ok, option_map}
+use Rattle.std.specs.Prelude.{◌≡◌, ◌⊎◌, ℕ, Bool, true, false, ◌&&◌, Option, Some, None, Ok, option_map}
 use Rattle.std.proofs.Common.{inl, inr, refl, sym, ap, subst, ◌∙◌}
 use Rattle.std.specs.FinMap.{get}
 use Rattle.std.specs.Option.{option_map_or, option_and_then}
@@ -20,7 +20,7 @@ use Rattle.ns_types.specs.State.Resources.{limits_in}
 use Rattle.ns_types.specs.State.Rows.{State, World, Tenant, PoolRows, QuotaRows, evaluation_at, node_at, is_run, is_held, is_open, is_pending, is_blocked}
 use Rattle.ns_types.specs.Steps.{act, after, said}
 use Rattle.ns_types.specs.Validity.{IsLiveAt, IsValid}
-use Rattle.ns_types.specs.Working.Queue.{promote, first_waiting, is_busy}
+use Rattle.ns_types.specs.Working.Queue.{promote}
 use Rattle.ns_types.specs.Working.Work.{end_of, needs_follower, follower_of, without_blocked, without_key, ended, followed, finished, finish_for, finish}
 use Rattle.ns_types.specs.Working.Work.{may_finish, blocked_of}
 use Rattle.ns_types.specs.Working.Worker.{Worker}
@@ -38,6 +38,7 @@ use Rattle.ns_laws.specs.Waking.{StillLives, IsOpen}
 use Rattle.ns_laws.specs.Woken.{GotQuota, GotRoom, HasRoom}
 use Rattle.ns_laws.proofs.Effect.Rows.{settled_allocated, settled_node, settled_there}
 use Rattle.ns_laws.proofs.Endings.Rows.{Same, finish_same}
+use Rattle.ns_laws.proofs.QueueLemmas.{promote_part}
 use Rattle.ns_laws.proofs.Wakes.Queue.{woken_are_called}
 use Rattle.ns_laws.proofs.Service.Lists.{lists_are_true, workers_have_their_own}
 use Rattle.ns_laws.proofs.Service.Laws.{evaluation_goes_on, Settles, settled_to}
@@ -54,22 +55,10 @@ record Tables (w x : World) : Type 0 where
   quotas : x.quotas ≡ w.quotas
 
 tables_promote : (ns job : Name) (w x : World) → Tables w x → Tables w (promote ns job x)
-unfolding promote
-tables_promote ns job w x h = by (is_busy x ns job)
-  where
-    waiting : (o : Option ℕ) → Tables w (option_map_or (λ n. record x { ready = x.ready ++ (ns, n) ∷ [] }) o x)
-    waiting None = h
-    waiting (Some n) = record { pools = h.pools; quotas = h.quotas }
-
-    tenant : (o : Option Tenant) →
-        Tables w (option_map_or (λ t. option_map_or (λ n. record x { ready = x.ready ++ (ns, n) ∷ [] }) (first_waiting job t) x) o x)
-    tenant None = h
-    tenant (Some t) = waiting (first_waiting job t)
-
-    by : (b : Bool) → Tables w (cond b x (option_map_or (λ t. option_map_or (λ n. record x { ready = x.ready ++ (ns, n) ∷ [] }) (first_waiting job t) x)
-        (get x.tenants ns) x))
-    by true = h
-    by false = tenant (get x.tenants ns)
+tables_promote ns job w x h = record {
+  pools = promote_part (λ y. y.pools) (λ y keys. refl) ns job x ∙ h.pools;
+  quotas = promote_part (λ y. y.quotas) (λ y keys. refl) ns job x ∙ h.quotas;
+}
 
 tables_less : (ns job : Name) (t : Tenant) (w : World) → Tables w (without_blocked ns job t w)
 tables_less ns job t w = by (blocked_of t job)

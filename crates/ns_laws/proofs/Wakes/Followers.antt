@@ -1,5 +1,5 @@
 -- A follower that is blocked at Finish has missed no release.
-use Rattle.std.specs.Prelude.{◌≡◌, ℕ, suc, ◌+◌, ◌≤◌, Bool, true, false, cond, ◌&&◌, List, [], ◌∷◌, ◌++◌, Option, Some, None, nat_lt, option_map}
+use Rattle.std.specs.Prelude.{◌≡◌, ℕ, suc, ◌+◌, ◌≤◌, Bool, true, false, cond, ◌&&◌, List, Option, Some, None, nat_lt, option_map}
 use Rattle.std.proofs.Common.{refl, sym, ap, subst, ◌∙◌, inl, inr, arith}
 use Rattle.std.proofs.lemmas.Bool.Decides.{leb_tells}
 use Rattle.std.specs.FinMap.{get, insert}
@@ -22,7 +22,7 @@ use Rattle.ns_types.specs.State.Rows.{Acl, State, World, Tenant, QuotaRows, eval
 use Rattle.ns_types.specs.State.Tables.{any_row}
 use Rattle.ns_types.specs.Steps.{act}
 use Rattle.ns_types.specs.Working.Looks.{worker_at}
-use Rattle.ns_types.specs.Working.Queue.{first_waiting, is_busy, promote}
+use Rattle.ns_types.specs.Working.Queue.{promote}
 use Rattle.ns_types.specs.Working.Work.{blocked_of, cancel_blocked, end_of, ended, finish, finish_for, finished, followed, follower_of, may_finish}
 use Rattle.ns_types.specs.Working.Work.{needs_follower, tied_to, with_follower, without_blocked, without_worker}
 use Rattle.ns_types.specs.Working.Worker.{Worker}
@@ -34,6 +34,7 @@ use Rattle.ns_types.proofs.Tables.{get-map_rows, none_of_any}
 use Rattle.ns_types.proofs.Tests.{and_yes, not_Some, same_Some}
 use Rattle.ns_laws.specs.Waking.{MissedNothing, FollowerMissedNothing}
 use Rattle.ns_audit.proofs.StepLemmas.{made}
+use Rattle.ns_laws.proofs.QueueLemmas.{promote_tenants}
 use Rattle.ns_laws.proofs.Wakes.Waking.{can_use_of, closed_tenant, settled_tenants}
 
 -- ---- what no release after the snapshot says
@@ -140,24 +141,6 @@ lifted acl (Done c x) content own e = record {
   done = ap (λ c. Done c x) (same_Some c content (ap content_of e));
   leads = ap (λ (s : State). s.world) (same_Some (with_world acl x) own (ap made_of e));
 }
-
-promote_tenants : (ns job : Name) (w : World) → (promote ns job w).tenants ≡ w.tenants
-unfolding promote
-promote_tenants ns job w = by (is_busy w ns job)
-  where
-    waiting : (o : Option ℕ) → (option_map_or (λ n. record w { ready = w.ready ++ (ns, n) ∷ [] }) o w).tenants ≡ w.tenants
-    waiting None = refl
-    waiting (Some n) = refl
-
-    tenant : (o : Option Tenant) → (option_map_or (λ t. option_map_or (λ n. record w { ready = w.ready ++ (ns, n) ∷ [] }) (first_waiting job t) w)
-        o w).tenants ≡ w.tenants
-    tenant None = refl
-    tenant (Some t) = waiting (first_waiting job t)
-
-    by : (b : Bool) → (cond b w (option_map_or (λ t. option_map_or (λ n. record w { ready = w.ready ++ (ns, n) ∷ [] }) (first_waiting job t) w)
-        (get w.tenants ns) w)).tenants ≡ w.tenants
-    by true = refl
-    by false = tenant (get w.tenants ns)
 
 status_number : (n : ℕ) (status : Status) (t : Tenant) → (with_status n status t).evaluation_number ≡ t.evaluation_number
 status_number n status t = elim (get t.evaluations n) as

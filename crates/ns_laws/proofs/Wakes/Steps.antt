@@ -1,5 +1,5 @@
 -- No step's own change, but that of a Finish, changes the list of blocked evaluations.
-use Rattle.std.specs.Prelude.{◌≡◌, ◌≢◌, ℕ, ◌+◌, Bool, true, false, cond, ◌&&◌, List, [], ◌∷◌, ◌++◌, Option, Some, None, fold, nat_le}
+use Rattle.std.specs.Prelude.{◌≡◌, ◌≢◌, ℕ, ◌+◌, Bool, true, false, cond, ◌&&◌, List, [], ◌∷◌, Option, Some, None, fold, nat_le}
 use Rattle.std.specs.Prelude.{nat_lt}
 use Rattle.std.proofs.Common.{refl, ◌∙◌}
 use Rattle.std.specs.FinMap.{get}
@@ -36,7 +36,7 @@ use Rattle.ns_types.specs.Working.Commit.{counted, decide, done, done_with, evic
 use Rattle.ns_types.specs.Working.Commit.{refused_whole, with_allocation, with_place}
 use Rattle.ns_types.specs.Working.Commit.{least_of_job, make_up, node_name, part_of, place_all, place_one, place_with, same_victim_job, still_stands, stop_all}
 use Rattle.ns_types.specs.Working.Commit.{victims_of}
-use Rattle.ns_types.specs.Working.Queue.{first_waiting, is_busy, is_served, promote}
+use Rattle.ns_types.specs.Working.Queue.{is_served}
 use Rattle.ns_types.specs.Working.Work.{at_work, dequeue, dequeue_in, is_idle, is_submitted, may_snap, may_submit, most_nacks, nack, nack_for, snap, snap_for}
 use Rattle.ns_types.specs.Working.Work.{submit, submit_for, with_worker, workers_end}
 use Rattle.ns_types.specs.Working.Worker.{Worker}
@@ -45,6 +45,7 @@ use Rattle.ns_types.specs.State.Lists.{first_each}
 use Rattle.ns_types.proofs.Queue.{queue_keeps}
 use Rattle.ns_laws.proofs.CommandLemmas.{leads_administered, leads_asked}
 use Rattle.ns_laws.proofs.Effect.Rows.{Does, does_found, does_if, does_led, does_lift, does_unless}
+use Rattle.ns_laws.proofs.QueueLemmas.{promote_part}
 
 -- ---- changes of worlds
 
@@ -74,24 +75,6 @@ down_keeps : (pool node : Name) (w : World) → (go_down pool node w).blocked �
 unfolding go_down
 down_keeps pool node w = fold_keeps (λ x loss. make loss.0 (λ t. evaluation_for t loss.1 Trigger.NodeUpdate) x)
     (λ x loss. make_keeps loss.0 (λ t. evaluation_for t loss.1 Trigger.NodeUpdate) x) (losses pool node w) (lose pool node w)
-
-promote_keeps : (ns job : Name) (w : World) → (promote ns job w).blocked ≡ w.blocked
-unfolding promote
-promote_keeps ns job w = by (is_busy w ns job)
-  where
-    waits : (o : Option ℕ) → (option_map_or (λ n. record w { ready = w.ready ++ (ns, n) ∷ [] }) o w).blocked ≡ w.blocked
-    waits None = refl
-    waits (Some n) = refl
-
-    in_tenant : (o : Option Tenant) →
-        (option_map_or (λ t. option_map_or (λ n. record w { ready = w.ready ++ (ns, n) ∷ [] }) (first_waiting job t) w) o w).blocked ≡ w.blocked
-    in_tenant None = refl
-    in_tenant (Some t) = waits (first_waiting job t)
-
-    by : (b : Bool) → (cond b w (option_map_or (λ t. option_map_or (λ n. record w { ready = w.ready ++ (ns, n) ∷ [] }) (first_waiting job t) w)
-        (get w.tenants ns) w)).blocked ≡ w.blocked
-    by true = refl
-    by false = in_tenant (get w.tenants ns)
 
 -- ---- Apply
 
@@ -240,7 +223,7 @@ module _ (w : World) where
   nack_keeps : (number : ℕ) (ns : Name) → Does (Keeps w) (nack number ns w)
   unfolding nack
   nack_keeps number ns = does_work w number ns (nack_for number ns w) (λ t worker e. does_if (Keeps w) (is_submitted worker.phase) _ _ (λ _. tt)
-      (λ _. does_if (Keeps w) (nat_le most_nacks (e.nacks + 1)) _ _ (λ _. promote_keeps ns e.job _) (λ _. refl)))
+      (λ _. does_if (Keeps w) (nat_le most_nacks (e.nacks + 1)) _ _ (λ _. promote_part (λ y. y.blocked) (λ y keys. refl) ns e.job _) (λ _. refl)))
 
 -- ---- steps
 

@@ -35,6 +35,7 @@ use Rattle.ns_audit.proofs.Steady.Finish.{same_blocked, shut_end}
 use Rattle.ns_types.proofs.Classes.{by_class, one_class}
 use Rattle.ns_laws.specs.Workers as law
 use Rattle.ns_laws.specs.Workers.{MissedRelease, of_class, of_quota}
+use Rattle.ns_laws.proofs.QueueLemmas.{promote_part}
 use Rattle.ns_laws.proofs.Refusal.Tests.{Row, tells_plainly, tells_rows}
 use Rattle.ns_laws.proofs.Wakes.Reasons.{may_use}
 use Rattle.ns_laws.specs.Workers.{Cancels, none_there, one_there, EndsAs, is_failed, is_complete, FollowerLeads, none_needed, follower_blocked}
@@ -44,7 +45,7 @@ use Rattle.ns_laws.proofs.OrderedLemmas.{first_row, none_passes}
 use Rattle.ns_laws.proofs.Plans.ApplyStep.{does_or}
 use Rattle.ns_laws.proofs.Work.Followers.{is_zero, not_zero, waits_for}
 use Rattle.ns_laws.proofs.Work.Nack.{ends, ends_evaluation, ends_former, ends_idle, ends_number}
-use Rattle.ns_laws.proofs.Work.Nack.{may_promote, number_there, number_elsewhere, pending_is, promote_part}
+use Rattle.ns_laws.proofs.Work.Nack.{may_promote, number_there, number_elsewhere, pending_is}
 use Rattle.ns_laws.proofs.Work.Rows.{at_work_does, settles_one, stays_in, taken_out, wakes_nothing, work_does}
 
 -- ---- statuses

@@ -1,5 +1,5 @@
 -- What a nack changes, and what it leaves as it was.
-use Rattle.std.specs.Prelude.{◌≡◌, ◌≢◌, ℕ, ◌+◌, ◌<◌, ◌≤◌, Bool, true, false, cond, List, [], ◌∷◌, ◌++◌, Option, Some, None, nat_le, option_map}
+use Rattle.std.specs.Prelude.{◌≡◌, ◌≢◌, ℕ, ◌+◌, ◌<◌, ◌≤◌, Bool, true, false, cond, [], ◌∷◌, ◌++◌, Option, Some, None, nat_le, option_map}
 use Rattle.std.proofs.Common.{refl, sym, ap, subst, ◌∙◌, inl, inr}
 use Rattle.std.proofs.lemmas.Bool.Decides.{leb_tells}
 use Rattle.std.specs.FinMap.{get, insert, remove, get-remove, same_map}
@@ -13,7 +13,7 @@ use Rattle.ns_types.specs.Settling.Making.{put_tenant, with_status}
 use Rattle.ns_types.specs.Settling.Outcome.{NotEnabled}
 use Rattle.ns_types.specs.Settling.Releases.{woken}
 use Rattle.ns_types.specs.Settling.Settle.{wake, changes_evaluation, created_at, is_touched, settle, stamp_tenant, stamped, stamped_evaluation}
-use Rattle.ns_types.specs.State.Names.{Key, Name, ByNumber}
+use Rattle.ns_types.specs.State.Names.{Name, ByNumber}
 use Rattle.ns_types.specs.State.Rows.{State, World, Tenant, is_pending}
 use Rattle.ns_types.specs.Steps.{reply_of}
 use Rattle.ns_types.specs.Working.Queue.{first_waiting, is_busy, promote}
@@ -30,6 +30,7 @@ use Rattle.ns_laws.specs.Workers.{GivesUp, HasEvaluation, IsNacked, MayPromote, 
 use Rattle.ns_laws.proofs.Effect.Rows.{Does, does_if, put_there, stamp_keeps, stamped_former}
 use Rattle.ns_laws.specs.Woken.{IsTaken}
 use Rattle.ns_laws.proofs.OrderedLemmas.{first_waiting_is_least, none_waits_of_none}
+use Rattle.ns_laws.proofs.QueueLemmas.{promote_part}
 use Rattle.ns_laws.proofs.Wakes.Reasons.{taken_by, waked, was_stamped}
 use Rattle.ns_laws.proofs.Work.Rows.{at_work_does, settles_one, stays_in, wakes_nothing, work_does}
 
@@ -93,24 +94,6 @@ module _ (t u : Tenant) where
     }
 
 -- ---- which evaluation of a job becomes ready
-
-pub promote_part : {A : Type 0} (part : World → A) → ((w : World) (keys : List Key) → part (record w { ready = keys }) ≡ part w) →
-    (ns job : Name) (w : World) → part (promote ns job w) ≡ part w
-unfolding promote
-promote_part part keeps ns job w = by (is_busy w ns job)
-  where
-    waiting : (o : Option ℕ) → part (option_map_or (λ n. record w { ready = w.ready ++ (ns, n) ∷ [] }) o w) ≡ part w
-    waiting None = refl
-    waiting (Some n) = keeps w (w.ready ++ (ns, n) ∷ [])
-
-    tenant : (o : Option Tenant) → part (option_map_or (λ t. option_map_or (λ n. record w { ready = w.ready ++ (ns, n) ∷ [] }) (first_waiting job t) w) o w) ≡ part w
-    tenant None = refl
-    tenant (Some t) = waiting (first_waiting job t)
-
-    by : (b : Bool) → part (cond b w (option_map_or (λ t. option_map_or (λ n. record w { ready = w.ready ++ (ns, n) ∷ [] }) (first_waiting job t) w)
-        (get w.tenants ns) w)) ≡ part w
-    by true = refl
-    by false = tenant (get w.tenants ns)
 
 pub pending_is : (status : Status) → is_pending status ≡ true → status ≡ Status.Pending
 pending_is Status.Pending e = refl
