@@ -2,5 +2,6 @@
 pub mod BegunRows
 pub mod Laws
 pub mod OwnChanges
+pub mod Stamps
 pub mod StepRows
 pub mod UnchangedRows

@@ -1,5 +1,5 @@
 -- The index of a namespace, its events and the indexes of its rows, over any step.
-use Rattle.std.specs.Prelude.{◌≡◌, ◌⊎◌, ℕ, ◌+◌, ◌≤◌, Bool, true, false, cond, not, ◌&&◌, ◌||◌, List, [], ◌∷◌, ◌++◌, Option, Some, None, Ok, Err}
+use Rattle.std.specs.Prelude.{◌≡◌, ◌⊎◌, ℕ, ◌+◌, ◌≤◌, Bool, true, false, cond, ◌&&◌, ◌||◌, List, [], ◌∷◌, ◌++◌, Option, Some, None, Ok, Err}
 use Rattle.std.specs.Prelude.{drop, zero, suc, filter, find, is_some, map, nat_le, option_map}
 use Rattle.std.proofs.Common.{refl, sym, ap, subst, ◌∙◌, inl, inr, arith}
 use Rattle.std.specs.FinMap.{get, entries, from_entries, get-empty, contains_key, empty}
@@ -24,7 +24,7 @@ use Rattle.ns_types.specs.Settling.Releases.{woken}
 use Rattle.ns_types.specs.Settling.Same.{same_job, same_evaluation, same_allocation, same_flag}
 use Rattle.ns_types.specs.Settling.Settle.{unblocked_in, woken_row, is_changed, changes_job, changes_evaluation}
 use Rattle.ns_types.specs.Settling.Settle.{changes_allocation, is_touched, topics_of, events_of, created_at}
-use Rattle.ns_types.specs.Settling.Settle.{stamped_evaluation, stamped_allocation, stamped, stamp_tenant, job_ids, job_topic}
+use Rattle.ns_types.specs.Settling.Settle.{stamped, stamp_tenant, job_ids, job_topic}
 use Rattle.ns_types.specs.State.Lists.{Each, is_empty, last}
 use Rattle.ns_types.specs.State.Names.{Name, Key, ByName, same_name, same_number, name_cmp, default_name}
 use Rattle.ns_types.specs.State.Resources.{same_resources, quantity}
@@ -38,13 +38,12 @@ use Rattle.ns_types.proofs.Amounts.{true_at, same_amounts}
 use Rattle.ns_types.proofs.Alike.{same_job_refl}
 use Rattle.ns_types.proofs.Elements.{each_append, each_from_all, each_kept, each_mapped, each_true, any_map}
 use Rattle.ns_types.proofs.Leads.{Leads}
-use Rattle.ns_types.proofs.Lists.{not_both, left_none, right_none, each_map, any_is}
+use Rattle.ns_types.proofs.Lists.{not_both, left_none, right_none, each_map}
 use Rattle.ns_types.proofs.Named.{names, one_name, numbers, one_number, same_name_is, first_of_both, second_of_both}
 use Rattle.ns_types.proofs.Settling.{unchanged}
 use Rattle.ns_types.proofs.TableRows.{row_of_insert, get_joined}
-use Rattle.ns_types.proofs.Tables.{each_row, none_of_any, any_row-none, get-map_rows, tied}
+use Rattle.ns_types.proofs.Tables.{none_of_any, any_row-none, get-map_rows, tied}
 use Rattle.ns_types.proofs.Tests.{not_Some, same_Some, is_yes}
-use Rattle.ns_audit.proofs.Steady.Keeping.{row_of_map}
 use Rattle.ns_audit.proofs.Valid.{opening_is_valid, valid_step}
 use Rattle.ns_laws.specs.Indexes as law
 use Rattle.ns_laws.specs.Indexes.{Rests, Rises, Ascends, IsStamped, WasEvaluation, WasAllocation}
@@ -52,6 +51,8 @@ use Rattle.ns_laws.proofs.Effect.Documents.{document_is, client_is}
 use Rattle.ns_laws.proofs.Effect.Rows.{settled_rows, settled_tenant}
 use Rattle.ns_laws.proofs.Elements.{Has, append_has, contains_from, filter_has, map_has}
 use Rattle.ns_laws.proofs.Index.BegunRows.{BeginsIn, Begun, Ends, IsDated, act_begins, ends, goes, stays}
+use Rattle.ns_laws.proofs.Index.Stamps.{changed_row, dated_allocation, dated_evaluation, row_changed}
+use Rattle.ns_laws.proofs.Index.Stamps.{each_row_topic, no_map, no_row_topic, none_kept, row_topic}
 use Rattle.ns_laws.proofs.ReadsLemmas.{has_row}
 use Rattle.ns_audit.proofs.StepLemmas.{made, refusal_leaves_all}
 
@@ -200,6 +201,13 @@ same_allocation_was old n a b was e =
       client = sym (client_is a.client b.client ten.1);
     }
 
+-- an evaluation, and an allocation, that did not change is as it was
+evaluation_was : (old : Tenant) (n : ℕ) (x : Evaluation) → changes_evaluation old n x ≡ false → WasEvaluation old n x
+evaluation_was old n x e = let u = unchanged_was same_evaluation (get old.evaluations n) x e in same_evaluation_was old n u.0 x u.1 u.2
+
+allocation_was : (old : Tenant) (n : ℕ) (x : Allocation) → changes_allocation old n x ≡ false → WasAllocation old n x
+allocation_was old n x e = let u = unchanged_was same_allocation (get old.allocations n) x e in same_allocation_was old n u.0 x u.1 u.2
+
 -- ---- what is told
 
 told : (index : ℕ) (topics : List Topic) → Each (λ (event : Event). event.index ≡ index) (map (λ topic. record { index = index; topic = topic }) topics)
@@ -267,37 +275,21 @@ module _ (old t : Tenant) (begun : Begun old t) where
 
   evaluation_dated : (b : Bool) → is_touched old t ≡ b → (n : ℕ) (e : Evaluation) → get (at_end b).evaluations n ≡ Some e →
       WasEvaluation old n e ⊎ IsStampedEvaluation old (at_end b) n e
-  evaluation_dated true touched n e at =
-      let row = row_of_map numbers one_number (stamped_evaluation index old) t.evaluations n e at in
-      subst (λ (x : Evaluation). WasEvaluation old n x ⊎ IsStampedEvaluation old (at_end true) n x) row.2 (by row.0 (changes_evaluation old n row.0) refl)
-    where
-      by : (x : Evaluation) (b : Bool) → changes_evaluation old n x ≡ b →
-          WasEvaluation old n (cond b (record x { create_index = created_at index (get old.evaluations n) (λ (o : Evaluation). o.create_index); modify_index = index }) x)
-          ⊎ IsStampedEvaluation old (at_end true) n
-          (cond b (record x { create_index = created_at index (get old.evaluations n) (λ (o : Evaluation). o.create_index); modify_index = index }) x)
-      by x true is = inr (record { rises = refl; modified = refl; created = created_so (λ (o : Evaluation). o.create_index) index (get old.evaluations n) })
-      by x false is = let u = unchanged_was same_evaluation (get old.evaluations n) x is in inl (same_evaluation_was old n u.0 x u.1 u.2)
+  evaluation_dated true touched n e at = row_changed same_evaluation (λ e. e.create_index) dated_evaluation index old.evaluations t.evaluations
+      (λ (e : Evaluation). WasEvaluation old n e ⊎ IsStampedEvaluation old (at_end true) n e) n
+      (λ x _ _. inr (record { rises = refl; modified = refl; created = created_so (λ (o : Evaluation). o.create_index) index (get old.evaluations n) }))
+      (λ x _ same. inl (evaluation_was old n x same)) e at
   evaluation_dated false touched n e at =
-      let u = unchanged_was same_evaluation (get old.evaluations n) e
-      (none_of_any one_number (changes_evaluation old) t.evaluations n e (no_evaluation touched) at) in
-      inl (same_evaluation_was old n u.0 e u.1 u.2)
+      inl (evaluation_was old n e (none_of_any one_number (changes_evaluation old) t.evaluations n e (no_evaluation touched) at))
 
   allocation_dated : (b : Bool) → is_touched old t ≡ b → (n : ℕ) (a : Allocation) → get (at_end b).allocations n ≡ Some a →
       WasAllocation old n a ⊎ IsStampedAllocation old (at_end b) n a
-  allocation_dated true touched n a at =
-      let row = row_of_map numbers one_number (stamped_allocation index old) t.allocations n a at in
-      subst (λ (x : Allocation). WasAllocation old n x ⊎ IsStampedAllocation old (at_end true) n x) row.2 (by row.0 (changes_allocation old n row.0) refl)
-    where
-      by : (x : Allocation) (b : Bool) → changes_allocation old n x ≡ b →
-          WasAllocation old n (cond b (record x { create_index = created_at index (get old.allocations n) (λ (o : Allocation). o.create_index); modify_index = index }) x)
-          ⊎ IsStampedAllocation old (at_end true) n
-          (cond b (record x { create_index = created_at index (get old.allocations n) (λ (o : Allocation). o.create_index); modify_index = index }) x)
-      by x true is = inr (record { rises = refl; modified = refl; created = created_so (λ (o : Allocation). o.create_index) index (get old.allocations n) })
-      by x false is = let u = unchanged_was same_allocation (get old.allocations n) x is in inl (same_allocation_was old n u.0 x u.1 u.2)
+  allocation_dated true touched n a at = row_changed same_allocation (λ a. a.create_index) dated_allocation index old.allocations t.allocations
+      (λ (a : Allocation). WasAllocation old n a ⊎ IsStampedAllocation old (at_end true) n a) n
+      (λ x _ _. inr (record { rises = refl; modified = refl; created = created_so (λ (o : Allocation). o.create_index) index (get old.allocations n) }))
+      (λ x _ same. inl (allocation_was old n x same)) a at
   allocation_dated false touched n a at =
-      let u = unchanged_was same_allocation (get old.allocations n) a
-      (none_of_any one_number (changes_allocation old) t.allocations n a (no_allocation touched) at) in
-      inl (same_allocation_was old n u.0 a u.1 u.2)
+      inl (allocation_was old n a (none_of_any one_number (changes_allocation old) t.allocations n a (no_allocation touched) at))
 
 -- ---- the rows
 
@@ -369,13 +361,6 @@ no_append : {X : Type 0} (xs ys : List X) → xs ++ ys ≡ [] → (xs ≡ []) ×
 no_append [] ys e = (refl, e)
 no_append (x ∷ xs) ys e = not_both (ap is_empty e) refl
 
-no_map : {X Y : Type 0} (f : X → Y) (xs : List X) → map f xs ≡ [] → xs ≡ []
-no_map f [] e = refl
-no_map f (x ∷ xs) e = not_both (ap is_empty e) refl
-
-none_kept : {X : Type 0} (p : X → Bool) (xs : List X) → filter p xs ≡ [] → list_any p xs ≡ false
-none_kept p xs e = any_is p xs ∙ ap (λ l. not (is_empty l)) e
-
 module _ (old t : Tenant) where
   abbrev changes : Name → Job → Bool
   changes id _ = changes_job old t id
@@ -410,17 +395,12 @@ module _ (old t : Tenant) where
   of_allocations = map (λ a. Topic.AllocationUpdated a.0) (filter (λ a. changes_allocation old a.0 a.1) (entries t.allocations))
 
   none_touched : topics_of old t ≡ [] → is_touched old t ≡ false
-  unfolding any_row
   none_touched e =
       let first = no_append (of_jobs ++ of_evaluations) of_allocations e in
       let second = no_append of_jobs of_evaluations first.0 in
       let jobs = none_joined (none_kept (changes_job old t) (job_ids old t) (no_map (job_topic t) _ second.0)) in
-      let evaluations : list_any (λ (x : ℕ × Evaluation). changes_evaluation old x.0 x.1) (entries t.evaluations) ≡ false =
-      none_kept (λ (x : ℕ × Evaluation). changes_evaluation old x.0 x.1) (entries t.evaluations)
-      (no_map (λ (x : ℕ × Evaluation). Topic.EvaluationUpdated x.0) _ second.1) in
-      let allocations : list_any (λ (x : ℕ × Allocation). changes_allocation old x.0 x.1) (entries t.allocations) ≡ false =
-      none_kept (λ (x : ℕ × Allocation). changes_allocation old x.0 x.1) (entries t.allocations)
-      (no_map (λ (x : ℕ × Allocation). Topic.AllocationUpdated x.0) _ first.1) in
+      let evaluations = no_row_topic (changes_evaluation old) Topic.EvaluationUpdated t.evaluations second.1 in
+      let allocations = no_row_topic (changes_allocation old) Topic.AllocationUpdated t.allocations first.1 in
       λ i. no_new_job jobs i || no_old_job jobs i || evaluations i || allocations i
 
 module _ (old t : Tenant) (begun : Begun old t) where
@@ -442,17 +422,13 @@ module _ (old t : Tenant) (begun : Begun old t) where
   tells_evaluation : (n : ℕ) (x : Evaluation) → get t.evaluations n ≡ Some x → changes_evaluation old n x ≡ true →
       law.HasEvent ended their_events (Topic.EvaluationUpdated n)
   tells_evaluation n x at changed = tells (Topic.EvaluationUpdated n) (append_has (of_jobs old t ++ of_evaluations old t) (of_allocations old t) _
-      (inl (append_has (of_jobs old t) (of_evaluations old t) _ (inr (map_has (λ (e : ℕ × Evaluation). Topic.EvaluationUpdated e.0)
-      (filter (λ e. changes_evaluation old e.0 e.1) (entries t.evaluations)) (n, x)
-      (filter_has (λ (e : ℕ × Evaluation). changes_evaluation old e.0 e.1) (entries t.evaluations) (n, x)
-      (has_row one_number t.evaluations n x at) changed))))))
+      (inl (append_has (of_jobs old t) (of_evaluations old t) _
+      (inr (row_topic (changes_evaluation old) Topic.EvaluationUpdated t.evaluations n x at changed)))))
 
   tells_allocation : (n : ℕ) (x : Allocation) → get t.allocations n ≡ Some x → changes_allocation old n x ≡ true →
       law.HasEvent ended their_events (Topic.AllocationUpdated n)
   tells_allocation n x at changed = tells (Topic.AllocationUpdated n) (append_has (of_jobs old t ++ of_evaluations old t) (of_allocations old t) _
-      (inr (map_has (λ (a : ℕ × Allocation). Topic.AllocationUpdated a.0) (filter (λ a. changes_allocation old a.0 a.1) (entries t.allocations)) (n, x)
-      (filter_has (λ (a : ℕ × Allocation). changes_allocation old a.0 a.1) (entries t.allocations) (n, x)
-      (has_row one_number t.allocations n x at) changed))))
+      (inr (row_topic (changes_allocation old) Topic.AllocationUpdated t.allocations n x at changed)))
 
   topic_is : (id : Name) (b : Bool) → option_map_or (λ (job : Job). job.stop) (get t.jobs id) true ≡ b → job_topic t id ≡ law.topic_of b id
   topic_is id true e = ap (λ b. cond b (Topic.JobDeregistered id) (Topic.JobRegistered id)) e
@@ -476,32 +452,14 @@ module _ (old t : Tenant) (begun : Begun old t) where
       (ap (λ o. option_map_or (is_changed same_job (get old.jobs id)) o (contains_key old.jobs id)) gone ∙ ap is_some was))
 
   evaluation_told : (n : ℕ) (e : Evaluation) → get ended.evaluations n ≡ Some e → WasEvaluation old n e ⊎ law.HasEvent ended their_events (Topic.EvaluationUpdated n)
-  evaluation_told n e at =
-      let row = row_of_map numbers one_number (stamped_evaluation (old.index + 1) old) t.evaluations n e at in
-      by row.0 row.1 row.2 (changes_evaluation old n row.0) refl
-    where
-      by : (x : Evaluation) → get t.evaluations n ≡ Some x → stamped_evaluation (old.index + 1) old n x ≡ e → (b : Bool) → changes_evaluation old n x ≡ b →
-          WasEvaluation old n e ⊎ law.HasEvent ended their_events (Topic.EvaluationUpdated n)
-      by x has is true changed = inr (tells_evaluation n x has changed)
-      by x has is false same = let u = unchanged_was same_evaluation (get old.evaluations n) x same in
-          inl (subst (WasEvaluation old n) (sym (ap (λ b. cond b (record x {
-            create_index = created_at (old.index + 1) (get old.evaluations n) (λ (o : Evaluation). o.create_index);
-            modify_index = old.index + 1;
-          }) x) same) ∙ is) (same_evaluation_was old n u.0 x u.1 u.2))
+  evaluation_told n e at = row_changed same_evaluation (λ e. e.create_index) dated_evaluation (old.index + 1) old.evaluations t.evaluations
+      (λ e. WasEvaluation old n e ⊎ law.HasEvent ended their_events (Topic.EvaluationUpdated n)) n
+      (λ x has changed. inr (tells_evaluation n x has changed)) (λ x has same. inl (evaluation_was old n x same)) e at
 
   allocation_told : (n : ℕ) (a : Allocation) → get ended.allocations n ≡ Some a → WasAllocation old n a ⊎ law.HasEvent ended their_events (Topic.AllocationUpdated n)
-  allocation_told n a at =
-      let row = row_of_map numbers one_number (stamped_allocation (old.index + 1) old) t.allocations n a at in
-      by row.0 row.1 row.2 (changes_allocation old n row.0) refl
-    where
-      by : (x : Allocation) → get t.allocations n ≡ Some x → stamped_allocation (old.index + 1) old n x ≡ a → (b : Bool) → changes_allocation old n x ≡ b →
-          WasAllocation old n a ⊎ law.HasEvent ended their_events (Topic.AllocationUpdated n)
-      by x has is true changed = inr (tells_allocation n x has changed)
-      by x has is false same = let u = unchanged_was same_allocation (get old.allocations n) x same in
-          inl (subst (WasAllocation old n) (sym (ap (λ b. cond b (record x {
-            create_index = created_at (old.index + 1) (get old.allocations n) (λ (o : Allocation). o.create_index);
-            modify_index = old.index + 1;
-          }) x) same) ∙ is) (same_allocation_was old n u.0 x u.1 u.2))
+  allocation_told n a at = row_changed same_allocation (λ a. a.create_index) dated_allocation (old.index + 1) old.allocations t.allocations
+      (λ a. WasAllocation old n a ⊎ law.HasEvent ended their_events (Topic.AllocationUpdated n)) n
+      (λ x has changed. inr (tells_allocation n x has changed)) (λ x has same. inl (allocation_was old n x same)) a at
 
 module _ (old t : Tenant) (begun : Begun old t) where
   abbrev Changed : Topic → Type 0
@@ -529,25 +487,15 @@ module _ (old t : Tenant) (begun : Begun old t) where
 
   changed_evaluation : (n : ℕ) (x : Evaluation) → get t.evaluations n ≡ Some x → changes_evaluation old n x ≡ true → Changed (Topic.EvaluationUpdated n)
   changed_evaluation n x at changed = (
-    record x { create_index = created_at (old.index + 1) (get old.evaluations n) (λ (o : Evaluation). o.create_index); modify_index = old.index + 1 },
-    get-map_rows numbers one_number (stamped_evaluation (old.index + 1) old) t.evaluations n
-        ∙ ap (option_map (stamped_evaluation (old.index + 1) old n)) at
-        ∙ ap (λ b. Some (cond b (record x {
-          create_index = created_at (old.index + 1) (get old.evaluations n) (λ (o : Evaluation). o.create_index);
-          modify_index = old.index + 1;
-        }) x)) changed,
+    _,
+    changed_row same_evaluation (λ e. e.create_index) dated_evaluation (old.index + 1) old.evaluations t.evaluations n x at changed,
     refl,
   )
 
   changed_allocation : (n : ℕ) (x : Allocation) → get t.allocations n ≡ Some x → changes_allocation old n x ≡ true → Changed (Topic.AllocationUpdated n)
   changed_allocation n x at changed = (
-    record x { create_index = created_at (old.index + 1) (get old.allocations n) (λ (o : Allocation). o.create_index); modify_index = old.index + 1 },
-    get-map_rows numbers one_number (stamped_allocation (old.index + 1) old) t.allocations n
-        ∙ ap (option_map (stamped_allocation (old.index + 1) old n)) at
-        ∙ ap (λ b. Some (cond b (record x {
-          create_index = created_at (old.index + 1) (get old.allocations n) (λ (o : Allocation). o.create_index);
-          modify_index = old.index + 1;
-        }) x)) changed,
+    _,
+    changed_row same_allocation (λ a. a.create_index) dated_allocation (old.index + 1) old.allocations t.allocations n x at changed,
     refl,
   )
 
@@ -557,20 +505,10 @@ module _ (old t : Tenant) (begun : Begun old t) where
       (each_kept (λ _. Unit {0}) (changes_job old t) (job_ids old t) (each_true (job_ids old t))))
 
   evaluation_topics : Each Changed (of_evaluations old t)
-  evaluation_topics =
-      let p : ℕ × Evaluation → Bool = (λ e. changes_evaluation old e.0 e.1) in
-      each_mapped Changed (λ (e : ℕ × Evaluation). Topic.EvaluationUpdated e.0) (filter p (entries t.evaluations))
-      (each_map (λ e h. changed_evaluation e.0 e.1 h.0 h.1) (filter p (entries t.evaluations))
-      (each_kept (λ e. get t.evaluations e.0 ≡ Some e.1) p (entries t.evaluations)
-      (each_row numbers one_number (λ n x. get t.evaluations n ≡ Some x) t.evaluations (λ n x at. at))))
+  evaluation_topics = each_row_topic (changes_evaluation old) Topic.EvaluationUpdated t.evaluations Changed changed_evaluation
 
   allocation_topics : Each Changed (of_allocations old t)
-  allocation_topics =
-      let p : ℕ × Allocation → Bool = (λ a. changes_allocation old a.0 a.1) in
-      each_mapped Changed (λ (a : ℕ × Allocation). Topic.AllocationUpdated a.0) (filter p (entries t.allocations))
-      (each_map (λ a h. changed_allocation a.0 a.1 h.0 h.1) (filter p (entries t.allocations))
-      (each_kept (λ a. get t.allocations a.0 ≡ Some a.1) p (entries t.allocations)
-      (each_row numbers one_number (λ n x. get t.allocations n ≡ Some x) t.allocations (λ n x at. at))))
+  allocation_topics = each_row_topic (changes_allocation old) Topic.AllocationUpdated t.allocations Changed changed_allocation
 
   tells_no_other : Each (λ event. Changed event.topic) (their_events old t begun)
   tells_no_other = each_mapped (λ (event : Event). Changed event.topic) (λ topic. record { index = old.index + 1; topic = topic }) (topics_of old t)

@@ -18,8 +18,8 @@ use Rattle.ns_types.specs.Settling.Making.{make_in, with_desired, with_job}
 use Rattle.ns_types.specs.Settling.Outcome.{Outcome, lift}
 use Rattle.ns_types.specs.Settling.Releases.{woken}
 use Rattle.ns_types.specs.Settling.Same.{same_allocation, same_document, same_evaluation, same_flag}
-use Rattle.ns_types.specs.Settling.Settle.{changes_allocation, changes_evaluation, created_at, is_changed, is_touched, pending, stamp_tenant, stamped}
-use Rattle.ns_types.specs.Settling.Settle.{stamped_allocation, stamped_evaluation, unblocked_in, woken_row}
+use Rattle.ns_types.specs.Settling.Settle.{is_touched, pending, stamp_tenant, stamped}
+use Rattle.ns_types.specs.Settling.Settle.{stamped_allocation, unblocked_in, woken_row}
 use Rattle.ns_types.specs.State.Names.{Key, Name, has_key, same_name, same_number}
 use Rattle.ns_types.specs.State.Resources.{same_resources}
 use Rattle.ns_types.specs.State.Rows.{State, Tenant, World, allocation_at}
@@ -32,7 +32,7 @@ use Rattle.ns_types.proofs.Lists.{not_both}
 use Rattle.ns_types.proofs.Named.{names, one_name, numbers, one_number}
 use Rattle.ns_types.proofs.TableRows.{row_of_insert, row_of_remove}
 use Rattle.ns_types.proofs.Tables.{get-map_rows}
-use Rattle.ns_types.proofs.Tests.{is_no, not_Some, same_Some}
+use Rattle.ns_types.proofs.Tests.{not_Some, same_Some}
 use Rattle.ns_audit.proofs.Alone.Fixed.{SameIn}
 use Rattle.ns_audit.proofs.Alone.Sides.{act_is, change}
 use Rattle.ns_audit.proofs.ValidAllocations.Going.{Onward, onward_make_in, onward_same}
@@ -42,6 +42,7 @@ use Rattle.ns_laws.proofs.CommandLemmas.{job_of, leads_asked}
 use Rattle.ns_laws.proofs.Endings.Change.{Change, asks, cuts, deletes, evicts, left, loses, places, plans, reports, rests, stops}
 use Rattle.ns_laws.proofs.Endings.Steps.{MovesIn, act_moves}
 use Rattle.ns_laws.proofs.Index.OwnChanges.{change_fixed, is_ask}
+use Rattle.ns_laws.proofs.Index.Stamps.{dated_allocation, dated_evaluation, row_kept}
 use Rattle.ns_laws.proofs.Index.StepRows.{Closes, Comes, Left, LeavesIn, SameDates, WalksIn, act_walks}
 use Rattle.ns_laws.proofs.Index.StepRows.{added, admin_leaves, begins, closes, goes, stayed, Leaves}
 
@@ -59,28 +60,16 @@ was_the_same old n e was =
     && option_eq same_name b.quota (was.quota i) && same_flag b.escapes (was.escapes i))
     ∙ same_evaluation_refl b
 
--- the end of a step leaves the indexes of a row that is shown as it was before
+-- the end of a step leaves a row that is shown as it was before
 evaluation_kept : (old t : Tenant) (n : ℕ) (before d e : Evaluation) → get old.evaluations n ≡ Some before → get t.evaluations n ≡ Some d →
-    get (stamp_tenant (Some old) t).evaluations n ≡ Some e → same_evaluation before e ≡ true → SameDates d e
+    get (stamp_tenant (Some old) t).evaluations n ≡ Some e → same_evaluation before e ≡ true → d ≡ e
 unfolding stamp_tenant same_evaluation
 evaluation_kept old t n before d e was own now same = by (is_touched old t) now
   where
-    new : Evaluation
-    new = record d { create_index = created_at (old.index + 1) (get old.evaluations n) (λ (o : Evaluation). o.create_index); modify_index = old.index + 1 }
-
-    at_rest : d ≡ e → SameDates d e
-    at_rest is = record { created = ap (λ (e : Evaluation). e.create_index) (sym is); modified = ap (λ (e : Evaluation). e.modify_index) (sym is) }
-
-    row : (c : Bool) → changes_evaluation old n d ≡ c → cond c new d ≡ e → SameDates d e
-    row true changed is = not_both (ap (same_evaluation before) is ∙ same)
-        (is_no (same_evaluation before d) (sym (ap (λ o. is_changed same_evaluation o d) was) ∙ changed))
-    row false changed is = at_rest is
-
-    by : (b : Bool) → get (cond b (stamped (old.index + 1) old t) t).evaluations n ≡ Some e → SameDates d e
-    by true at = row (changes_evaluation old n d) refl
-        (same_Some _ e (sym (get-map_rows numbers one_number (stamped_evaluation (old.index + 1) old) t.evaluations n
-        ∙ ap (option_map (stamped_evaluation (old.index + 1) old n)) own) ∙ at))
-    by false at = at_rest (same_Some d e (sym own ∙ at))
+    by : (b : Bool) → get (cond b (stamped (old.index + 1) old t) t).evaluations n ≡ Some e → d ≡ e
+    by true at = row_kept same_evaluation (λ x. x.create_index) dated_evaluation (old.index + 1) old.evaluations t.evaluations (λ _ _ _ _. refl)
+        n before d e was own at same
+    by false at = same_Some d e (sym own ∙ at)
 
 pub unchanged_evaluations_keep_indexes : law.UnchangedEvaluationsKeepIndexes
 unchanged_evaluations_keep_indexes step s s' ns old now n e valid h at was =
@@ -112,7 +101,10 @@ unchanged_evaluations_keep_indexes step s s' ns old now n e valid h at was =
             (ap (λ o. get (stamp_tenant o u).evaluations n) (sym h.was_there) ∙ ap (λ (t : Tenant). get t.evaluations n) c.is_now ∙ at)
             (was_the_same old n e was) in
             let w = woken_dates wakes b.0 in
-            (d.created ∙ w.created ∙ b.2.created, d.modified ∙ w.modified ∙ b.2.modified)
+            (
+              ap (λ (e : Evaluation). e.create_index) (sym d) ∙ w.created ∙ b.2.created,
+              ap (λ (e : Evaluation). e.modify_index) (sym d) ∙ w.modified ∙ b.2.modified,
+            )
           where
             woken_dates : (c : Bool) (b : Evaluation) → SameDates b (cond c (pending b) b)
             woken_dates true b = record { created = refl; modified = refl }
@@ -143,24 +135,15 @@ record SameTimes (a b : Allocation) : Type 0 where
 times_of : (a b : Allocation) → a ≡ b → SameTimes a b
 times_of a b is = record { created = ap (λ (a : Allocation). a.create_index) (sym is); modified = ap (λ (a : Allocation). a.modify_index) (sym is) }
 
-allocation_kept : (old t : Tenant) (n : ℕ) (before b c : Allocation) → get old.allocations n ≡ Some before → get t.allocations n ≡ Some b →
-    get (stamp_tenant (Some old) t).allocations n ≡ Some c → same_allocation before c ≡ true → SameTimes b c
+allocation_kept : (old t : Tenant) (n : ℕ) (before d e : Allocation) → get old.allocations n ≡ Some before → get t.allocations n ≡ Some d →
+    get (stamp_tenant (Some old) t).allocations n ≡ Some e → same_allocation before e ≡ true → d ≡ e
 unfolding stamp_tenant same_allocation
-allocation_kept old t n before b c was own now same = by (is_touched old t) now
+allocation_kept old t n before d e was own now same = by (is_touched old t) now
   where
-    new : Allocation
-    new = record b { create_index = created_at (old.index + 1) (get old.allocations n) (λ (o : Allocation). o.create_index); modify_index = old.index + 1 }
-
-    row : (changes : Bool) → changes_allocation old n b ≡ changes → cond changes new b ≡ c → SameTimes b c
-    row true changed is = not_both (ap (same_allocation before) is ∙ same)
-        (is_no (same_allocation before b) (sym (ap (λ o. is_changed same_allocation o b) was) ∙ changed))
-    row false changed is = times_of b c is
-
-    by : (touched : Bool) → get (cond touched (stamped (old.index + 1) old t) t).allocations n ≡ Some c → SameTimes b c
-    by true at = row (changes_allocation old n b) refl
-        (same_Some _ c (sym (get-map_rows numbers one_number (stamped_allocation (old.index + 1) old) t.allocations n
-        ∙ ap (option_map (stamped_allocation (old.index + 1) old n)) own) ∙ at))
-    by false at = times_of b c (same_Some b c (sym own ∙ at))
+    by : (b : Bool) → get (cond b (stamped (old.index + 1) old t) t).allocations n ≡ Some e → d ≡ e
+    by true at = row_kept same_allocation (λ x. x.create_index) dated_allocation (old.index + 1) old.allocations t.allocations (λ _ _ _ _. refl)
+        n before d e was own at same
+    by false at = same_Some d e (sym own ∙ at)
 
 none_stamped : (old t : Tenant) (n : ℕ) → get t.allocations n ≡ None → get (stamp_tenant (Some old) t).allocations n ≡ None
 unfolding stamp_tenant
@@ -222,7 +205,7 @@ unchanged_allocations_keep_indexes step s s' ns old now n c valid h at was =
             ap (option_and_then (λ (t : Tenant). get t.allocations n)) k.is_own ∙ is in
             let first = own_times s.world step (ns, n) (allocation_at s.world (ns, n)) (allocation_at k.own.world (ns, n))
             was.before b a_at b_at (k.holds (ns, n)) in
-            let last = allocation_kept old u n was.before b c was.was is there (was_the_same_allocation old n c was) in
+            let last = times_of b c (allocation_kept old u n was.before b c was.was is there (was_the_same_allocation old n c was)) in
             (last.created ∙ first.created, last.modified ∙ first.modified)
 
     by : (s' ≡ s) ⊎ Closes step s s' h.answer (MovesIn s step) ns now → Kept
