@@ -21,6 +21,37 @@ use Rattle.ns_laws.proofs.Endings.Change.{left, stops, evicts, cuts, places, Cha
 use Rattle.ns_laws.proofs.Endings.Change.{Redated, Settled, nothing, redated}
 use Rattle.ns_laws.proofs.Endings.Steps.{after_turns}
 
+-- ---- the fields that stay
+
+-- an allocation is the same as itself, and what is the same as the same is the same
+pub same_allocation_then : (a b c : Allocation) → IsSameAllocation a b → IsSameAllocation b c → IsSameAllocation a c
+same_allocation_then a b c p q = record {
+  job = q.job ∙ p.job;
+  group = q.group ∙ p.group;
+  evaluation = q.evaluation ∙ p.evaluation;
+  pool = q.pool ∙ p.pool;
+  node = q.node ∙ p.node;
+  place = q.place ∙ p.place;
+  size = q.size ∙ p.size;
+  priority = q.priority ∙ p.priority;
+  job_modify_index = q.job_modify_index ∙ p.job_modify_index;
+  create_index = q.create_index ∙ p.create_index;
+}
+
+pub same_allocation_itself : (a : Allocation) → IsSameAllocation a a
+same_allocation_itself a = record {
+  job = refl;
+  group = refl;
+  evaluation = refl;
+  pool = refl;
+  node = refl;
+  place = refl;
+  size = refl;
+  priority = refl;
+  job_modify_index = refl;
+  create_index = refl;
+}
+
 -- ---- what settling leaves
 
 -- the allocation that there is in the end, and what the step's own change made of it

@@ -32,42 +32,12 @@ use Rattle.ns_laws.specs.Planning as law
 use Rattle.ns_laws.specs.Planning.{EndsInApply, IsOwnStill, IsOwnStop, IsToStop, SnapshotsAreOwn}
 use Rattle.ns_laws.proofs.Effect.Admins.{deleted_namespace_is_gone}
 use Rattle.ns_laws.proofs.Elements.{each_has, has_from}
-use Rattle.ns_laws.proofs.Endings.Laws.{allocation_is_fixed, ends_only_so, gone_with_namespace}
+use Rattle.ns_laws.proofs.Endings.Laws.{allocation_is_fixed, ends_only_so, gone_with_namespace, same_allocation_itself, same_allocation_then}
 use Rattle.ns_laws.proofs.Index.StepRows.{Closes, Comes, IsKept, IsSnapOf, WalksIn, act_walks, begins, closes, goes}
 use Rattle.ns_laws.proofs.Plans.ApplyRows.{each_slice}
 use Rattle.ns_laws.proofs.Plans.Planning.{stops_not_wanted}
 use Rattle.ns_laws.proofs.Service.Lists.{worker_in}
 use Rattle.ns_laws.proofs.Wakes.Reasons.{stamped_workers}
-
--- ---- one allocation
-
-same_one : (a : Allocation) → IsSameAllocation a a
-same_one a = record {
-  job = refl;
-  group = refl;
-  evaluation = refl;
-  pool = refl;
-  node = refl;
-  place = refl;
-  size = refl;
-  priority = refl;
-  job_modify_index = refl;
-  create_index = refl;
-}
-
-same_on : (a b c : Allocation) → IsSameAllocation a b → IsSameAllocation b c → IsSameAllocation a c
-same_on a b c p q = record {
-  job = q.job ∙ p.job;
-  group = q.group ∙ p.group;
-  evaluation = q.evaluation ∙ p.evaluation;
-  pool = q.pool ∙ p.pool;
-  node = q.node ∙ p.node;
-  place = q.place ∙ p.place;
-  size = q.size ∙ p.size;
-  priority = q.priority ∙ p.priority;
-  job_modify_index = q.job_modify_index ∙ p.job_modify_index;
-  create_index = q.create_index ∙ p.create_index;
-}
 
 -- ---- a step
 
@@ -77,7 +47,12 @@ own_now w ns t kept snap = subst (λ (k : Snapshot). Each (IsOwnStill t k.evalua
     (each_mapped (IsOwnStill t id) (λ (a : ℕ × Allocation). record { number = a.0; row = a.1 }) (filter p (entries t.allocations))
     (each_of (λ (a : ℕ × Allocation). (get t.allocations a.0 ≡ Some a.1) × (p a ≡ true))
     (λ (a : ℕ × Allocation). IsOwnStill t id (record { number = a.0; row = a.1 }))
-    (λ a h. record { row = a.1; is_row = h.0; of_job = sym (same_name_is id a.1.job (first_of_both (same_name id a.1.job) _ h.1)); same = same_one a.1 })
+    (λ a h. record {
+      row = a.1;
+      is_row = h.0;
+      of_job = sym (same_name_is id a.1.job (first_of_both (same_name id a.1.job) _ h.1));
+      same = same_allocation_itself a.1;
+    })
     (filter p (entries t.allocations)) (each_kept (λ (a : ℕ × Allocation). get t.allocations a.0 ≡ Some a.1) p (entries t.allocations)
     (each_row numbers one_number (λ n a. get t.allocations n ≡ Some a) t.allocations (λ n a at. at)))))
   where
@@ -118,7 +93,7 @@ module _ (step : Step) (s s' : State) (answer : Answer) (valid : IsValid s) (e :
   own_on : (job : Name) (own : OwnAllocation) → IsOwnStill old job own → IsOwnStill now job own
   own_on job own o =
       let b = allocation_on own.number o.row o.is_row in
-      record { row = b.0; is_row = b.1; of_job = b.2.job ∙ o.of_job; same = same_on own.row o.row b.0 o.same b.2 }
+      record { row = b.0; is_row = b.1; of_job = b.2.job ∙ o.of_job; same = same_allocation_then own.row o.row b.0 o.same b.2 }
 
 snapshots_stay_own : (step : Step) (s s' : State) (answer : Answer) → IsValid s → after step s ≡ said answer s' →
     SnapshotsAreOwn s.world → SnapshotsAreOwn s'.world

@@ -34,7 +34,7 @@ use Rattle.ns_laws.specs.Serving as law
 use Rattle.ns_laws.specs.Serving.{IsUnderWay, is_ready, is_with_worker, HasOneUnderWay, IsSameEvaluation, ForgetsNone, EvaluationEnds, NextStatus, GoesOn}
 use Rattle.ns_laws.specs.Serving.{finished, canceled, given_up, stays, wakes, ends}
 use Rattle.ns_laws.proofs.Effect.Rows.{settled_rows, settled_there, settled_tenant}
-use Rattle.ns_laws.proofs.Endings.Laws.{allocation_is_fixed, gone_with_namespace}
+use Rattle.ns_laws.proofs.Endings.Laws.{allocation_is_fixed, gone_with_namespace, same_allocation_itself, same_allocation_then}
 use Rattle.ns_laws.proofs.Service.Closing.{Turned, Passes, Leaves}
 use Rattle.ns_laws.proofs.Service.Keeping.{busy_one, ready_queues}
 use Rattle.ns_laws.proofs.Service.Lists.{evaluation_in, evaluation_is, worker_in}
@@ -288,34 +288,6 @@ step_numbers s s' step answer ns valid stays_ e = record {
         (b : Allocation) × (allocation_at s'.world (ns, n) ≡ Some b) × IsSameAllocation a b
     there n a at None none = absurd (stays_ (gone_with_namespace s s' step answer (ns, n) a valid e at none).1)
     there n a at (Some b) is = (b, is, allocation_is_fixed s s' step answer (ns, n) a b valid e at is)
-
-same_allocation_then : (a b c : Allocation) → IsSameAllocation a b → IsSameAllocation b c → IsSameAllocation a c
-same_allocation_then a b c p q = record {
-  job = q.job ∙ p.job;
-  group = q.group ∙ p.group;
-  evaluation = q.evaluation ∙ p.evaluation;
-  pool = q.pool ∙ p.pool;
-  node = q.node ∙ p.node;
-  place = q.place ∙ p.place;
-  size = q.size ∙ p.size;
-  priority = q.priority ∙ p.priority;
-  job_modify_index = q.job_modify_index ∙ p.job_modify_index;
-  create_index = q.create_index ∙ p.create_index;
-}
-
-same_allocation_itself : (a : Allocation) → IsSameAllocation a a
-same_allocation_itself a = record {
-  job = refl;
-  group = refl;
-  evaluation = refl;
-  pool = refl;
-  node = refl;
-  place = refl;
-  size = refl;
-  priority = refl;
-  job_modify_index = refl;
-  create_index = refl;
-}
 
 numbers_still : (w : World) (ns : Name) → law.KeepsNumbers w w ns
 numbers_still w ns = record { evaluation = λ n a at. (a, at, same_itself a); allocation = λ n a at. (a, at, same_allocation_itself a) }
