@@ -157,7 +157,49 @@ settled_jobs w w' ns t = stamp_keeps (λ t. t.jobs) (λ i o t. refl) (get w.tena
 pub settled_namespace : (w w' : World) (ns : Name) (t : Tenant) → (settled_rows w w' ns t).namespace ≡ t.namespace
 settled_namespace w w' ns t = stamp_keeps (λ t. t.namespace) (λ i o t. refl) (get w.tenants ns) (unblocked_in (woken w w') ns t)
 
+-- ---- evaluations
+
+-- the end of a step gives an evaluation other indexes at most
+pub redated_evaluation : (o : Option Tenant) (t : Tenant) (n : ℕ) (e : Evaluation) → get t.evaluations n ≡ Some e →
+    (created : ℕ) × (modified : ℕ) × (get (stamp_tenant o t).evaluations n ≡ Some (record e { create_index = created; modify_index = modified }))
+unfolding stamp_tenant
+redated_evaluation None t n e at = (e.create_index, e.modify_index, at)
+redated_evaluation (Some o) t n e at = by (is_touched o t)
+  where
+    Redated : Option Evaluation → Type 0
+    Redated r = (created : ℕ) × (modified : ℕ) × (r ≡ Some (record e { create_index = created; modify_index = modified }))
+
+    row : (b : Bool) (created : ℕ) → Redated (Some (cond b (record e { create_index = created; modify_index = o.index + 1 }) e))
+    row true created = (created, o.index + 1, refl)
+    row false created = (e.create_index, e.modify_index, refl)
+
+    by : (b : Bool) → Redated (get (cond b (stamped (o.index + 1) o t) t).evaluations n)
+    by true = subst Redated (sym (get-map_rows numbers one_number (stamped_evaluation (o.index + 1) o) t.evaluations n
+        ∙ ap (option_map (stamped_evaluation (o.index + 1) o n)) at))
+        (row (changes_evaluation o n e) (created_at (o.index + 1) (get o.evaluations n) (λ r. r.create_index)))
+    by false = (e.create_index, e.modify_index, at)
+
 -- ---- allocations
+
+-- the end of a step gives an allocation other indexes at most
+pub redated_allocation : (o : Option Tenant) (t : Tenant) (n : ℕ) (a : Allocation) → get t.allocations n ≡ Some a →
+    (created : ℕ) × (modified : ℕ) × (get (stamp_tenant o t).allocations n ≡ Some (record a { create_index = created; modify_index = modified }))
+unfolding stamp_tenant
+redated_allocation None t n a at = (a.create_index, a.modify_index, at)
+redated_allocation (Some o) t n a at = by (is_touched o t)
+  where
+    Redated : Option Allocation → Type 0
+    Redated r = (created : ℕ) × (modified : ℕ) × (r ≡ Some (record a { create_index = created; modify_index = modified }))
+
+    row : (b : Bool) (created : ℕ) → Redated (Some (cond b (record a { create_index = created; modify_index = o.index + 1 }) a))
+    row true created = (created, o.index + 1, refl)
+    row false created = (a.create_index, a.modify_index, refl)
+
+    by : (b : Bool) → Redated (get (cond b (stamped (o.index + 1) o t) t).allocations n)
+    by true = subst Redated (sym (get-map_rows numbers one_number (stamped_allocation (o.index + 1) o) t.allocations n
+        ∙ ap (option_map (stamped_allocation (o.index + 1) o n)) at))
+        (row (changes_allocation o n a) (created_at (o.index + 1) (get o.allocations n) (λ r. r.create_index)))
+    by false = (a.create_index, a.modify_index, at)
 
 -- an allocation is as it was, its indexes apart
 pub record StillAllocated (a : Allocation) (rows : ByNumber Allocation) (n : ℕ) : Type 0 where
@@ -169,26 +211,10 @@ pub record StillAllocated (a : Allocation) (rows : ByNumber Allocation) (n : ℕ
   pub desired : row.desired ≡ a.desired
   pub client : row.client ≡ a.client
 
-itself : (a : Allocation) (rows : ByNumber Allocation) (n : ℕ) → get rows n ≡ Some a → StillAllocated a rows n
-itself a rows n at = record { row = a; is_row = at; job = refl; pool = refl; node = refl; desired = refl; client = refl }
-
 stamped_allocated : (o : Option Tenant) (t : Tenant) (n : ℕ) (a : Allocation) → get t.allocations n ≡ Some a →
     StillAllocated a (stamp_tenant o t).allocations n
-unfolding stamp_tenant
-stamped_allocated None t n a at = itself a t.allocations n at
-stamped_allocated (Some o) t n a at = by (is_touched o t)
-  where
-    row : Bool → Allocation
-    row b = cond b (record a { create_index = created_at (o.index + 1) (get o.allocations n) (λ o. o.create_index); modify_index = o.index + 1 }) a
-
-    still : (rows : ByNumber Allocation) (b : Bool) → get rows n ≡ Some (row b) → StillAllocated a rows n
-    still rows true at = record { row = row true; is_row = at; job = refl; pool = refl; node = refl; desired = refl; client = refl }
-    still rows false at = itself a rows n at
-
-    by : (b : Bool) → StillAllocated a (cond b (stamped (o.index + 1) o t) t).allocations n
-    by true = still (stamped (o.index + 1) o t).allocations (changes_allocation o n a)
-        (get-map_rows numbers one_number (stamped_allocation (o.index + 1) o) t.allocations n ∙ ap (option_map (stamped_allocation (o.index + 1) o n)) at)
-    by false = itself a t.allocations n at
+stamped_allocated o t n a at = let r = redated_allocation o t n a at in
+    record { row = record a { create_index = r.0; modify_index = r.1 }; is_row = r.2; job = refl; pool = refl; node = refl; desired = refl; client = refl }
 
 pub settled_allocated : (w w' : World) (ns : Name) (t : Tenant) (n : ℕ) (a : Allocation) → get t.allocations n ≡ Some a →
     StillAllocated a (settled_rows w w' ns t).allocations n

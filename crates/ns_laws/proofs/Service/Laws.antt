@@ -1,5 +1,5 @@
 -- The laws of what becomes of evaluations: the end of a step, the whole step, and runs.
-use Rattle.std.specs.Prelude.{◌≡◌, ◌⊎◌, ℕ, ◌+◌, Bool, true, false, cond, List, [], ◌∷◌, Option, Some, None, Ok, Err, option_map}
+use Rattle.std.specs.Prelude.{◌≡◌, ◌⊎◌, ℕ, Bool, true, false, cond, List, [], ◌∷◌, Option, Some, None, Ok, Err, option_map}
 use Rattle.std.proofs.Common.{inl, inr, refl, sym, ap, subst, ◌∙◌}
 use Rattle.std.specs.FinMap.{get, get-empty}
 use Rattle.std.specs.Option.{option_and_then}
@@ -11,8 +11,8 @@ use Rattle.ns_types.specs.declared.refusal.Refusal.TheVariants as Refusal
 use Rattle.ns_types.specs.declared.step.Step.{Step}
 use Rattle.ns_types.specs.Settling.Outcome.{Outcome, NotEnabled, Refused, Done}
 use Rattle.ns_types.specs.Settling.Releases.{woken}
-use Rattle.ns_types.specs.Settling.Settle.{settle, stamp_tenant, stamped, unblocked_in, woken_row}
-use Rattle.ns_types.specs.Settling.Settle.{pending, is_touched, changes_evaluation, created_at, stamped_evaluation}
+use Rattle.ns_types.specs.Settling.Settle.{settle, stamp_tenant, unblocked_in, woken_row}
+use Rattle.ns_types.specs.Settling.Settle.{pending}
 use Rattle.ns_types.specs.State.Lists.{Each}
 use Rattle.ns_types.specs.State.Names.{Key, Name, has_key, default_name}
 use Rattle.ns_types.specs.State.Rows.{State, World, Tenant, evaluation_at, allocation_at, is_open}
@@ -33,7 +33,7 @@ use Rattle.ns_laws.specs.Ending.{IsDeletionOf, IsSameAllocation}
 use Rattle.ns_laws.specs.Serving as law
 use Rattle.ns_laws.specs.Serving.{IsUnderWay, is_ready, is_with_worker, HasOneUnderWay, IsSameEvaluation, ForgetsNone, EvaluationEnds, NextStatus, GoesOn}
 use Rattle.ns_laws.specs.Serving.{finished, canceled, given_up, stays, wakes, ends}
-use Rattle.ns_laws.proofs.Effect.Rows.{settled_rows, settled_there, settled_tenant}
+use Rattle.ns_laws.proofs.Effect.Rows.{settled_rows, settled_there, settled_tenant, redated_evaluation}
 use Rattle.ns_laws.proofs.Endings.Laws.{allocation_is_fixed, gone_with_namespace, same_allocation_itself, same_allocation_then}
 use Rattle.ns_laws.proofs.Service.Closing.{Turned, Passes, Leaves}
 use Rattle.ns_laws.proofs.Service.Keeping.{busy_one, ready_queues}
@@ -47,30 +47,8 @@ use Rattle.ns_laws.proofs.Wakes.Reasons.{settled_rows as waked_rows}
 
 stamped_same : (old : Option Tenant) (t : Tenant) (n : ℕ) (d : Evaluation) → get t.evaluations n ≡ Some d →
     (e : Evaluation) × (get (stamp_tenant old t).evaluations n ≡ Some e) × IsSameEvaluation d e × (e.status ≡ d.status)
-unfolding stamp_tenant
-stamped_same None t n d at = (d, at, same_itself d, refl)
-stamped_same (Some o) t n d at = by (is_touched o t) refl
-  where
-    index : ℕ
-    index = o.index + 1
-
-    row : (c : Bool) → Evaluation
-    row c = cond c (record d { create_index = created_at index (get o.evaluations n) (λ (e : Evaluation). e.create_index); modify_index = index }) d
-
-    row_same : (c : Bool) → IsSameEvaluation d (row c) × ((row c).status ≡ d.status)
-    row_same true = (same_but d _ _ _ _ _, refl)
-    row_same false = (same_itself d, refl)
-
-    by : (b : Bool) → is_touched o t ≡ b →
-        (e : Evaluation) × (get (cond (is_touched o t) (stamped index o t) t).evaluations n ≡ Some e) × IsSameEvaluation d e × (e.status ≡ d.status)
-    by true touched = let r = row_same (changes_evaluation o n d) in (
-      stamped_evaluation index o n d,
-      ap (λ b. get (cond b (stamped index o t) t).evaluations n) touched
-          ∙ get-map_rows numbers one_number (stamped_evaluation index o) t.evaluations n ∙ ap (option_map (stamped_evaluation index o n)) at,
-      r.0,
-      r.1,
-    )
-    by false untouched = (d, ap (λ b. get (cond b (stamped index o t) t).evaluations n) untouched ∙ at, same_itself d, refl)
+stamped_same old t n d at = let r = redated_evaluation old t n d at in
+    (record d { create_index = r.0; modify_index = r.1 }, r.2, same_but d d.status d.nacks d.follower r.0 r.1, refl)
 
 module _ (w x : World) where
   -- what the end of the step makes of an evaluation: it is woken, or its status stays

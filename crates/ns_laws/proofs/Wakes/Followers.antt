@@ -15,7 +15,7 @@ use Rattle.ns_types.specs.Asking.Policies.{with_world}
 use Rattle.ns_types.specs.Settling.Making.{put_tenant, with_status}
 use Rattle.ns_types.specs.Settling.Outcome.{Outcome, NotEnabled, Refused, Done, lift}
 use Rattle.ns_types.specs.Settling.Releases.{can_use, missed, woken, wakes_by, released_since}
-use Rattle.ns_types.specs.Settling.Settle.{changes_evaluation, created_at, is_touched, pending, settle, stamp_tenant, stamped, stamped_evaluation, unblocked_in}
+use Rattle.ns_types.specs.Settling.Settle.{pending, settle, stamp_tenant, unblocked_in}
 use Rattle.ns_types.specs.Settling.Settle.{woken_row}
 use Rattle.ns_types.specs.State.Names.{Key, Name, has_key}
 use Rattle.ns_types.specs.State.Rows.{Acl, State, World, Tenant, QuotaRows, evaluation_at, is_blocked}
@@ -34,6 +34,7 @@ use Rattle.ns_types.proofs.Tables.{get-map_rows, none_of_any}
 use Rattle.ns_types.proofs.Tests.{and_yes, not_Some, same_Some}
 use Rattle.ns_laws.specs.Waking.{MissedNothing, FollowerMissedNothing}
 use Rattle.ns_audit.proofs.StepLemmas.{made}
+use Rattle.ns_laws.proofs.Effect.Rows.{redated_evaluation}
 use Rattle.ns_laws.proofs.QueueLemmas.{promote_tenants}
 use Rattle.ns_laws.proofs.Wakes.Waking.{can_use_of, closed_tenant, settled_tenants}
 
@@ -67,10 +68,6 @@ shown_woken : (b : Bool) (f : Evaluation) → IsShown f (cond b (pending f) f)
 shown_woken true f = record { status = Status.Pending; created = f.create_index; modified = f.modify_index; same = refl; pends = λ is. refl }
 shown_woken false f = record { status = f.status; created = f.create_index; modified = f.modify_index; same = refl; pends = λ is. is }
 
-shown_stamped : (b : Bool) (created modified : ℕ) (f : Evaluation) → IsShown f (cond b (record f { create_index = created; modify_index = modified }) f)
-shown_stamped true created modified f = record { status = f.status; created = created; modified = modified; same = refl; pends = λ is. is }
-shown_stamped false created modified f = record { status = f.status; created = f.create_index; modified = f.modify_index; same = refl; pends = λ is. is }
-
 shown_then : (f g e : Evaluation) → IsShown f g → IsShown g e → IsShown f e
 shown_then f g e a b = record {
   status = b.status;
@@ -82,17 +79,12 @@ shown_then f g e a b = record {
 
 stamped_row : (old : Option Tenant) (t : Tenant) (n : ℕ) (f : Evaluation) → get t.evaluations n ≡ Some f →
     (e : Evaluation) × (get (stamp_tenant old t).evaluations n ≡ Some e) × IsShown f e
-unfolding stamp_tenant
-stamped_row None t n f at = (f, at, shown_woken false f)
-stamped_row (Some o) t n f at = by (is_touched o t)
-  where
-    by : (b : Bool) → (e : Evaluation) × (get (cond b (stamped (o.index + 1) o t) t).evaluations n ≡ Some e) × IsShown f e
-    by true = (
-      stamped_evaluation (o.index + 1) o n f,
-      get-map_rows numbers one_number (stamped_evaluation (o.index + 1) o) t.evaluations n ∙ ap (option_map (stamped_evaluation (o.index + 1) o n)) at,
-      shown_stamped (changes_evaluation o n f) (created_at (o.index + 1) (get o.evaluations n) (λ (o : Evaluation). o.create_index)) (o.index + 1) f,
+stamped_row old t n f at = let r = redated_evaluation old t n f at in
+    (
+      record f { create_index = r.0; modify_index = r.1 },
+      r.2,
+      record { status = f.status; created = r.0; modified = r.1; same = refl; pends = λ is. is },
     )
-    by false = (f, at, shown_woken false f)
 
 shown_settled : (w x : World) (ns : Name) (n : ℕ) (f e : Evaluation) → evaluation_at x (ns, n) ≡ Some f → evaluation_at (settle w x) (ns, n) ≡ Some e → IsShown f e
 shown_settled w x ns n f e at later = by (get x.tenants ns) refl at

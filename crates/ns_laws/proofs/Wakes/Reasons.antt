@@ -18,7 +18,7 @@ use Rattle.ns_types.specs.declared.step.Step.{Step}
 use Rattle.ns_types.specs.Settling.Releases.{same_offer, ends, is_on, counts_in, changes_limits}
 use Rattle.ns_types.specs.Settling.Releases.{gives_room, released_classes, releases_quota, can_use, wakes_by, released_between}
 use Rattle.ns_types.specs.Settling.Releases.{wakes, woken}
-use Rattle.ns_types.specs.Settling.Settle.{after_quota_release, changes_allocation, changes_evaluation, created_at, is_touched, number_releases, pending}
+use Rattle.ns_types.specs.Settling.Settle.{after_quota_release, changes_allocation, created_at, is_touched, number_releases, pending}
 use Rattle.ns_types.specs.Settling.Settle.{settle, stamp, stamp_tenant, stamped, stamped_allocation, stamped_evaluation, unblocked_in, wake, woken_row}
 use Rattle.ns_types.specs.State.Lists.{Each}
 use Rattle.ns_types.specs.State.Names.{Key, Name, has_class, has_key, same_class, same_key, same_name}
@@ -39,7 +39,7 @@ use Rattle.ns_types.proofs.Tests.{either_of, is_no, is_yes, not_Some, same_Some}
 use Rattle.ns_laws.specs.Waking.{MayUse, StillLives}
 use Rattle.ns_laws.specs.Woken as law
 use Rattle.ns_laws.specs.Woken.{GotQuota, GotRoom, HasRoom, IsTaken, Wakes}
-use Rattle.ns_laws.proofs.Effect.Rows.{Does}
+use Rattle.ns_laws.proofs.Effect.Rows.{Does, redated_evaluation}
 use Rattle.ns_laws.proofs.Refusal.Reasons.{tells_quota}
 use Rattle.ns_laws.proofs.Refusal.Tests.{Row, Tells, left_holds, tells_plainly, tells_rows}
 use Rattle.ns_laws.proofs.Wakes.Queue.{woken_are_called}
@@ -327,36 +327,8 @@ module _ (old : Option Tenant) (t : Tenant) where
     pub status : e.status ≡ d.status
 
 same_stamped : (old : Option Tenant) (t : Tenant) (n : ℕ) (d : Evaluation) → get t.evaluations n ≡ Some d → (e : Evaluation) × Same old t n d e
-unfolding stamp_tenant
-same_stamped None t n d at = (d, record { was = at; is = at; job = refl; status = refl })
-same_stamped (Some o) t n d at = by (is_touched o t) refl
-  where
-    index : ℕ
-    index = o.index + 1
-
-    row : (c : Bool) → Evaluation
-    row c = cond c (record d { create_index = created_at index (get o.evaluations n) (λ (e : Evaluation). e.create_index); modify_index = index }) d
-
-    row_job : (c : Bool) → (row c).job ≡ d.job
-    row_job true = refl
-    row_job false = refl
-
-    row_status : (c : Bool) → (row c).status ≡ d.status
-    row_status true = refl
-    row_status false = refl
-
-    by : (b : Bool) → is_touched o t ≡ b → (e : Evaluation) × Same (Some o) t n d e
-    by true touched = (
-      stamped_evaluation index o n d,
-      record {
-        was = at;
-        is = ap (λ b. get (cond b (stamped index o t) t).evaluations n) touched
-            ∙ get-map_rows numbers one_number (stamped_evaluation index o) t.evaluations n ∙ ap (option_map (stamped_evaluation index o n)) at;
-        job = row_job (changes_evaluation o n d);
-        status = row_status (changes_evaluation o n d);
-      },
-    )
-    by false untouched = (d, record { was = at; is = ap (λ b. get (cond b (stamped index o t) t).evaluations n) untouched ∙ at; job = refl; status = refl })
+same_stamped old t n d at = let r = redated_evaluation old t n d at in
+    (record d { create_index = r.0; modify_index = r.1 }, record { was = at; is = r.2; job = refl; status = refl })
 
 none_stamped : (old : Option Tenant) (t : Tenant) (n : ℕ) → get t.evaluations n ≡ None → get (stamp_tenant old t).evaluations n ≡ None
 unfolding stamp_tenant

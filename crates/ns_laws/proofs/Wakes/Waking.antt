@@ -1,5 +1,5 @@
 -- What a step that wakes nobody has left as it was, and what a follower that is blocked has not missed.
-use Rattle.std.specs.Prelude.{◌≡◌, ◌≢◌, ℕ, ◌+◌, Bool, true, false, cond, not, ◌&&◌, ◌||◌, List, [], ◌∷◌, Option, Some, None}
+use Rattle.std.specs.Prelude.{◌≡◌, ◌≢◌, ℕ, Bool, true, false, cond, not, ◌&&◌, ◌||◌, List, [], ◌∷◌, Option, Some, None}
 use Rattle.std.specs.Prelude.{filter, option_map}
 use Rattle.std.proofs.Common.{refl, sym, ap, subst, ◌∙◌, inl, inr}
 use Rattle.std.proofs.lemmas.Bool.{or_right}
@@ -24,8 +24,8 @@ use Rattle.ns_types.specs.declared.resources.Resources.{Resources}
 use Rattle.ns_types.specs.Settling.Releases.{same_offer, ends, is_on, counts_in, changes_limits}
 use Rattle.ns_types.specs.Settling.Releases.{gives_room, released_classes, releases_quota, wakes_by, released_between}
 use Rattle.ns_types.specs.Settling.Releases.{can_use, wakes, woken}
-use Rattle.ns_types.specs.Settling.Settle.{after_release, after_quota_release, number_releases, settle, stamp, stamp_tenant, stamped, stamped_allocation}
-use Rattle.ns_types.specs.Settling.Settle.{changes_allocation, created_at, is_touched, unblocked_in, wake}
+use Rattle.ns_types.specs.Settling.Settle.{after_release, after_quota_release, number_releases, settle, stamp, stamp_tenant}
+use Rattle.ns_types.specs.Settling.Settle.{unblocked_in, wake}
 use Rattle.ns_types.specs.State.Lists.{Each}
 use Rattle.ns_types.specs.State.Names.{Key, Name, has_key, attribute_cmp, same_class, has_class, same_name, same_number}
 use Rattle.ns_types.specs.State.Resources.{Resource, Cpu, Memory, Disk, limits_in, limit_on, quantity, same_limit, same_limits, same_resources}
@@ -35,13 +35,14 @@ use Rattle.ns_types.proofs.Amounts.{same_amounts, true_at}
 use Rattle.ns_types.proofs.Classes.{one_attribute, one_class}
 use Rattle.ns_types.proofs.Elements.{any_map}
 use Rattle.ns_types.proofs.Lists.{left_none, right_none, not_both}
-use Rattle.ns_types.proofs.Named.{names, numbers, one_name, one_number, first_of_both, second_of_both, same_name_is, same_name_refl}
+use Rattle.ns_types.proofs.Named.{names, one_name, one_number, first_of_both, second_of_both, same_name_is, same_name_refl}
 use Rattle.ns_types.proofs.Queue.{queues_keep}
 use Rattle.ns_types.proofs.Tables.{get-map_rows, none_of_any, tied}
 use Rattle.ns_types.proofs.Tests.{and_yes, is_no, is_yes, not_Some, same_Some}
 use Rattle.ns_audit.proofs.Steady.Keeping.{has_key_filter}
 use Rattle.ns_audit.proofs.ValidAllocations.Going.{release_nodes}
 use Rattle.ns_laws.specs.Waking.{SleepsThrough, MayUse, IsOpen, StillLives, GotNoRoom, NoneSleepsOverRoom, GotNoQuota, NoneSleepsOverQuota}
+use Rattle.ns_laws.proofs.Effect.Rows.{redated_allocation}
 use Rattle.ns_laws.proofs.Wakes.Queue.{woken_are_called}
 use Rattle.ns_audit.proofs.StepLemmas.{made}
 
@@ -165,22 +166,7 @@ module _ (w x : World) where
 -- a row that is stamped is as live as before
 stamped_live : (old : Option Tenant) (t : Tenant) (n : ℕ) (a : Allocation) → get t.allocations n ≡ Some a → is_live a ≡ true →
     (b : Allocation) × (get (stamp_tenant old t).allocations n ≡ Some b) × (is_live b ≡ true)
-unfolding stamp_tenant
-stamped_live None t n a at live = (a, at, live)
-stamped_live (Some o) t n a at live = by (is_touched o t)
-  where
-    row : (c : Bool) → is_live (cond c
-        (record a { create_index = created_at (o.index + 1) (get o.allocations n) (λ (a : Allocation). a.create_index); modify_index = o.index + 1 }) a) ≡ true
-    row true = live
-    row false = live
-
-    by : (b : Bool) → (x : Allocation) × (get (cond b (stamped (o.index + 1) o t) t).allocations n ≡ Some x) × (is_live x ≡ true)
-    by true = (
-      stamped_allocation (o.index + 1) o n a,
-      get-map_rows numbers one_number (stamped_allocation (o.index + 1) o) t.allocations n ∙ ap (option_map (stamped_allocation (o.index + 1) o n)) at,
-      row (changes_allocation o n a),
-    )
-    by false = (a, at, live)
+stamped_live old t n a at live = let r = redated_allocation old t n a at in (record a { create_index = r.0; modify_index = r.1 }, r.2, live)
 
 -- what is live when the step has changed what it changes is live after it
 lives_on : (w x : World) (key : Key) → option_map_or is_live (allocation_at x key) false ≡ true → StillLives (settle w x) key
