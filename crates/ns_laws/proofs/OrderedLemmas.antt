@@ -1,10 +1,10 @@
 -- The first entry that passes, of entries ordered by number, has the least number of those that pass.
-use Rattle.std.specs.Prelude.{◌≡◌, ℕ, ◌<◌, ◌≤◌, Bool, true, false, cond, T, ◌&&◌, ◌||◌, List, [], ◌∷◌, map, filter, Option, Some, None, option_map, find}
+use Rattle.std.specs.Prelude.{◌≡◌, ℕ, ◌<◌, ◌≤◌, Bool, true, false, cond, T, ◌&&◌, List, [], ◌∷◌, map, filter, Option, Some, None, option_map, find}
 use Rattle.std.proofs.Common.{refl, sym, ap, subst, ◌∙◌, arith, Ordering, Less}
 use Rattle.std.specs.FinMap.{FinMap, IsAntisymmetric, get, entries, entries_sorted, get-entries, from_entries, get-from_entries}
 use Rattle.std.specs.FinMap.Entries as Entries
 use Rattle.std.specs.List.{list_any}
-use Rattle.std.specs.Ordering.{nat_cmp, eq_by_cmp}
+use Rattle.std.specs.Ordering.{nat_cmp}
 use Rattle.std.proofs.lemmas.Cmp.{ranked}
 use Rattle.std.proofs.lemmas.Option.{none-some, same_Some}
 use Rattle.ns_types.specs.declared.allocation.Allocation.{Allocation}
@@ -12,11 +12,12 @@ use Rattle.ns_types.specs.declared.evaluation.Evaluation.{Evaluation}
 use Rattle.ns_types.specs.State.Lists.{Each}
 use Rattle.ns_types.specs.State.Names.{Name, ByNumber, name_cmp, same_name}
 use Rattle.ns_types.specs.State.Rows.{Tenant, is_pending, is_live_on}
-use Rattle.ns_types.proofs.Elements.{any_map}
+use Rattle.ns_types.proofs.Elements.{any_map, each_found, each_mapped}
 use Rattle.ns_types.proofs.Tests.{first, second}
 use Rattle.ns_types.proofs.Lists.{not_both, each_map}
 use Rattle.ns_types.proofs.Named.{names, one_name, one_number, same_name_is, same_name_refl, first_of_both, second_of_both, numbers}
-use Rattle.ns_types.proofs.Tables.{each_row, less_by, tied}
+use Rattle.ns_types.proofs.TableRows.{each_fails}
+use Rattle.ns_types.proofs.Tables.{each_row, less_by}
 use Rattle.ns_laws.specs.Nodes as law
 use Rattle.ns_laws.specs.Queue as queue
 
@@ -59,16 +60,8 @@ module _ {X : Type 0} where
 
 -- what holds of each entry holds of each row
 module _ {K X : Type 0} {R : K → K → Ordering} (same : IsAntisymmetric R) where
-  entry_at : (P : K → X → Type 0) (es : List (K × X)) (k : K) (x : X) → Each (λ e. P e.0 e.1) es → Entries.find R k es ≡ Some x → P k x
-  entry_at P [] k x h is = absurd (none-some x is)
-  entry_at P (e ∷ es) k x h is = by (eq_by_cmp R k e.0) refl is (entry_at P es k x h.1)
-    where
-      by : (b : Bool) → eq_by_cmp R k e.0 ≡ b → cond b (Some e.1) (Entries.find R k es) ≡ Some x → (Entries.find R k es ≡ Some x → P k x) → P k x
-      by true t is go = subst (λ (j : K). P j x) (sym (tied same k e.0 t)) (subst (P e.0) (same_Some e.1 x is) h.0)
-      by false t is go = go is
-
   row_at : (P : K → X → Type 0) (m : FinMap R X) (k : K) (x : X) → Each (λ e. P e.0 e.1) (entries m) → get m k ≡ Some x → P k x
-  row_at P m k x h is = entry_at P (entries m) k x h (sym (get-entries m k) ∙ is)
+  row_at P m k x h is = each_found same (λ e. P e.0 e.1) (entries m) h k x (sym (get-entries m k) ∙ is)
 
 -- the first entry that passes: it is a row, it passes, and no row that passes has a lesser number
 pub first_row : {X : Type 0} (p : ℕ × X → Bool) (m : ByNumber X) (n : ℕ) (x : X) → find p (entries m) ≡ Some (n, x)
@@ -172,24 +165,11 @@ loser_is_first pool node t job a is = by (find passes (entries t.allocations)) r
     by None f e = absurd (none-some a e)
     by (Some x) f e = subst (law.IsFirstOfJob pool node t) (same_Some x.1 a e) (of x.0 x.1 f)
 
-each_over_map : {A B : Type 0} (P : B → Type 0) (h : A → B) (xs : List A) → Each (λ x. P (h x)) xs → Each P (map h xs)
-each_over_map P h [] e = tt
-each_over_map P h (x ∷ xs) e = (e.0, each_over_map P h xs e.1)
-
 pub losers_are_first : law.LosersAreFirst
 unfolding losers
 losers_are_first pool node t =
-    each_over_map (law.IsFirstOfJob pool node t) (λ e. e.1) (entries (losers pool node t))
+    each_mapped (law.IsFirstOfJob pool node t) (λ e. e.1) (entries (losers pool node t))
     (each_row names one_name (λ job a. law.IsFirstOfJob pool node t a) (losers pool node t) (λ job a is. loser_is_first pool node t job a is))
-
--- an element that a test passes is found by any test that passes it
-any_each : {K X : Type 0} (p : K × X → Bool) (es : List (K × X)) → list_any p es ≡ false → Each (λ e. p e ≡ false) es
-any_each p [] e = tt
-any_each p (x ∷ es) e = by (p x) refl e (any_each p es)
-  where
-    by : (b : Bool) → p x ≡ b → (b || list_any p es) ≡ false → (list_any p es ≡ false → Each (λ e. p e ≡ false) es) → Each (λ e. p e ≡ false) (x ∷ es)
-    by true f e go = not_both refl e
-    by false f e go = (f, go e)
 
 pub each_job_loses : law.EachJobLoses
 unfolding losers
@@ -217,4 +197,4 @@ each_job_loses pool node t n a there lives = any_map (λ other. same_name a.job 
     by false e =
         let found = row (find passes (entries t.allocations)) refl in
         not_both found.2 (row_at one_name (λ job x. same_name a.job x.job ≡ false) (losers pool node t) a.job found.0
-        (any_each (λ e. same_name a.job e.1.job) (entries (losers pool node t)) e) found.1)
+        (each_fails (λ e. same_name a.job e.1.job) (entries (losers pool node t)) e) found.1)
