@@ -4,6 +4,9 @@ use Rattle.std.specs.Prelude.{Option, Some, None, filter, filter_map, flat_map, 
 use Rattle.std.specs.List.{Contains, cons_option, list_any}
 use Rattle.std.proofs.Common.{inl, inr, refl, sym, ap, subst, ◌∙◌, arith}
 use Rattle.ns_types.specs.State.Lists.{Each}
+use Rattle.std.specs.FinMap.{FinMap, IsAntisymmetric, entries, get, get-entries}
+use Rattle.std.specs.declared.cmp.Ordering.{Ordering}
+use Rattle.ns_types.proofs.Elements.{each_found}
 use Rattle.ns_types.proofs.Lists.{each_map}
 use Rattle.ns_laws.specs.Sublist.{IsSublist, both_end, taken, left}
 
@@ -131,3 +134,7 @@ filter_map_has {B = B} f (z ∷ xs) x y (inr h) e = by (f z) (filter_map_has f x
     by : (o : Option B) → Has (filter_map f xs) y → Has (cons_option o (filter_map f xs)) y
     by None h = h
     by (Some b) h = inr h
+
+-- a row of a table is among its entries
+pub has_row : {K X : Type 0} {R : K → K → Ordering} → IsAntisymmetric R → (m : FinMap R X) (k : K) (x : X) → get m k ≡ Some x → Has (entries m) (k, x)
+has_row same m k x at = each_found same (Has (entries m)) (entries m) (has_each (entries m)) k x (sym (get-entries m k) ∙ at)

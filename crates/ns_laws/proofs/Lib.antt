@@ -9,7 +9,7 @@ pub mod Index
 pub mod OrderedLemmas
 pub mod Plans
 pub mod QueueLemmas
-pub mod ReadsLemmas
+pub mod Reading
 pub mod Refusal
 pub mod Scope
 pub mod Service

@@ -49,11 +49,10 @@ use Rattle.ns_laws.specs.Indexes as law
 use Rattle.ns_laws.specs.Indexes.{Rests, Rises, Ascends, IsStamped, WasEvaluation, WasAllocation}
 use Rattle.ns_laws.proofs.Effect.Documents.{document_is, client_is}
 use Rattle.ns_laws.proofs.Effect.Rows.{settled_rows, settled_tenant}
-use Rattle.ns_laws.proofs.Elements.{Has, append_has, contains_from, filter_has, map_has}
+use Rattle.ns_laws.proofs.Elements.{Has, append_has, contains_from, filter_has, has_row, map_has}
 use Rattle.ns_laws.proofs.Index.BegunRows.{BeginsIn, Begun, Ends, IsDated, act_begins, ends, goes, stays}
 use Rattle.ns_laws.proofs.Index.Stamps.{changed_row, dated_allocation, dated_evaluation, row_changed}
 use Rattle.ns_laws.proofs.Index.Stamps.{each_row_topic, no_map, no_row_topic, none_kept, row_topic}
-use Rattle.ns_laws.proofs.ReadsLemmas.{has_row}
 use Rattle.ns_audit.proofs.StepLemmas.{made, refusal_leaves_all}
 
 -- ---- rows that are not changed

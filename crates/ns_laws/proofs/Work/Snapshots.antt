@@ -31,8 +31,8 @@ use Rattle.ns_types.proofs.Named.{first_of_both, names, numbers, one_name, one_n
 use Rattle.ns_types.proofs.Tables.{each_row, tied}
 use Rattle.ns_types.proofs.Tests.{either_of, not_Some, same_Some}
 use Rattle.ns_laws.specs.Workers.{Counts, lives, completed, HasPool, IsLiveThere, IsNodeThere, IsOwn, IsTrueOf, SeesNodes, SeesOwn, SeesQuota, shown_live}
-use Rattle.ns_laws.proofs.Elements.{Has, contains_from, each_has, filter_has, flat_has, has_each, map_has}
-use Rattle.ns_laws.proofs.ReadsLemmas.{has_row, use_is}
+use Rattle.ns_laws.proofs.Elements.{Has, contains_from, each_has, filter_has, flat_has, has_each, has_row, map_has}
+use Rattle.ns_laws.proofs.Reading.Use.{use_is}
 
 -- ---- the job's own allocations
 

@@ -1,4 +1,4 @@
-use Rattle.ns_laws.proofs.ReadsLemmas.{allocations_are_listed}
+use Rattle.ns_laws.proofs.Reading.Requests.{allocations_are_listed}
 use Rattle.ns_laws.proofs.reads.allocations_are_listed.Goals as goal
 
 pub returns : goal.returns

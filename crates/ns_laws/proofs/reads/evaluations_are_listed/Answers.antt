@@ -1,4 +1,4 @@
-use Rattle.ns_laws.proofs.ReadsLemmas.{evaluations_are_listed}
+use Rattle.ns_laws.proofs.Reading.Requests.{evaluations_are_listed}
 use Rattle.ns_laws.proofs.reads.evaluations_are_listed.Goals as goal
 
 pub returns : goal.returns

@@ -1,4 +1,4 @@
-use Rattle.ns_laws.proofs.ReadsLemmas.{job_evaluations_are_listed}
+use Rattle.ns_laws.proofs.Reading.Requests.{job_evaluations_are_listed}
 use Rattle.ns_laws.proofs.reads.job_evaluations_are_listed.Goals as goal
 
 pub returns : goal.returns

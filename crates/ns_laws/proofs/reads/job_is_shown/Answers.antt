@@ -1,4 +1,4 @@
-use Rattle.ns_laws.proofs.ReadsLemmas.{job_is_shown}
+use Rattle.ns_laws.proofs.Reading.Requests.{job_is_shown}
 use Rattle.ns_laws.proofs.reads.job_is_shown.Goals as goal
 
 pub returns : goal.returns

@@ -1,4 +1,4 @@
-use Rattle.ns_laws.proofs.ReadsLemmas.{jobs_are_listed}
+use Rattle.ns_laws.proofs.Reading.Requests.{jobs_are_listed}
 use Rattle.ns_laws.proofs.reads.jobs_are_listed.Goals as goal
 
 pub returns : goal.returns

@@ -1,4 +1,4 @@
-use Rattle.ns_laws.proofs.ReadsLemmas.{quota_is_shown}
+use Rattle.ns_laws.proofs.Reading.Documents.{quota_is_shown}
 use Rattle.ns_laws.proofs.reads.quota_is_shown.Goals as goal
 
 pub returns : goal.returns

@@ -1,4 +1,4 @@
-use Rattle.ns_laws.proofs.ReadsLemmas.{quotas_are_listed}
+use Rattle.ns_laws.proofs.Reading.Documents.{quotas_are_listed}
 use Rattle.ns_laws.proofs.reads.quotas_are_listed.Goals as goal
 
 pub returns : goal.returns
