@@ -29,6 +29,7 @@ use Rattle.ns_types.proofs.Settling.{kept_allocation}
 use Rattle.ns_types.proofs.TableRows.{get_put, get_other, some_row}
 use Rattle.ns_types.proofs.Tables.{get-map_rows}
 use Rattle.ns_types.proofs.Tests.{third_of_four}
+use Rattle.ns_audit.proofs.Alone.Recording.{record_kept}
 use Rattle.ns_audit.proofs.StepLemmas.{same_answer, same_reply, same_state, not_said, not_refused}
 use Rattle.ns_audit.proofs.ValidAllocations.Going.{release_nodes}
 
@@ -295,26 +296,16 @@ module _ {A : Type 0} (w w' : World) (name : Name) where
   pub settled_pool : (part : PoolRows → A) → ((classes : List Class) (p : PoolRows) → part (after_release classes p) ≡ part p) →
       option_map part (get (settle w w').pools name) ≡ option_map part (get w'.pools name)
   unfolding settle stamp number_releases wake
-  settled_pool part same = ap (option_map part) (get-map_rows names one_name (λ name p. after_release (released_classes w w' name p) p) (wake (woken w w') w').pools name)
-      ∙ ap (λ m. option_map part (option_map (λ p. after_release (released_classes w w' name p) p) (get m name)))
-      (queues_keep (λ x. x.pools) (λ x ks. refl) (woken w w') _)
-      ∙ by (get w'.pools name)
-    where
-      by : (o : Option PoolRows) → option_map part (option_map (λ p. after_release (released_classes w w' name p) p) o) ≡ option_map part o
-      by None = refl
-      by (Some p) = ap Some (same (released_classes w w' name p) p)
+  settled_pool part same = record_kept (λ name p. after_release (released_classes w w' name p) p) part
+      (λ name p. same (released_classes w w' name p) p) _ name
+      ∙ ap (λ m. option_map part (get m name)) (queues_keep (λ x. x.pools) (λ x ks. refl) (woken w w') _)
 
   pub settled_quota : (part : QuotaRows → A) → ((b : Bool) (q : QuotaRows) → part (after_quota_release b q) ≡ part q) →
       option_map part (get (settle w w').quotas name) ≡ option_map part (get w'.quotas name)
   unfolding settle stamp number_releases wake
-  settled_quota part same = ap (option_map part) (get-map_rows names one_name (λ name q. after_quota_release (releases_quota w w' name q) q) (wake (woken w w') w').quotas name)
-      ∙ ap (λ m. option_map part (option_map (λ q. after_quota_release (releases_quota w w' name q) q) (get m name)))
-      (queues_keep (λ x. x.quotas) (λ x ks. refl) (woken w w') _)
-      ∙ by (get w'.quotas name)
-    where
-      by : (o : Option QuotaRows) → option_map part (option_map (λ q. after_quota_release (releases_quota w w' name q) q) o) ≡ option_map part o
-      by None = refl
-      by (Some q) = ap Some (same (releases_quota w w' name q) q)
+  settled_quota part same = record_kept (λ name q. after_quota_release (releases_quota w w' name q) q) part
+      (λ name q. same (releases_quota w w' name q) q) _ name
+      ∙ ap (λ m. option_map part (get m name)) (queues_keep (λ x. x.quotas) (λ x ks. refl) (woken w w') _)
 
   pub settled_part : (part : Tenant → A) → ((i : ℕ) (o t : Tenant) → part (stamped i o t) ≡ part t) →
       ((keys : List Key) (t : Tenant) → part (unblocked_in keys name t) ≡ part t) →

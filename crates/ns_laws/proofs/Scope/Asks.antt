@@ -32,10 +32,9 @@ use Rattle.ns_types.specs.Asking.Asks.{first_refusal, document_of, registered_jo
 use Rattle.ns_types.specs.Asking.Policies.{with_world}
 use Rattle.ns_types.specs.Settling.Making.{put_tenant, with_job, with_desired, with_evaluation, evaluation_of, evaluation_for, make_in}
 use Rattle.ns_types.specs.Settling.Outcome.{Outcome, NotEnabled, Refused, Done}
-use Rattle.ns_types.specs.Settling.Releases.{woken, released_classes, releases_quota}
+use Rattle.ns_types.specs.Settling.Releases.{woken}
 use Rattle.ns_types.specs.Settling.Settle.{settle, stamp, number_releases, wake, unblocked_in, woken_row, pending, is_touched, stamped, stamp_tenant}
-use Rattle.ns_types.specs.Settling.Settle.{stamped_evaluation, stamped_allocation, changes_evaluation, created_at}
-use Rattle.ns_types.specs.Settling.Settle.{after_release, after_quota_release, events_of, topics_of}
+use Rattle.ns_types.specs.Settling.Settle.{stamped_evaluation, stamped_allocation, changes_evaluation, created_at, after_release, events_of, topics_of}
 use Rattle.ns_types.specs.State.Lists.{Each}
 use Rattle.ns_types.specs.State.Names.{Name, ByName, Key, same_name, has_key}
 use Rattle.ns_types.specs.State.Rows.{State, World, Tenant, PoolRows, QuotaRows, is_live, evaluation_at}
@@ -48,8 +47,8 @@ use Rattle.ns_types.proofs.Settling.{kept_evaluation, kept_allocation}
 use Rattle.ns_types.proofs.TableRows.{get_put, get_other}
 use Rattle.ns_types.proofs.Tables.{get-map_rows, map_rows_idle}
 use Rattle.ns_types.proofs.Tests.{not_Some, same_Some}
-use Rattle.ns_audit.proofs.Alone.Recording.{record_kept}
 use Rattle.ns_audit.proofs.Alone.Records.{plain_keeps}
+use Rattle.ns_laws.proofs.Effect.Rows.{same_limits, settled_pool, settled_quota}
 use Rattle.ns_laws.proofs.Scope.Sharing.{other_name}
 use Rattle.ns_laws.proofs.Wakes.Queue.{woken_are_called}
 use Rattle.ns_audit.proofs.StepLemmas.{same_answer, same_state, not_said, not_refused}
@@ -393,23 +392,6 @@ released_keeps : (classes : List Class) (p : PoolRows) → pool_kept (after_rele
 released_keeps [] p = refl
 released_keeps (class ∷ classes) p = refl
 
-quota_released_keeps : (b : Bool) (q : QuotaRows) → quota_kept (after_quota_release b q) ≡ quota_kept q
-quota_released_keeps true q = refl
-quota_released_keeps false q = refl
-
-module _ (w x : World) where
-  pools_settled : (k : Name) → option_map pool_kept (get (settle w x).pools k) ≡ option_map pool_kept (get x.pools k)
-  unfolding settle stamp number_releases wake
-  pools_settled k = record_kept (λ name pool. after_release (released_classes w x name pool) pool) pool_kept
-      (λ name pool. released_keeps (released_classes w x name pool) pool) _ k
-      ∙ ap (λ m. option_map pool_kept (get m k)) (queues_keep (λ y. y.pools) (λ y keys. refl) (woken w x) _)
-
-  quotas_settled : (k : Name) → option_map quota_kept (get (settle w x).quotas k) ≡ option_map quota_kept (get x.quotas k)
-  unfolding settle stamp number_releases wake
-  quotas_settled k = record_kept (λ name quota. after_quota_release (releases_quota w x name quota) quota) quota_kept
-      (λ name quota. quota_released_keeps (releases_quota w x name quota) quota) _ k
-      ∙ ap (λ m. option_map quota_kept (get m k)) (queues_keep (λ y. y.quotas) (λ y keys. refl) (woken w x) _)
-
 pub ask_leaves_pools : law.AskLeavesPools
 ask_leaves_pools ns secret command s s' answer e = (
   λ name pool nodes. (pool_still _ _ (sym (pools name)) pool nodes, pool_still _ _ (pools name) pool nodes),
@@ -422,23 +404,22 @@ ask_leaves_pools ns secret command s s' answer e = (
         let r = has_still pool_kept o p e (pool, nodes) (h.0, h.1, λ i. (h.2 i, h.3 i)) in
         (r.0, r.1, ap (λ y. y.0) r.2, ap (λ y. y.1) r.2)
 
-    pools : (name : Name) → option_map pool_kept (get s'.world.pools name) ≡ option_map pool_kept (get s.world.pools name)
-    pools name = by (led s s' (Step.Ask ns secret command) answer e)
+    -- what the end of the step and the step's own change keep is as it was
+    still : {A : Type 0} (part : World → A) → ((l : Led s s' (Step.Ask ns secret command) answer) → part (settle s.world l.own.world) ≡ part s.world) →
+        part s'.world ≡ part s.world
+    still part kept = by (led s s' (Step.Ask ns secret command) answer e)
       where
-        by : IsRefused s s' answer ⊎ Led s s' (Step.Ask ns secret command) answer →
-            option_map pool_kept (get s'.world.pools name) ≡ option_map pool_kept (get s.world.pools name)
-        by (inl refused) = ap (λ (y : State). option_map pool_kept (get y.world.pools name)) (sym refused.0)
-        by (inr l) = ap (λ (y : State). option_map pool_kept (get y.world.pools name)) (sym l.is) ∙ pools_settled s.world l.own.world name ∙
-            ap (λ m. option_map pool_kept (get m name)) (own_stays s s' ns secret command answer l).pools
+        by : IsRefused s s' answer ⊎ Led s s' (Step.Ask ns secret command) answer → part s'.world ≡ part s.world
+        by (inl refused) = ap (λ (y : State). part y.world) (sym refused.0)
+        by (inr l) = ap (λ (y : State). part y.world) (sym l.is) ∙ kept l
+
+    pools : (name : Name) → option_map pool_kept (get s'.world.pools name) ≡ option_map pool_kept (get s.world.pools name)
+    pools name = still (λ w. option_map pool_kept (get w.pools name)) (λ l. settled_pool s.world l.own.world name pool_kept released_keeps ∙
+        ap (λ m. option_map pool_kept (get m name)) (own_stays s s' ns secret command answer l).pools)
 
     quotas : (name : Name) → option_map quota_kept (get s'.world.quotas name) ≡ option_map quota_kept (get s.world.quotas name)
-    quotas name = by (led s s' (Step.Ask ns secret command) answer e)
-      where
-        by : IsRefused s s' answer ⊎ Led s s' (Step.Ask ns secret command) answer →
-            option_map quota_kept (get s'.world.quotas name) ≡ option_map quota_kept (get s.world.quotas name)
-        by (inl refused) = ap (λ (y : State). option_map quota_kept (get y.world.quotas name)) (sym refused.0)
-        by (inr l) = ap (λ (y : State). option_map quota_kept (get y.world.quotas name)) (sym l.is) ∙ quotas_settled s.world l.own.world name ∙
-            ap (λ m. option_map quota_kept (get m name)) (own_stays s s' ns secret command answer l).quotas
+    quotas name = still (λ w. option_map quota_kept (get w.quotas name)) (λ l. settled_quota s.world l.own.world name quota_kept same_limits ∙
+        ap (λ m. option_map quota_kept (get m name)) (own_stays s s' ns secret command answer l).quotas)
 
 -- ---- the order of what waits
 

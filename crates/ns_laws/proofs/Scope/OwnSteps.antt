@@ -1,18 +1,20 @@
 -- What own means for each kind of step, and so the laws of steps kind by kind.
-use Rattle.std.specs.Prelude.{◌≡◌, ◌≢◌, Bool, true, false, List, Option, ◌&&◌}
+use Rattle.std.specs.Prelude.{◌≡◌, true, false, List, Option, ◌&&◌}
 use Rattle.std.proofs.Common.{◌⊎◌, inl, inr, refl, sym, ap, ◌∙◌}
 use Rattle.std.proofs.Math.Bool.{and-false}
 use Rattle.ns_types.specs.declared.step.NodeCommand.{NodeCommand}
 use Rattle.ns_types.specs.declared.step.Step.{Step}
 use Rattle.ns_types.specs.Isolation.{Part, part_of, alone, concerns, is_own}
-use Rattle.ns_types.specs.State.Names.{Name, same_name, has_name}
+use Rattle.ns_types.specs.State.Names.{Name, has_name}
 use Rattle.ns_types.specs.State.Rows.{State}
 use Rattle.ns_types.specs.Steps.{after}
-use Rattle.ns_types.proofs.Named.{same_name_is, same_name_refl}
+use Rattle.ns_types.proofs.Named.{same_name_refl}
 use Rattle.ns_audit.specs.Laws.{is_admin}
 use Rattle.ns_audit.proofs.Alone.Bordering.{fit_apart}
 use Rattle.ns_audit.proofs.Alone.Heading.{own_step, other_step}
 use Rattle.ns_audit.proofs.Alone.Stepping.{own_step_apart, other_step_apart}
+use Rattle.ns_laws.proofs.Scope.Reach.{concerns_its}
+use Rattle.ns_laws.proofs.Scope.Sharing.{other_name}
 use Rattle.ns_laws.specs.Kinds.{AloneIsBeside, IsBeside, GoesAlike, LeavesIt, ReportsIts, ReportsAnother, OwnAsk}
 use Rattle.ns_laws.specs.Kinds.{OtherAsk, OwnAdmin, OtherAdmin, OwnNode, OtherNode}
 use Rattle.ns_laws.specs.Kinds.{OwnDequeue, OtherDequeue, OwnSnap, OtherSnap, OwnSubmit, OtherSubmit, OwnApply, OtherApply, OwnFinish, OtherFinish}
@@ -20,33 +22,17 @@ use Rattle.ns_laws.specs.Kinds.{OwnNack, OtherNack}
 
 -- ---- whose a step is
 
-differs : (ns other : Name) → other ≢ ns → same_name ns other ≡ false
-differs ns other another = by (same_name ns other) refl
-  where
-    by : (b : Bool) → same_name ns other ≡ b → b ≡ false
-    by true same = absurd (another (sym (same_name_is ns other same)))
-    by false _ = refl
-
 module _ (ns : Name) (pools quotas : List Name) where
   abbrev pub part : Part
   part = part_of ns pools quotas
 
-  reports_its : (command : NodeCommand) → ReportsIts ns command → concerns part command ≡ true
-  reports_its NodeCommand.ReadPool its = refl
-  reports_its NodeCommand.ListNodes its = refl
-  reports_its (NodeCommand.PutNode node offer) its = refl
-  reports_its (NodeCommand.DeleteNode node) its = refl
-  reports_its (NodeCommand.SetStatus node status) its = refl
-  reports_its (NodeCommand.SetEligible node eligible) its = refl
-  reports_its (NodeCommand.Report node report) its = ap (same_name ns) (its node report refl) ∙ same_name_refl ns
-
   reports_another : (command : NodeCommand) → ReportsAnother ns command → concerns part command ≡ false
-  reports_another command r = ap (concerns part) r.is_report ∙ differs ns r.report.namespace r.another
+  reports_another command r = ap (concerns part) r.is_report ∙ other_name ns r.report.namespace r.another
 
   its_node : (pool : Name) (secret : Option Name) (command : NodeCommand) → has_name pools pool ≡ true → ReportsIts ns command →
       is_own part (Step.Node pool secret command) ≡ true
   unfolding is_own
-  its_node pool secret command has its = λ i. has i && reports_its command its i
+  its_node pool secret command has its = λ i. has i && concerns_its ns pools quotas command its i
 
   other_node_of : (pool : Name) (secret : Option Name) (command : NodeCommand) → (has_name pools pool ≡ false) ⊎ ReportsAnother ns command →
       is_own part (Step.Node pool secret command) ≡ false
@@ -79,7 +65,7 @@ own_ask ns pools quotas s t secret command b = alike ns pools quotas s t b (Step
 pub other_ask : OtherAsk
 unfolding is_own
 other_ask ns asked pools quotas s t secret command b another =
-    left ns pools quotas s t b (Step.Ask asked secret command) refl (differs ns asked another)
+    left ns pools quotas s t b (Step.Ask asked secret command) refl (other_name ns asked another)
 
 pub own_admin : OwnAdmin
 unfolding is_own
@@ -105,7 +91,7 @@ own_dequeue worker n ns pools quotas s t b = alike ns pools quotas s t b (Step.D
 
 pub other_dequeue : OtherDequeue
 unfolding is_own
-other_dequeue worker n ns other pools quotas s t b another = left ns pools quotas s t b (Step.Dequeue worker other n) refl (differs ns other another)
+other_dequeue worker n ns other pools quotas s t b another = left ns pools quotas s t b (Step.Dequeue worker other n) refl (other_name ns other another)
 
 pub own_snap : OwnSnap
 unfolding is_own
@@ -113,7 +99,7 @@ own_snap worker ns pools quotas s t b = alike ns pools quotas s t b (Step.Snap w
 
 pub other_snap : OtherSnap
 unfolding is_own
-other_snap worker ns other pools quotas s t b another = left ns pools quotas s t b (Step.Snap worker other) refl (differs ns other another)
+other_snap worker ns other pools quotas s t b another = left ns pools quotas s t b (Step.Snap worker other) refl (other_name ns other another)
 
 pub own_submit : OwnSubmit
 unfolding is_own
@@ -121,7 +107,7 @@ own_submit worker ns pools quotas s t b = alike ns pools quotas s t b (Step.Subm
 
 pub other_submit : OtherSubmit
 unfolding is_own
-other_submit worker ns other pools quotas s t b another = left ns pools quotas s t b (Step.Submit worker other) refl (differs ns other another)
+other_submit worker ns other pools quotas s t b another = left ns pools quotas s t b (Step.Submit worker other) refl (other_name ns other another)
 
 pub own_apply : OwnApply
 unfolding is_own
@@ -129,7 +115,7 @@ own_apply worker ns pools quotas s t b = alike ns pools quotas s t b (Step.Apply
 
 pub other_apply : OtherApply
 unfolding is_own
-other_apply worker ns other pools quotas s t b another = left ns pools quotas s t b (Step.Apply worker other) refl (differs ns other another)
+other_apply worker ns other pools quotas s t b another = left ns pools quotas s t b (Step.Apply worker other) refl (other_name ns other another)
 
 pub own_finish : OwnFinish
 unfolding is_own
@@ -137,7 +123,7 @@ own_finish worker ns pools quotas s t b = alike ns pools quotas s t b (Step.Fini
 
 pub other_finish : OtherFinish
 unfolding is_own
-other_finish worker ns other pools quotas s t b another = left ns pools quotas s t b (Step.Finish worker other) refl (differs ns other another)
+other_finish worker ns other pools quotas s t b another = left ns pools quotas s t b (Step.Finish worker other) refl (other_name ns other another)
 
 pub own_nack : OwnNack
 unfolding is_own
@@ -145,4 +131,4 @@ own_nack worker ns pools quotas s t b = alike ns pools quotas s t b (Step.Nack w
 
 pub other_nack : OtherNack
 unfolding is_own
-other_nack worker ns other pools quotas s t b another = left ns pools quotas s t b (Step.Nack worker other) refl (differs ns other another)
+other_nack worker ns other pools quotas s t b another = left ns pools quotas s t b (Step.Nack worker other) refl (other_name ns other another)

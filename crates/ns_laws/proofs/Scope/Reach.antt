@@ -184,7 +184,7 @@ pub own_by_namespace : law.OwnByNamespace
 own_by_namespace ns other pools quotas step is = own_by ns other pools quotas step is
 
 module _ (ns : Name) (pools quotas : List Name) where
-  concerns_its : (command : NodeCommand) → ReportsIts ns command → concerns (part_of ns pools quotas) command ≡ true
+  pub concerns_its : (command : NodeCommand) → ReportsIts ns command → concerns (part_of ns pools quotas) command ≡ true
   concerns_its NodeCommand.ReadPool its = refl
   concerns_its NodeCommand.ListNodes its = refl
   concerns_its (NodeCommand.PutNode node offer) its = refl
