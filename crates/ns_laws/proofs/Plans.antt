@@ -3,6 +3,7 @@ pub mod ApplyQuota
 pub mod ApplyRows
 pub mod ApplyStep
 pub mod Constraints
+pub mod Deciding
 pub mod InTurn
 pub mod Limits
 pub mod OwnJobs

@@ -18,13 +18,12 @@ use Rattle.ns_types.specs.Settling.Making.{change_tenant, evaluation_for, put_po
 use Rattle.ns_types.specs.Settling.Outcome.{NotEnabled}
 use Rattle.ns_types.specs.State.Lists.{Each, first_each}
 use Rattle.ns_types.specs.State.Names.{Key, Name, has_key, has_number, same_key, same_number}
-use Rattle.ns_types.specs.State.Resources.{plus}
 use Rattle.ns_types.specs.State.Rows.{PoolRows, Tenant, World, allocation_at, is_held, is_live, is_run, node_at}
 use Rattle.ns_types.specs.Validity.{IsSound}
-use Rattle.ns_types.specs.Working.Commit.{Applied, Commit, Victim, accepts_at, applied, applied_worker}
+use Rattle.ns_types.specs.Working.Commit.{Applied, Commit, Victim, applied, applied_worker}
 use Rattle.ns_types.specs.Working.Commit.{apply, apply_for, begun, commit, committed_placements, counts}
 use Rattle.ns_types.specs.Working.Commit.{decide, done, evict, evict_all, evicted_rows, least_of_job, live_stops, make_up, new_allocation, node_name, nodes_in}
-use Rattle.ns_types.specs.Working.Commit.{part_of, place_all, place_one, place_with, refused_whole, same_victim_job, size_of, still_stands, stop_all, victim_at}
+use Rattle.ns_types.specs.Working.Commit.{part_of, place_all, place_one, place_with, refused_whole, same_victim_job, still_stands, stop_all, victim_at}
 use Rattle.ns_types.specs.Working.Commit.{victim_key, victims_in, victims_of, with_allocation, with_place}
 use Rattle.ns_types.specs.Working.Queue.{is_served}
 use Rattle.ns_types.specs.Working.Work.{is_submitted, with_worker, without_key}
@@ -48,6 +47,7 @@ use Rattle.ns_laws.proofs.Effect.Evaluations.{made_for}
 use Rattle.ns_laws.proofs.Endings.Evictions.{all_keep, counts_as, least_job}
 use Rattle.ns_laws.proofs.Endings.Rows.{Same}
 use Rattle.ns_laws.proofs.Endings.Victims.{counted_on, was_live}
+use Rattle.ns_laws.proofs.Plans.Deciding.{decide_all, decide_either}
 
 -- ---- elements of lists
 
@@ -195,29 +195,11 @@ module _ (w : World) (step : Step) (kept : Snapshot) (applies : AppliesPlan w st
         by (inr last) = its (sym (or_none (same_number p.node k)) ∙ last) (h.turns (victim_key e))
 
     decide_falls : Falls (decide kept ps c k).committed (decide kept ps c k).world
-    unfolding decide
-    decide_falls = by (accepts_at kept (evict_all c.world (victims_of c.world kept (part_of k ps))) (node_name kept k) (part_of k ps) c.placed)
-      where
-        by : (b : Bool) → Falls (cond b (record {
-          world = evict_all c.world (victims_of c.world kept (part_of k ps));
-          placed = plus c.placed (size_of (part_of k ps));
-          committed = c.committed ++ k ∷ [];
-          dropped = c.dropped;
-        }) (record c { dropped = c.dropped ++ k ∷ [] })).committed (cond b (record {
-          world = evict_all c.world (victims_of c.world kept (part_of k ps));
-          placed = plus c.placed (size_of (part_of k ps));
-          committed = c.committed ++ k ∷ [];
-          dropped = c.dropped;
-        }) (record c { dropped = c.dropped ++ k ∷ [] })).world
-        by true = record { turns = evicted_turns; done_ = evicted_done }
-        by false = record { turns = h.turns; done_ = h.done_ }
-
-  decided_falls : (ks : List ℕ) (c : Commit) → Falls c.committed c.world → Falls (fold (decide kept ps) c ks).committed (fold (decide kept ps) c ks).world
-  decided_falls [] c h = h
-  decided_falls (k ∷ ks) c h = decided_falls ks (decide kept ps c k) (decide_falls c k h)
+    decide_falls = decide_either kept ps (λ d. Falls d.committed d.world) c k (λ _. record { turns = evicted_turns; done_ = evicted_done })
+        (record { turns = h.turns; done_ = h.done_ })
 
   all_fall : Falls decided.committed decided.world
-  all_fall = decided_falls (nodes_in ps) (begun stopped) (record {
+  all_fall = decide_all kept ps (λ d. Falls d.committed d.world) decide_falls (nodes_in ps) (begun stopped) (record {
     turns = λ key. inl refl;
     done_ = λ p planned on e is_one counted. absurd (subst T (sym on) tt);
   })

@@ -1,5 +1,5 @@
 -- What Apply places keeps to the quota of its namespace.
-use Rattle.std.specs.Prelude.{◌≡◌, ◌≢◌, ◌⊎◌, ℕ, ◌+◌, ◌≤◌, Bool, true, false, cond, ◌&&◌, List, [], ◌∷◌, ◌++◌}
+use Rattle.std.specs.Prelude.{◌≡◌, ◌≢◌, ◌⊎◌, ℕ, ◌+◌, ◌≤◌, Bool, true, false, cond, List, [], ◌∷◌, ◌++◌}
 use Rattle.std.specs.Prelude.{Option, Some, None, filter, fold, option_map, sum_by}
 use Rattle.std.proofs.Common.{refl, sym, ap, subst, ◌∙◌, arith, inl, inr}
 use Rattle.std.specs.FinMap.{entries, get, insert}
@@ -22,18 +22,17 @@ use Rattle.ns_types.specs.declared.resources.Limit.TheVariants.{Unlimited, AtMos
 use Rattle.ns_types.specs.declared.resources.Limit.{Limit}
 use Rattle.ns_types.specs.declared.resources.Resources.{Resources}
 use Rattle.ns_types.specs.declared.snapshot.Snapshot.{Snapshot}
-use Rattle.ns_types.specs.Placing.Constraint.{is_feasible}
-use Rattle.ns_types.specs.Placing.Plan.{constraints_of, plan}
+use Rattle.ns_types.specs.Placing.Plan.{plan}
 use Rattle.ns_types.specs.Settling.Making.{change_tenant, evaluation_for, make, make_in, put_pool, put_tenant, with_desired, with_evaluation}
 use Rattle.ns_types.specs.Settling.Releases.{woken}
 use Rattle.ns_types.specs.Settling.Settle.{changes_allocation, created_at, is_touched, settle, stamp_tenant, stamped, stamped_allocation, unblocked_in}
 use Rattle.ns_types.specs.State.Lists.{first_each}
 use Rattle.ns_types.specs.State.Names.{Name, has_number, same_number}
-use Rattle.ns_types.specs.State.Resources.{Resource, is_within, limit_allows, limit_on, limits_allow, limits_in, plus, quantity, unlimited}
+use Rattle.ns_types.specs.State.Resources.{Resource, limit_allows, limit_on, limits_allow, limits_in, plus, quantity, unlimited}
 use Rattle.ns_types.specs.State.Rows.{State, World, Tenant, PoolRows, QuotaRows, is_live, node_at}
-use Rattle.ns_types.specs.State.Sums.{names_quota, node_load, quota_sum, quota_use, tenant_sum}
+use Rattle.ns_types.specs.State.Sums.{names_quota, quota_sum, quota_use, tenant_sum}
 use Rattle.ns_types.specs.Validity.{IsValid}
-use Rattle.ns_types.specs.Working.Commit.{Applied, Commit, Victim, accepts, accepts_at, applied_worker, begun, commit}
+use Rattle.ns_types.specs.Working.Commit.{Applied, Commit, Victim, applied_worker, begun, commit}
 use Rattle.ns_types.specs.Working.Commit.{committed_placements, counted, decide, done, evict, evict_all, evicted_rows, least_of_job, live_stops, make_up}
 use Rattle.ns_types.specs.Working.Commit.{new_allocation, node_name, nodes_in, numbers_after, part_of, place_all, place_one, place_with, quota_allows}
 use Rattle.ns_types.specs.Working.Commit.{quota_named, refused_whole, same_victim_job, size_of, still_stands, stop_all, victims_of, with_allocation, with_place}
@@ -41,7 +40,7 @@ use Rattle.ns_types.specs.Working.Work.{with_worker}
 use Rattle.ns_types.specs.Working.Worker.{Worker}
 use Rattle.ns_types.proofs.Amounts.{quantity_of, true_at}
 use Rattle.ns_types.proofs.Lists.{each, filter_none, not_both}
-use Rattle.ns_types.proofs.Named.{names, numbers, one_name, one_number, same_number_refl, second_of_both}
+use Rattle.ns_types.proofs.Named.{names, numbers, one_name, one_number, same_number_refl}
 use Rattle.ns_types.proofs.Sums.{sum_part}
 use Rattle.ns_audit.proofs.Steady.Keeping.{row_of_map}
 use Rattle.ns_types.proofs.Tests.{not_Some, same_Some}
@@ -52,6 +51,7 @@ use Rattle.ns_audit.proofs.ValidAllocations.Sums.{sum_below, sum_put}
 use Rattle.ns_laws.specs.Planning as law
 use Rattle.ns_laws.proofs.Effect.Rows.{settled_rows, settled_tenant}
 use Rattle.ns_laws.proofs.Plans.ApplyStep.{after_apply, marked}
+use Rattle.ns_laws.proofs.Plans.Deciding.{accepted, committing, decide_all, decide_either, is_accepted, left_by}
 use Rattle.ns_laws.proofs.Plans.Limits.{allows_is}
 
 -- ---- worlds that use no more
@@ -320,34 +320,15 @@ module _ (kept : Snapshot) (q : Name) (rows : QuotaRows) where
         none r e = subst (λ xs. sum_by (λ (p : Placement). quantity r p.size) xs ≤ quantity r (begun w).placed) (sym e) (omega arith)
 
     decide_keeps : (c : Commit) (k : ℕ) → Keeps c → Keeps (decide kept ps c k)
-    unfolding decide
-    decide_keeps c k h = by (accepts_at kept (left c k) (node_name kept k) (part_of k ps) c.placed) refl
+    decide_keeps c k h = decide_either kept ps Keeps c k commits (record { has = h.has; within = h.within; covered = h.covered })
       where
-        left : Commit → ℕ → World
-        left c k = evict_all c.world (victims_of c.world kept (part_of k ps))
-
-        left_has : HasQuota (evict_all c.world (victims_of c.world kept (part_of k ps)))
+        left_has : HasQuota (left_by kept ps c k)
         left_has = evicts_has (victims_of c.world kept (part_of k ps)) c.world h.has
 
-        allows : (o : Option Node) → option_map_or (accepts kept (evict_all c.world (victims_of c.world kept (part_of k ps))) (node_name kept k) (part_of k ps) c.placed) o false ≡ true
-            → quota_allows (evict_all c.world (victims_of c.world kept (part_of k ps))) kept.namespace (plus c.placed (size_of (part_of k ps))) ≡ true
-        allows None e = not_both e refl
-        allows (Some node) e = second_of_both (is_feasible (constraints_of kept.job) (node_name kept k) node
-            && is_within (plus (node_load (evict_all c.world (victims_of c.world kept (part_of k ps))) kept.pool (node_name kept k)) (size_of (part_of k ps)))
-            node.offer.capacity) _ e
-
-        by : (b : Bool) → accepts_at kept (evict_all c.world (victims_of c.world kept (part_of k ps))) (node_name kept k) (part_of k ps) c.placed ≡ b → Keeps
-            (cond b (record {
-              world = evict_all c.world (victims_of c.world kept (part_of k ps));
-              placed = plus c.placed (size_of (part_of k ps));
-              committed = c.committed ++ k ∷ [];
-              dropped = c.dropped;
-            }) (record c { dropped = c.dropped ++ k ∷ [] }))
-        by false e = record { has = h.has; within = h.within; covered = h.covered }
-        by true e = record {
+        commits : is_accepted kept ps c k ≡ true → Keeps (committing kept ps c k)
+        commits e = record {
           has = left_has;
-          within = inr (sym (allowed_is (evict_all c.world (victims_of c.world kept (part_of k ps))) (plus c.placed (size_of (part_of k ps))) left_has)
-              ∙ allows (node_at (evict_all c.world (victims_of c.world kept (part_of k ps))) kept.pool (node_name kept k)) e);
+          within = inr (sym (allowed_is (left_by kept ps c k) (plus c.placed (size_of (part_of k ps))) left_has) ∙ (accepted kept ps c k e).3);
           covered = λ r.
               let more = one_more (quantity r) c.committed k ps in
               let before = h.covered r in
@@ -355,10 +336,6 @@ module _ (kept : Snapshot) (q : Name) (rows : QuotaRows) where
               let part = quantity_of (λ r. sum_by (λ (p : Placement). quantity r p.size) (part_of k ps)) r in
               omega (arith, more, before, sum, part);
         }
-
-    all_keep : (ks : List ℕ) (c : Commit) → Keeps c → Keeps (fold (decide kept ps) c ks)
-    all_keep [] c h = h
-    all_keep (k ∷ ks) c h = all_keep ks (decide kept ps c k) (decide_keeps c k h)
 
 -- ---- the whole
 
@@ -396,7 +373,7 @@ module _ (s : State) (valid : IsValid s) (ns : Name) (owner : Tenant) (is_owner 
     )
 
     kept_quota : Keeps kept q rows ps decided
-    kept_quota = all_keep kept q rows ps (nodes_in ps) (begun stopped) (begins kept q rows ps stopped
+    kept_quota = decide_all kept ps (Keeps kept q rows ps) (decide_keeps kept q rows ps) (nodes_in ps) (begun stopped) (begins kept q rows ps stopped
         (change_has kept q rows kept.namespace (λ u. fold (λ x n. with_desired n DesiredStatus.Stop x) u (live_stops t (plan kept).stops))
         (λ u. stops_same (live_stops t (plan kept).stops) u) s.world begun_has))
 

@@ -28,20 +28,18 @@ use Rattle.ns_types.specs.Settling.Releases.{woken}
 use Rattle.ns_types.specs.Settling.Settle.{changes_allocation, created_at, is_touched, settle, stamp_tenant, stamped, stamped_allocation, unblocked_in}
 use Rattle.ns_types.specs.State.Lists.{Each, first_each, sorted_names}
 use Rattle.ns_types.specs.State.Names.{Name, has_name, has_number, name_cmp, same_name, same_number}
-use Rattle.ns_types.specs.State.Resources.{is_within, plus}
 use Rattle.ns_types.specs.State.Rows.{State, World, Tenant, PoolRows, node_at}
-use Rattle.ns_types.specs.State.Sums.{node_load}
 use Rattle.ns_types.specs.Validity.{IsValid}
-use Rattle.ns_types.specs.Working.Commit.{Commit, Victim, accepts, accepts_at, applied_worker, begun, commit, committed_placements, counted}
+use Rattle.ns_types.specs.Working.Commit.{Commit, Victim, applied_worker, begun, commit, committed_placements, counted}
 use Rattle.ns_types.specs.Working.Commit.{decide, done, evict, evict_all, evicted_rows, least_of_job, live_stops, make_up, new_allocation}
 use Rattle.ns_types.specs.Working.Commit.{names_in, node_name, nodes_in, numbers_after, part_of}
 use Rattle.ns_types.specs.Working.Commit.{place_all, place_one, place_with, refused_whole, same_victim_job}
-use Rattle.ns_types.specs.Working.Commit.{size_of, still_stands, stop_all, victims_of, with_allocation, with_place}
+use Rattle.ns_types.specs.Working.Commit.{still_stands, stop_all, victims_of, with_allocation, with_place}
 use Rattle.ns_types.specs.Working.Work.{with_worker}
 use Rattle.ns_types.specs.Working.Worker.{Worker}
 use Rattle.ns_types.proofs.Elements.{any_kept, each_append, each_kept, each_still}
 use Rattle.ns_types.proofs.Lists.{each, each_map, filter_none, not_both}
-use Rattle.ns_types.proofs.Named.{first_of_both, names, numbers, one_number, other_number, same_name_refl, same_number_refl}
+use Rattle.ns_types.proofs.Named.{names, numbers, one_number, other_number, same_name_refl, same_number_refl}
 use Rattle.ns_types.proofs.TableRows.{get_put, get_other}
 use Rattle.ns_types.proofs.Tables.{get-map_rows, tied}
 use Rattle.ns_types.proofs.Tests.{either_of, not_Some, same_Some}
@@ -51,6 +49,7 @@ use Rattle.ns_audit.proofs.ValidAllocations.Room.{each_has}
 use Rattle.ns_laws.specs.Planning as law
 use Rattle.ns_laws.proofs.Effect.Rows.{put_there, settled_rows, settled_tenant}
 use Rattle.ns_laws.proofs.Plans.ApplyStep.{after_apply, marked}
+use Rattle.ns_laws.proofs.Plans.Deciding.{accepted, committing, decide_all, decide_either, is_accepted, left_by}
 use Rattle.ns_laws.proofs.Plans.Planning.{fit_is, places_groups, places_on_fit_nodes}
 
 -- ---- what leaves the allocations as they are
@@ -292,43 +291,26 @@ module _ (kept : Snapshot) (ps : List Placement) where
     numbers_on : Onward Numbers w c.world
 
   decide_stands : (w : World) (c : Commit) (k : ℕ) → Stands w c → Stands w (decide kept ps c k)
-  unfolding decide FitAt
-  decide_stands w c k h = by (accepts_at kept (evict_all c.world (victims_of c.world kept (part_of k ps))) (node_name kept k) (part_of k ps) c.placed) refl
+  unfolding FitAt
+  decide_stands w c k h = decide_either kept ps (Stands w) c k commits (record { nodes = h.nodes; pools = h.pools; numbers_on = h.numbers_on })
     where
-      left_pools : (evict_all c.world (victims_of c.world kept (part_of k ps))).pools ≡ w.pools
+      left_pools : (left_by kept ps c k).pools ≡ w.pools
       left_pools = evicts_pools (victims_of c.world kept (part_of k ps)) c.world ∙ h.pools
 
-      there : (o : Option Node) → node_at (evict_all c.world (victims_of c.world kept (part_of k ps))) kept.pool (node_name kept k) ≡ o
-          → option_map_or (accepts kept (evict_all c.world (victims_of c.world kept (part_of k ps))) (node_name kept k) (part_of k ps) c.placed) o false ≡ true
-          → FitAt w k
-      there None is e = not_both e refl
-      there (Some node) is e = (
-        node,
-        ap (λ m. option_and_then (λ (p : PoolRows). get p.nodes (node_name kept k)) (get m kept.pool)) (sym left_pools) ∙ is,
-        first_of_both (is_feasible (constraints_of kept.job) (node_name kept k) node) _ (first_of_both (is_feasible (constraints_of kept.job) (node_name kept k) node
-            && is_within (plus (node_load (evict_all c.world (victims_of c.world kept (part_of k ps))) kept.pool (node_name kept k)) (size_of (part_of k ps)))
-            node.offer.capacity) _ e),
-      )
-
-      by : (b : Bool) → accepts_at kept (evict_all c.world (victims_of c.world kept (part_of k ps))) (node_name kept k) (part_of k ps) c.placed ≡ b → Stands w
-          (cond b (record {
-            world = evict_all c.world (victims_of c.world kept (part_of k ps));
-            placed = plus c.placed (size_of (part_of k ps));
-            committed = c.committed ++ k ∷ [];
-            dropped = c.dropped;
-          }) (record c { dropped = c.dropped ++ k ∷ [] }))
-      by false e = record { nodes = h.nodes; pools = h.pools; numbers_on = h.numbers_on }
-      by true e = record {
-        nodes = each_append (FitAt w) c.committed (k ∷ []) h.nodes
-            (there (node_at (evict_all c.world (victims_of c.world kept (part_of k ps))) kept.pool (node_name kept k)) refl e, tt);
+      commits : is_accepted kept ps c k ≡ true → Stands w (committing kept ps c k)
+      commits e = let fit = accepted kept ps c k e in record {
+        nodes = each_append (FitAt w) c.committed (k ∷ []) h.nodes (
+          (
+            fit.0,
+            ap (λ m. option_and_then (λ (p : PoolRows). get p.nodes (node_name kept k)) (get m kept.pool)) (sym left_pools) ∙ fit.1,
+            fit.2,
+          ),
+          tt,
+        );
         pools = left_pools;
-        numbers_on = onward_then Numbers numbers_still numbers_then w c.world (evict_all c.world (victims_of c.world kept (part_of k ps))) h.numbers_on
+        numbers_on = onward_then Numbers numbers_still numbers_then w c.world (left_by kept ps c k) h.numbers_on
             (evicts_numbers (victims_of c.world kept (part_of k ps)) c.world);
       }
-
-  all_stand : (w : World) (ks : List ℕ) (c : Commit) → Stands w c → Stands w (fold (decide kept ps) c ks)
-  all_stand w [] c h = h
-  all_stand w (k ∷ ks) c h = all_stand w ks (decide kept ps c k) (decide_stands w c k h)
 
 -- ---- the nodes that are dropped
 
@@ -388,8 +370,8 @@ module _ (kept : Snapshot) (ps : List Placement) where
   IsDecided c n = (has_number c.committed n ≡ true) ⊎ (has_number c.dropped n ≡ true)
 
   decide_keeps : (c : Commit) (k n : ℕ) → IsDecided c n ⊎ (same_number n k ≡ true) → IsDecided (decide kept ps c k) n
-  unfolding decide IsDecided
-  decide_keeps c k n h = by (accepts_at kept (evict_all c.world (victims_of c.world kept (part_of k ps))) (node_name kept k) (part_of k ps) c.placed) h
+  unfolding IsDecided
+  decide_keeps c k n h = decide_either kept ps (λ d. IsDecided d n) c k (λ _. commits h) (drops h)
     where
       old : (ks : List ℕ) → has_number ks n ≡ true → has_number (ks ++ k ∷ []) n ≡ true
       old ks e = has_or ks (k ∷ []) n ∙ ap (λ b. b || has_number (k ∷ []) n) e
@@ -397,19 +379,17 @@ module _ (kept : Snapshot) (ps : List Placement) where
       new : (ks : List ℕ) → same_number n k ≡ true → has_number (ks ++ k ∷ []) n ≡ true
       new ks e = has_or ks (k ∷ []) n ∙ or_right (has_number ks n) _ (ap (λ b. b || false) e)
 
-      by : (b : Bool) → ((has_number c.committed n ≡ true) ⊎ (has_number c.dropped n ≡ true)) ⊎ (same_number n k ≡ true)
-          → let d = cond b (record {
-            world = evict_all c.world (victims_of c.world kept (part_of k ps));
-            placed = plus c.placed (size_of (part_of k ps));
-            committed = c.committed ++ k ∷ [];
-            dropped = c.dropped;
-          }) (record c { dropped = c.dropped ++ k ∷ [] }) in (has_number d.committed n ≡ true) ⊎ (has_number d.dropped n ≡ true)
-      by true (inl (inl e)) = inl (old c.committed e)
-      by true (inl (inr e)) = inr e
-      by true (inr e) = inl (new c.committed e)
-      by false (inl (inl e)) = inl e
-      by false (inl (inr e)) = inr (old c.dropped e)
-      by false (inr e) = inr (new c.dropped e)
+      commits : ((has_number c.committed n ≡ true) ⊎ (has_number c.dropped n ≡ true)) ⊎ (same_number n k ≡ true)
+          → (has_number (c.committed ++ k ∷ []) n ≡ true) ⊎ (has_number c.dropped n ≡ true)
+      commits (inl (inl e)) = inl (old c.committed e)
+      commits (inl (inr e)) = inr e
+      commits (inr e) = inl (new c.committed e)
+
+      drops : ((has_number c.committed n ≡ true) ⊎ (has_number c.dropped n ≡ true)) ⊎ (same_number n k ≡ true)
+          → (has_number c.committed n ≡ true) ⊎ (has_number (c.dropped ++ k ∷ []) n ≡ true)
+      drops (inl (inl e)) = inl e
+      drops (inl (inr e)) = inr (old c.dropped e)
+      drops (inr e) = inr (new c.dropped e)
 
   all_decided : (ks : List ℕ) (c : Commit) (n : ℕ) → IsDecided c n ⊎ (has_number ks n ≡ true) → IsDecided (fold (decide kept ps) c ks) n
   all_decided [] c n (inl h) = h
@@ -470,7 +450,7 @@ module _ (s : State) (valid : IsValid s) (number : ℕ) (ns : Name) (before : Te
   whole = place_all kept decided.world placed
 
   all_stands : Stands kept ps s.world decided
-  all_stands = all_stand kept ps s.world (nodes_in ps) (begun stopped) (record {
+  all_stands = decide_all kept ps (Stands kept ps s.world) (decide_stands kept ps s.world) (nodes_in ps) (begun stopped) (record {
     nodes = tt;
     pools = change_pools kept.namespace (λ u. fold (λ x n. with_desired n DesiredStatus.Stop x) u (live_stops before (plan kept).stops)) s.world;
     numbers_on = onward_change Numbers numbers_still s.world kept.namespace

@@ -17,11 +17,9 @@ use Rattle.ns_types.specs.Placing.Plan.{plan}
 use Rattle.ns_types.specs.Settling.Settle.{settle}
 use Rattle.ns_types.specs.State.Lists.{Each, first_each}
 use Rattle.ns_types.specs.State.Names.{Name, has_name, has_number, same_name, same_number}
-use Rattle.ns_types.specs.State.Resources.{plus}
 use Rattle.ns_types.specs.State.Rows.{State, Tenant}
 use Rattle.ns_types.specs.Validity.{IsValid}
-use Rattle.ns_types.specs.Working.Commit.{Commit, accepts_at, begun, commit, decide, done, evict_all, names_in, node_name, nodes_in}
-use Rattle.ns_types.specs.Working.Commit.{numbers_after, part_of, refused_whole, size_of, still_stands, victims_of}
+use Rattle.ns_types.specs.Working.Commit.{Commit, begun, commit, decide, done, names_in, node_name, nodes_in, numbers_after, refused_whole, still_stands}
 use Rattle.ns_types.specs.Working.Worker.{Worker}
 use Rattle.ns_types.proofs.Elements.{each_append, each_both, each_first, each_mapped, each_passes}
 use Rattle.ns_types.proofs.Lists.{each, each_map, not_both}
@@ -30,8 +28,8 @@ use Rattle.ns_types.proofs.Tests.{either_of, is_no, or_none, same_Some}
 use Rattle.ns_audit.proofs.ValidEvaluations.Pairs.{Pairs, pairs_still}
 use Rattle.ns_laws.specs.Surplus as law
 use Rattle.ns_laws.proofs.Plans.ApplyStep.{after_apply, marked}
-use Rattle.ns_laws.proofs.Plans.ApplyRows.{Ends, decided, dropped_is, each_slice, ends, has_or, made_for, made_is, no_placements, placed}
-use Rattle.ns_laws.proofs.Plans.ApplyRows.{sorted_has, stopped}
+use Rattle.ns_laws.proofs.Plans.Deciding.{committing, decide_either, dropping}
+use Rattle.ns_laws.proofs.Plans.ApplyRows.{Ends, decided, dropped_is, each_slice, ends, has_or, made_for, made_is, no_placements, placed, sorted_has, stopped}
 use Rattle.ns_laws.proofs.Plans.Planning.{places_on_fit_nodes}
 use Rattle.ns_laws.proofs.Plans.Surplus.{no_one}
 
@@ -69,8 +67,7 @@ module _ (kept : Snapshot) (ps : List Placement) (P : ℕ → Type 0) where
     ahead : Each (λ k. (has_number c.committed k ≡ false) × (has_number c.dropped k ≡ false)) ks
 
   decide_parts : (c : Commit) (k : ℕ) (ks : List ℕ) → Each (λ n. k ≢ n) ks → P k → Parts (k ∷ ks) c → Parts ks (decide kept ps c k)
-  unfolding decide
-  decide_parts c k ks differ here h = by (accepts_at kept (evict_all c.world (victims_of c.world kept (part_of k ps))) (node_name kept k) (part_of k ps) c.placed)
+  decide_parts c k ks differ here h = decide_either kept ps (Parts ks) c k (λ _. commits) drops
     where
       not_added : (xs : List ℕ) (n : ℕ) → k ≢ n → has_number xs n ≡ false → has_number (xs ++ k ∷ []) n ≡ false
       not_added xs n other e = has_or xs (k ∷ []) n ∙ (λ i. e i || (other_number n k (λ same. other (sym same)) i || false))
@@ -93,18 +90,15 @@ module _ (kept : Snapshot) (ps : List Placement) (P : ℕ → Type 0) where
       apart_no n commits (inl e) = h.apart n commits e
       apart_no n commits (inr same) = not_it c.committed n h.ahead.0.0 same commits
 
-      by : (b : Bool) → Parts ks (cond b (record {
-        world = evict_all c.world (victims_of c.world kept (part_of k ps));
-        placed = plus c.placed (size_of (part_of k ps));
-        committed = c.committed ++ k ∷ [];
-        dropped = c.dropped;
-      }) (record c { dropped = c.dropped ++ k ∷ [] }))
-      by true = record {
+      commits : Parts ks (committing kept ps c k)
+      commits = record {
         apart = λ n commits drops. apart_yes n (of_added c.committed n commits) drops;
         known = h.known;
         ahead = each_map (λ m both. (not_added c.committed m both.0 both.1.0, both.1.1)) ks (each_both (λ n. k ≢ n) _ ks differ h.ahead.1);
       }
-      by false = record {
+
+      drops : Parts ks (dropping kept ps c k)
+      drops = record {
         apart = λ n commits drops. apart_no n commits (of_added c.dropped n drops);
         known = each_append P c.dropped (k ∷ []) h.known (here, tt);
         ahead = each_map (λ m both. (both.1.0, not_added c.dropped m both.0 both.1.1)) ks (each_both (λ n. k ≢ n) _ ks differ h.ahead.1);
