@@ -134,7 +134,7 @@ find_kept p q (x ∷ xs) = by (p x) (find_kept p q xs)
     by true rest = ap (λ o. cond (q x) (Some x) o) rest
     by false rest = rest
 
-losers : Name → Name → Tenant → FinMap name_cmp Allocation
+unfoldable pub losers : Name → Name → Tenant → FinMap name_cmp Allocation
 losers pool node t = from_entries (map by_job (filter (lives_on pool node) (entries t.allocations)))
 
 get_loser : (pool node : Name) (t : Tenant) (job : Name)

@@ -60,57 +60,48 @@ record Was (t : Tenant) (n : ℕ) (e : Evaluation) : Type 0 where
   trigger : e.trigger ≡ row.trigger
   previous : e.previous ≡ row.previous
 
+-- a row of the same job, trigger and previous evaluation was there
+was_row : (t : Tenant) (n : ℕ) (d x e : Evaluation) → get t.evaluations n ≡ Some d → x.job ≡ d.job → x.trigger ≡ d.trigger → x.previous ≡ d.previous →
+    x ≡ e → Was t n e
+was_row t n d x e at job trigger previous is = record {
+  row = d;
+  is_row = at;
+  job = ap (λ (e : Evaluation). e.job) (sym is) ∙ job;
+  trigger = ap (λ (e : Evaluation). e.trigger) (sym is) ∙ trigger;
+  previous = ap (λ (e : Evaluation). e.previous) (sym is) ∙ previous;
+}
+
 was_stamped : (old : Option Tenant) (t : Tenant) (n : ℕ) (e : Evaluation) → get (stamp_tenant old t).evaluations n ≡ Some e → Was t n e
 unfolding stamp_tenant
-was_stamped None t n e at = record { row = e; is_row = at; job = refl; trigger = refl; previous = refl }
+was_stamped None t n e at = was_row t n e e e at refl refl refl refl
 was_stamped (Some o) t n e at = by (is_touched o t) at
   where
-    rested : get t.evaluations n ≡ Some e → Was t n e
-    rested at = record { row = e; is_row = at; job = refl; trigger = refl; previous = refl }
-
     dated : (d : Evaluation) → get t.evaluations n ≡ Some d → (b : Bool) → cond b (record d {
       create_index = created_at (o.index + 1) (get o.evaluations n) (λ (e : Evaluation). e.create_index);
       modify_index = o.index + 1;
     }) d ≡ e → Was t n e
-    dated d d_at true is = record {
-      row = d;
-      is_row = d_at;
-      job = ap (λ (e : Evaluation). e.job) (sym is);
-      trigger = ap (λ (e : Evaluation). e.trigger) (sym is);
-      previous = ap (λ (e : Evaluation). e.previous) (sym is);
-    }
-    dated d d_at false is = record {
-      row = d;
-      is_row = d_at;
-      job = ap (λ (e : Evaluation). e.job) (sym is);
-      trigger = ap (λ (e : Evaluation). e.trigger) (sym is);
-      previous = ap (λ (e : Evaluation). e.previous) (sym is);
-    }
+    dated d d_at true is = was_row t n d _ e d_at refl refl refl is
+    dated d d_at false is = was_row t n d d e d_at refl refl refl is
 
     by : (b : Bool) → get (cond b (stamped (o.index + 1) o t) t).evaluations n ≡ Some e → Was t n e
     by true at = let d = row_of_map numbers one_number (stamped_evaluation (o.index + 1) o) t.evaluations n e at in
         dated d.0 d.1 (changes_evaluation o n d.0) d.2
-    by false at = rested at
+    by false at = was_row t n e e e at refl refl refl refl
 
 was_own : (keys : List Key) (ns : Name) (t : Tenant) (n : ℕ) (e : Evaluation) → Was (unblocked_in keys ns t) n e → Was t n e
 was_own keys ns t n e w =
-    let d = row_of_map numbers one_number (woken_row keys ns) t.evaluations n w.row w.is_row in by d.0 d.1 (has_key keys (ns, n)) d.2
+    let d = row_of_map numbers one_number (woken_row keys ns) t.evaluations n w.row w.is_row in
+    let own : Was t n w.row = by d.0 d.1 (has_key keys (ns, n)) d.2 in record {
+      row = own.row;
+      is_row = own.is_row;
+      job = w.job ∙ own.job;
+      trigger = w.trigger ∙ own.trigger;
+      previous = w.previous ∙ own.previous;
+    }
   where
-    by : (d : Evaluation) → get t.evaluations n ≡ Some d → (b : Bool) → cond b (pending d) d ≡ w.row → Was t n e
-    by d at true is = record {
-      row = d;
-      is_row = at;
-      job = w.job ∙ ap (λ (e : Evaluation). e.job) (sym is);
-      trigger = w.trigger ∙ ap (λ (e : Evaluation). e.trigger) (sym is);
-      previous = w.previous ∙ ap (λ (e : Evaluation). e.previous) (sym is);
-    }
-    by d at false is = record {
-      row = d;
-      is_row = at;
-      job = w.job ∙ ap (λ (e : Evaluation). e.job) (sym is);
-      trigger = w.trigger ∙ ap (λ (e : Evaluation). e.trigger) (sym is);
-      previous = w.previous ∙ ap (λ (e : Evaluation). e.previous) (sym is);
-    }
+    by : (d : Evaluation) → get t.evaluations n ≡ Some d → (b : Bool) → cond b (pending d) d ≡ w.row → Was t n w.row
+    by d at true is = was_row t n d (pending d) w.row at refl refl refl is
+    by d at false is = was_row t n d d w.row at refl refl refl is
 
 module _ (s s' : State) (step : Step) (answer : Answer) (valid : IsValid s) (leads : after step s ≡ said answer s') (ns : Name) where
   abbrev Own : Tenant → Type 0

@@ -2,7 +2,7 @@
 use Rattle.std.specs.Prelude.{◌≡◌, ◌⊎◌, ℕ, ◌+◌, Bool, true, false, cond, not, T, ◌&&◌, List, [], ◌∷◌, ◌++◌, Some, None, filter, flat_map, fold, map}
 use Rattle.std.proofs.Common.{inl, inr, refl, sym, ap, subst, ◌∙◌}
 use Rattle.std.specs.Cmp.{tied_itself}
-use Rattle.std.specs.FinMap.{FinMap, get, entries, entries_sorted, from_entries, get-from_entries}
+use Rattle.std.specs.FinMap.{get, entries, entries_sorted, get-from_entries}
 use Rattle.std.specs.FinMap.Entries as Entries
 use Rattle.std.specs.Ordering.{is_lt}
 use Rattle.ns_types.specs.declared.allocation.Allocation.{Allocation}
@@ -20,6 +20,7 @@ use Rattle.ns_types.proofs.TableRows.{row_of_insert}
 use Rattle.ns_types.proofs.Tables.{each_row}
 use Rattle.ns_types.proofs.Tests.{first, is_no, not_Some, second}
 use Rattle.ns_laws.proofs.Endings.Evaluations.{made_apart, made_at}
+use Rattle.ns_laws.proofs.OrderedLemmas.{losers}
 
 -- ---- no job twice
 
@@ -156,9 +157,6 @@ of_entries ns (e ∷ es) sorted keys = (
       (each_both (λ (y : Name × Allocation). e.0 ≡ y.0 → ⊥) (λ (y : Name × Allocation). y.0 ≡ y.1.job) es (below_differs e.0 es (first _ _ sorted)) keys.1))),
   of_entries ns es (second _ _ sorted) keys.1,
 )
-
-losers : Name → Name → Tenant → FinMap name_cmp Allocation
-losers pool node t = from_entries (map (λ a. (a.1.job, a.1)) (filter (λ a. is_live_on pool node a.1) (entries t.allocations)))
 
 one_for_job : (pool node ns : Name) (t : Tenant) → Distinct space_of job_of (map (λ a. (ns, a)) (losing_jobs pool node t))
 unfolding losers

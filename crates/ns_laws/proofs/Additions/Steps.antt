@@ -27,8 +27,7 @@ use Rattle.ns_types.specs.Asking.Asks.{ask, asked_in, deregistered, document_of,
 use Rattle.ns_types.specs.Asking.Nodes.{ask_pool, asked_in_pool, calls_for_one, go_down, is_on, lose, losing_jobs}
 use Rattle.ns_types.specs.Asking.Nodes.{losses, lost, may_become, report, report_of, reported, same_client}
 use Rattle.ns_types.specs.Settling.Making.{change_tenant, evaluation_for, evaluation_of, make, make_in, put_pool}
-use Rattle.ns_types.specs.Settling.Making.{put_tenant, with_client, with_desired, with_evaluation, with_job}
-use Rattle.ns_types.specs.Settling.Making.{with_node, with_status}
+use Rattle.ns_types.specs.Settling.Making.{put_tenant, with_client, with_desired, with_evaluation, with_job, with_node, with_status}
 use Rattle.ns_types.specs.Settling.Outcome.{NotEnabled, Done, unless}
 use Rattle.ns_types.specs.Settling.Releases.{missed}
 use Rattle.ns_types.specs.State.Lists.{Each}
@@ -351,8 +350,8 @@ called t a ClientStatuses.Lost e = absurd (subst T (sym e) tt)
 
 module _ (w : World) (pool : Name) (secret : Option Name) (name : Name) (r : Report) (t : Tenant) (a : Allocation) (is : get w.tenants r.namespace ≡ Some t)
     (at : get t.allocations r.number ≡ Some a) (becomes : may_become a.client r.client ≡ true) where
-  abbrev tells : Step
-  tells = Step.Node pool secret (NodeCommand.Report name r)
+  abbrev reports : Step
+  reports = Step.Node pool secret (NodeCommand.Report name r)
 
   abbrev changed : World
   changed = change_tenant r.namespace (with_client r.number r.client) w
@@ -393,7 +392,7 @@ module _ (w : World) (pool : Name) (secret : Option Name) (name : Name) (r : Rep
     has_ended = ap (λ b. is_run a.desired && b) c.1 ∙ none_and (is_run a.desired);
   }
 
-  reported_adds : Adds w tells (reported r a w)
+  reported_adds : Adds w reports (reported r a w)
   reported_adds = by (option_map_or (λ t. calls_for_one t a r.client) (get w.tenants r.namespace) false) refl
     where
       x : World
@@ -402,16 +401,16 @@ module _ (w : World) (pool : Name) (secret : Option Name) (name : Name) (r : Rep
       calls : option_map_or (λ t. calls_for_one t a r.client) (get w.tenants r.namespace) false ≡ true → calls_for_one t a r.client ≡ true
       calls e = ap (λ o. option_map_or (λ t. calls_for_one t a r.client) o false) (sym is) ∙ e
 
-      by : (b : Bool) → option_map_or (λ t. calls_for_one t a r.client) (get w.tenants r.namespace) false ≡ b → Adds w tells (cond b x changed)
-      by true e = adds_made w tells (λ (l : Name × Allocation). l.0) (λ (l : Name × Allocation). l.1.job) (λ l t. evaluation_for t l.1 Trigger.AllocFailure)
+      by : (b : Bool) → option_map_or (λ t. calls_for_one t a r.client) (get w.tenants r.namespace) false ≡ b → Adds w reports (cond b x changed)
+      by true e = adds_made w reports (λ (l : Name × Allocation). l.0) (λ (l : Name × Allocation). l.1.job) (λ l t. evaluation_for t l.1 Trigger.AllocFailure)
           (λ l t. (made_for t l.1 Trigger.AllocFailure).of_job) changed ((r.namespace, a) ∷ []) x refl changed_rows (tt, tt)
           (λ ns. (
-            (λ own u. for_lost w x tells ns u a Trigger.AllocFailure refl (subst (λ k. HasLost w x k a.job) own
+            (λ own u. for_lost w x reports ns u a Trigger.AllocFailure refl (subst (λ k. HasLost w x k a.job) own
                 (report_loses x (same_make r.namespace (λ t. evaluation_for t a Trigger.AllocFailure) changed) (calls e)))),
             tt,
           ))
       by false e = λ ns u u_at. let o = changed_rows ns u u_at in
-          adds o.0 o.1 (none_added w tells changed ns o.0 u (back_same w tells o.0 u o.2))
+          adds o.0 o.1 (none_added w reports changed ns o.0 u (back_same w reports o.0 u o.2))
 
 module _ (w : World) (pool : Name) (secret : Option Name) where
   node_still : (command : NodeCommand) (x : World) → x.tenants ≡ w.tenants → Adds w (Step.Node pool secret command) x

@@ -15,7 +15,6 @@ use Rattle.ns_types.specs.declared.node.Node.{Node}
 use Rattle.ns_types.specs.declared.plan.Eviction.{Eviction}
 use Rattle.ns_types.specs.declared.plan.Placement.{Placement}
 use Rattle.ns_types.specs.declared.records.Namespace.{Namespace}
-use Rattle.ns_types.specs.declared.reply.Content as content
 use Rattle.ns_types.specs.declared.reply.Content.TheVariants as Content
 use Rattle.ns_types.specs.declared.reply.Reply.{Reply}
 use Rattle.ns_types.specs.declared.resources.Limit.TheVariants.{Unlimited, AtMost, Nothing}
@@ -41,7 +40,7 @@ use Rattle.ns_types.specs.Working.Worker.{Worker}
 use Rattle.ns_types.proofs.Amounts.{quantity_of, true_at}
 use Rattle.ns_types.proofs.Lists.{each, filter_none, not_both}
 use Rattle.ns_types.proofs.Named.{names, numbers, one_name, one_number, same_number_refl}
-use Rattle.ns_types.proofs.Sums.{sum_part}
+use Rattle.ns_types.proofs.Sums.{at_most, sum_part}
 use Rattle.ns_audit.proofs.Steady.Keeping.{row_of_map}
 use Rattle.ns_types.proofs.Tests.{not_Some, same_Some}
 use Rattle.ns_audit.proofs.Alone.Naming.{named_change, stops_same}
@@ -50,6 +49,7 @@ use Rattle.ns_audit.proofs.ValidAllocations.Room.{has_number_append}
 use Rattle.ns_audit.proofs.ValidAllocations.Sums.{sum_below, sum_put}
 use Rattle.ns_laws.specs.Planning as law
 use Rattle.ns_laws.proofs.Effect.Rows.{settled_rows, settled_tenant}
+use Rattle.ns_laws.proofs.Plans.ApplyRows.{made_is}
 use Rattle.ns_laws.proofs.Plans.ApplyStep.{after_apply, marked}
 use Rattle.ns_laws.proofs.Plans.Deciding.{accepted, committing, decide_all, decide_either, is_accepted, left_by}
 use Rattle.ns_laws.proofs.Plans.Limits.{allows_is}
@@ -167,10 +167,6 @@ module _ (q : Name) (amount : Resources → ℕ) where
       sum : Tenant → ℕ
       sum t = cond (names_quota q t.namespace) (tenant_sum is_live amount t) 0
 
-      one : (b : Bool) (n : ℕ) → cond b n 0 ≤ n
-      one true n = omega arith
-      one false n = omega arith
-
       under : (b : Bool) (m n a : ℕ) → m ≤ n + a → cond b m 0 ≤ cond b n 0 + a
       under true m n a h = h
       under false m n a h = omega arith
@@ -178,7 +174,7 @@ module _ (q : Name) (amount : Resources → ℕ) where
       grown : (t : Tenant) → tenant_sum is_live amount (with_allocation new t) ≤ tenant_sum is_live amount t + amount new.size
       grown t =
           let put = sum_put numbers one_number (λ _ (a : Allocation). cond (is_live a) (amount a.size) 0) t.allocations (t.allocation_number + 1) new in
-          let most = one (is_live new) (amount new.size) in
+          let most = at_most (is_live new) (amount new.size) in
           omega (arith, put, most)
 
       by : (o : Option Tenant) → get w.tenants ns ≡ o →
@@ -418,9 +414,6 @@ module _ (s : State) (valid : IsValid s) (ns : Name) (owner : Tenant) (is_owner 
         by true same = allowed r kept_quota.within (λ none. some (sym same ∙ none))
         by false same = absurd (some (sym same))
 
-same_made : (a b : List ℕ) (x y : List Name) → ◌≡◌ {A = content.Content} (Content.Applied a x) (Content.Applied b y) → a ≡ b
-same_made a b x y e = cc
-
 pub keeps_to_quota : law.KeepsToQuota
 unfolding Fits
 keeps_to_quota s t number ns reply made dropped owner q rows valid is told some is_owner names_it is_quota =
@@ -428,5 +421,5 @@ keeps_to_quota s t number ns reply made dropped owner q rows valid is told some 
     (λ u worker e kept there has keeps made dropped told some r.
     let sound = ((valid.world.tenant ns u there).worker number worker has).snapshot kept keeps in
     commits s valid ns owner is_owner q names_it rows is_quota number kept sound.namespace u there worker e made
-    (same_made (commit kept (plan kept) s.world u).made made (commit kept (plan kept) s.world u).dropped dropped told) some r)
+    (made_is (commit kept (plan kept) s.world u).made made (commit kept (plan kept) s.world u).dropped dropped told) some r)
     made dropped told some

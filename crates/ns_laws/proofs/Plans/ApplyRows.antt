@@ -163,17 +163,18 @@ evicts_pools (e ∷ es) w = evicts_pools es (evict w e) ∙ change_pools e.names
 
 -- ---- the numbers in the reply
 
+-- the number of the first element, and of a later one
+pub first_number : (n : ℕ) → n + (0 + 1) ≡ n + 1
+first_number n = omega arith
+
+pub later_number : (n i : ℕ) → n + (suc i + 1) ≡ n + 1 + (i + 1)
+later_number n i = omega arith
+
 module _ {X : Type 0} where
   numbers_at : (xs : List X) (n i : ℕ) (x : X) → slice_get xs i ≡ Some x → slice_get (numbers_after n xs) i ≡ Some (n + (i + 1))
   numbers_at [] n i x e = absurd (not_Some x e)
-  numbers_at (y ∷ xs) n zero x e = ap Some (first n)
-    where
-      first : (n : ℕ) → n + 1 ≡ n + (0 + 1)
-      first n = omega arith
-  numbers_at (y ∷ xs) n (suc i) x e = numbers_at xs (n + 1) i x e ∙ ap Some (next n i)
-    where
-      next : (n i : ℕ) → n + 1 + (i + 1) ≡ n + (suc i + 1)
-      next n i = omega arith
+  numbers_at (y ∷ xs) n zero x e = ap Some (sym (first_number n))
+  numbers_at (y ∷ xs) n (suc i) x e = numbers_at xs (n + 1) i x e ∙ ap Some (sym (later_number n i))
 
   numbers_count : (xs : List X) (n : ℕ) → length (numbers_after n xs) ≡ length xs
   numbers_count [] n = refl
@@ -246,23 +247,17 @@ module _ (kept : Snapshot) where
           (other_number m (u.allocation_number + 1) (λ e. absurd (omega (arith, e, le))));
     }
       where
-        here : (n : ℕ) → n + (0 + 1) ≡ n + 1
-        here n = omega arith
-
         le_next : (n : ℕ) → n + 1 ≤ n + 1
         le_next n = omega arith
-
-        later : (n i : ℕ) → n + (suc i + 1) ≡ n + 1 + (i + 1)
-        later n i = omega arith
 
         each_new : (i : ℕ) (x : Placement) → slice_get (p ∷ ps) i ≡ Some x → (node : Node) ×
             (get v.allocations (u.allocation_number + (i + 1)) ≡ Some (new_allocation kept j x node))
         each_new zero x e = (
           node,
-          ap (get v.allocations) (here u.allocation_number) ∙ h.former (u.allocation_number + 1) (le_next u.allocation_number)
+          ap (get v.allocations) (first_number u.allocation_number) ∙ h.former (u.allocation_number + 1) (le_next u.allocation_number)
               ∙ get_put numbers one_number u.allocations (u.allocation_number + 1) (new_allocation kept j p node) ∙ ap (λ x. Some (new_allocation kept j x node)) (same_Some p x e),
         )
-        each_new (suc i) x e = let r = h.each_new i x e in (r.0, ap (get v.allocations) (later u.allocation_number i) ∙ r.1)
+        each_new (suc i) x e = let r = h.each_new i x e in (r.0, ap (get v.allocations) (later_number u.allocation_number i) ∙ r.1)
 
     adds_all : (ps : List Placement) (w : World) (u : Tenant) → get w.tenants kept.namespace ≡ Some u → Each (λ p. HasNode w p.node) ps →
         (v : Tenant) × (get (place_all kept w ps).tenants kept.namespace ≡ Some v) × Adds ps u v

@@ -13,6 +13,7 @@ use Rattle.std.proofs.lemmas.List.Filters.{sum_by-filter_both}
 use Rattle.std.proofs.lemmas.List.Sorted.{IsPermutation-reverse, sum_by-IsPermutation}
 use Rattle.std.proofs.lemmas.List.Sums.{sum_by-append, sum_by-cons}
 use Rattle.std.proofs.lemmas.Option.{slice_get-map}
+use Rattle.std.proofs.Math.Bool.{and-true}
 use Rattle.ns_types.specs.declared.job.Job.{Job}
 use Rattle.ns_types.specs.declared.plan.Demand.{Demand}
 use Rattle.ns_types.specs.declared.plan.Eviction.{Eviction}
@@ -265,9 +266,5 @@ plans_within_capacity s k node r at room none =
     (filter_agree (λ a. not (plans.is_stopped s a) && not (law.is_evicted (plans.placed_at s k) a)) (λ a. not (plans.is_stopped s a)) stays_alone node.live)
     (evicts_within_capacity s k node r at room)
   where
-    alone : (b : Bool) → (b && true) ≡ b
-    alone true = refl
-    alone false = refl
-
     stays_alone : (a : LiveAllocation) → (not (plans.is_stopped s a) && not (law.is_evicted (plans.placed_at s k) a)) ≡ not (plans.is_stopped s a)
-    stays_alone a = ap (λ b. not (plans.is_stopped s a) && not b) (none_evicted (plans.placed_at s k) none a) ∙ alone (not (plans.is_stopped s a))
+    stays_alone a = ap (λ b. not (plans.is_stopped s a) && not b) (none_evicted (plans.placed_at s k) none a) ∙ and-true (not (plans.is_stopped s a))

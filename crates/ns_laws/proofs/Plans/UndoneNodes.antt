@@ -1,7 +1,7 @@
 -- The nodes that Apply names are none of those on which it makes allocations.
 use Rattle.std.specs.Prelude.{◌≡◌, ◌≢◌, ◌⊎◌, ℕ, suc, ◌+◌, Bool, true, false, cond, ◌||◌, List, [], ◌∷◌, ◌++◌}
 use Rattle.std.specs.Prelude.{Option, Some, None, filter, fold, map, not, slice_get}
-use Rattle.std.proofs.Common.{refl, sym, ap, subst, ◌∙◌, arith, inl, inr}
+use Rattle.std.proofs.Common.{refl, sym, ap, subst, ◌∙◌, inl, inr}
 use Rattle.std.specs.FinMap.{get}
 use Rattle.std.specs.Option.{option_map_or}
 use Rattle.std.proofs.lemmas.Bool.{or_right}
@@ -29,7 +29,8 @@ use Rattle.ns_audit.proofs.ValidEvaluations.Pairs.{Pairs, pairs_still}
 use Rattle.ns_laws.specs.Surplus as law
 use Rattle.ns_laws.proofs.Plans.ApplyStep.{after_apply, marked}
 use Rattle.ns_laws.proofs.Plans.Deciding.{committing, decide_either, dropping}
-use Rattle.ns_laws.proofs.Plans.ApplyRows.{Ends, decided, dropped_is, each_slice, ends, has_or, made_for, made_is, no_placements, placed, sorted_has, stopped}
+use Rattle.ns_laws.proofs.Plans.ApplyRows.{Ends, decided, dropped_is, each_slice, ends, first_number, has_or, later_number, made_for}
+use Rattle.ns_laws.proofs.Plans.ApplyRows.{made_is, no_placements, placed, sorted_has, stopped}
 use Rattle.ns_laws.proofs.Plans.Planning.{places_on_fit_nodes}
 use Rattle.ns_laws.proofs.Plans.Surplus.{no_one}
 
@@ -37,13 +38,7 @@ use Rattle.ns_laws.proofs.Plans.Surplus.{no_one}
 
 each_number : {X : Type 0} (P : ℕ → Type 0) (xs : List X) (n : ℕ) → ((i : ℕ) (x : X) → slice_get xs i ≡ Some x → P (n + (i + 1))) → Each P (numbers_after n xs)
 each_number P [] n h = tt
-each_number P (x ∷ xs) n h = (subst P (first n) (h 0 x refl), each_number P xs (n + 1) (λ i y e. subst P (later n i) (h (suc i) y e)))
-  where
-    first : (n : ℕ) → n + (0 + 1) ≡ n + 1
-    first n = omega arith
-
-    later : (n i : ℕ) → n + (suc i + 1) ≡ n + 1 + (i + 1)
-    later n i = omega arith
+each_number P (x ∷ xs) n h = (subst P (first_number n) (h 0 x refl), each_number P xs (n + 1) (λ i y e. subst P (later_number n i) (h (suc i) y e)))
 
 -- no number is in the list twice
 abbrev Once : List ℕ → Type 0

@@ -383,19 +383,15 @@ may_not_become old new (inl e) = by old e
     by ClientStatus.Complete e = refl
     by ClientStatus.Failed e = refl
     by ClientStatus.Lost e = refl
-may_not_become old new (inr (inl e)) = ap (may_become old) e ∙ by old
+may_not_become old new (inr e) = by e
   where
-    by : (old : ClientStatus) → may_become old ClientStatus.Pending ≡ false
-    by ClientStatus.Pending = refl
-    by ClientStatus.Running = refl
-    by ClientStatus.Complete = refl
-    by ClientStatus.Failed = refl
-    by ClientStatus.Lost = refl
-may_not_become old new (inr (inr e)) = ap (may_become old) e ∙ by old
-  where
-    by : (old : ClientStatus) → may_become old ClientStatus.Lost ≡ false
-    by ClientStatus.Pending = refl
-    by ClientStatus.Running = refl
-    by ClientStatus.Complete = refl
-    by ClientStatus.Failed = refl
-    by ClientStatus.Lost = refl
+    never : (old : ClientStatus) → (may_become old ClientStatus.Pending ≡ false) × (may_become old ClientStatus.Lost ≡ false)
+    never ClientStatus.Pending = (refl, refl)
+    never ClientStatus.Running = (refl, refl)
+    never ClientStatus.Complete = (refl, refl)
+    never ClientStatus.Failed = (refl, refl)
+    never ClientStatus.Lost = (refl, refl)
+
+    by : (new ≡ ClientStatus.Pending) ⊎ (new ≡ ClientStatus.Lost) → may_become old new ≡ false
+    by (inl e) = ap (may_become old) e ∙ (never old).0
+    by (inr e) = ap (may_become old) e ∙ (never old).1

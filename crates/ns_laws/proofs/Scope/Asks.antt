@@ -355,7 +355,7 @@ module _ {X Y : Type 0} (kept : X → Y) where
   has_still (Some x) None e y h = absurd (not_Some _ (sym e))
   has_still (Some x) (Some z) e y h = (z, refl, same_Some _ _ (sym e) ∙ ap kept (same_Some _ _ h.1) ∙ h.2)
 
-plain_step : (step : Step) → ((secret : Option Name) (command : AdminCommand) → step ≢ Step.Admin secret command) → is_admin step ≡ false
+pub plain_step : (step : Step) → ((secret : Option Name) (command : AdminCommand) → step ≢ Step.Admin secret command) → is_admin step ≡ false
 plain_step (Step.Admin secret command) not_so = absurd (not_so secret command refl)
 plain_step (Step.Ask ns secret command) not_so = refl
 plain_step (Step.Node pool secret command) not_so = refl

@@ -30,6 +30,8 @@ use Rattle.ns_types.proofs.Elements.{each_found}
 use Rattle.ns_types.proofs.Lists.{left_none, not_both, right_none}
 use Rattle.ns_types.proofs.Named.{first_of_both, one_number, same_name_is, same_name_refl, second_of_both}
 use Rattle.ns_types.proofs.Tests.{either_of, not_Some, same_Some}
+use Rattle.ns_audit.proofs.Alone.Orderly.{blocked_is, pending_is}
+use Rattle.ns_audit.proofs.Steady.Work.{pending_not_blocked}
 use Rattle.ns_audit.proofs.Alone.Sides.{act_is}
 use Rattle.ns_audit.proofs.Steady.Finish.{same_blocked, shut_end}
 use Rattle.ns_types.proofs.Classes.{by_class, one_class}
@@ -45,20 +47,10 @@ use Rattle.ns_laws.proofs.OrderedLemmas.{first_row, none_passes}
 use Rattle.ns_laws.proofs.Plans.ApplyStep.{does_or}
 use Rattle.ns_laws.proofs.Work.Followers.{is_zero, not_zero, waits_for}
 use Rattle.ns_laws.proofs.Work.Nack.{ends, ends_evaluation, ends_former, ends_idle, ends_number}
-use Rattle.ns_laws.proofs.Work.Nack.{may_promote, number_there, number_elsewhere, pending_is}
+use Rattle.ns_laws.proofs.Work.Nack.{may_promote, number_there, number_elsewhere}
 use Rattle.ns_laws.proofs.Work.Rows.{at_work_does, settles_one, stays_in, taken_out, wakes_nothing, work_does}
 
 -- ---- statuses
-
-blocked_is : (status : Status) → is_blocked status ≡ true → status ≡ Status.Blocked
-blocked_is Status.Pending e = not_both e refl
-blocked_is Status.Blocked e = refl
-blocked_is Status.Complete e = not_both e refl
-blocked_is Status.Failed e = not_both e refl
-blocked_is Status.Canceled e = not_both e refl
-
-other_status : {A : Type 0} (status : Status) → status ≡ Status.Pending → status ≡ Status.Blocked → A
-other_status status pending blocked = not_both (ap is_blocked blocked) (ap is_blocked pending)
 
 ends_as : (worker : Worker) → EndsAs worker.tries (end_of worker) (cond (has_failed worker) Trigger.MaxPlanAttempts Trigger.QueuedAllocs)
 ends_as worker = elim (eqb_tells worker.tries 0) [
@@ -292,7 +284,7 @@ module _ (number : ℕ) (ns : Name) (s : State) where
         canceled = record b.row { status = Status.Canceled }
 
         apart_k : k ≢ n
-        apart_k same = other_status e.status pending
+        apart_k same = pending_not_blocked e.status pending
             (ap (λ (x : Evaluation). x.status) (same_Some e b.row (sym at ∙ ap (get t.evaluations) (sym same) ∙ b.is_row)) ∙ b.is_so)
 
         k_there : get closed_rows k ≡ Some b.row

@@ -20,6 +20,7 @@ use Rattle.ns_laws.specs.Workers as law
 use Rattle.ns_laws.specs.Workers.{is_work}
 use Rattle.ns_laws.proofs.Effect.Rows.{Does, settled_jobs, settled_namespace, settled_rows, settled_tenant}
 use Rattle.ns_laws.proofs.Index.OwnChanges.{change_fixed, is_ask}
+use Rattle.ns_laws.proofs.Scope.Asks.{plain_step}
 use Rattle.ns_laws.proofs.Work.Rows.{work_does}
 
 no_ask : (step : Step) → is_work step ≡ true → is_ask step ≡ false
@@ -34,15 +35,7 @@ no_ask (Step.Finish worker ns) e = refl
 no_ask (Step.Nack worker ns) e = refl
 
 no_admin : (step : Step) → is_work step ≡ true → is_admin step ≡ false
-no_admin (Step.Ask ns secret command) e = not_both e refl
-no_admin (Step.Admin secret command) e = not_both e refl
-no_admin (Step.Node pool secret command) e = refl
-no_admin (Step.Dequeue worker ns n) e = refl
-no_admin (Step.Snap worker ns) e = refl
-no_admin (Step.Submit worker ns) e = refl
-no_admin (Step.Apply worker ns) e = refl
-no_admin (Step.Finish worker ns) e = refl
-no_admin (Step.Nack worker ns) e = refl
+no_admin step e = plain_step step (λ secret command is. not_both (ap is_work (sym is) ∙ e) refl)
 
 -- the record of a namespace, and its jobs
 abbrev kept_of : Tenant → Namespace × ByName Job

@@ -1,9 +1,9 @@
 -- What a nack changes, and what it leaves as it was.
-use Rattle.std.specs.Prelude.{◌≡◌, ◌≢◌, ℕ, ◌+◌, ◌<◌, ◌≤◌, Bool, true, false, cond, [], ◌∷◌, ◌++◌, Option, Some, None, nat_le, option_map}
-use Rattle.std.proofs.Common.{refl, sym, ap, subst, ◌∙◌, inl, inr}
-use Rattle.std.proofs.lemmas.Bool.Decides.{leb_tells}
+use Rattle.std.specs.Prelude.{◌≡◌, ◌≢◌, ℕ, ◌+◌, Bool, true, false, cond, [], ◌∷◌, ◌++◌, Option, Some, None, nat_le, option_map}
+use Rattle.std.proofs.Common.{refl, sym, ap, subst, ◌∙◌}
 use Rattle.std.specs.FinMap.{get, insert, remove, get-remove, same_map}
 use Rattle.std.specs.Option.{option_map_or}
+use Rattle.std.proofs.lemmas.Bool.{leb-false, leb-true}
 use Rattle.ns_types.specs.declared.evaluation.Evaluation.{Evaluation}
 use Rattle.ns_types.specs.declared.evaluation.Status.{Status}
 use Rattle.ns_types.specs.declared.reply.Content.{Content}
@@ -24,6 +24,7 @@ use Rattle.ns_types.proofs.Named.{numbers, one_number, same_number_refl}
 use Rattle.ns_types.proofs.Settling.{kept_evaluation, wake_none}
 use Rattle.ns_types.proofs.TableRows.{apart, get_other, get_put}
 use Rattle.ns_types.proofs.Tables.{get-map_rows}
+use Rattle.ns_audit.proofs.Alone.Orderly.{pending_is}
 use Rattle.ns_audit.proofs.Alone.Sides.{act_is}
 use Rattle.ns_laws.specs.Workers as law
 use Rattle.ns_laws.specs.Workers.{GivesUp, HasEvaluation, IsNacked, MayPromote, next, none_pending, one_taken, NackLeads, again, fails}
@@ -95,12 +96,6 @@ module _ (t u : Tenant) where
 
 -- ---- which evaluation of a job becomes ready
 
-pub pending_is : (status : Status) → is_pending status ≡ true → status ≡ Status.Pending
-pending_is Status.Pending e = refl
-pending_is Status.Blocked e = not_both e refl
-pending_is Status.Complete e = not_both e refl
-pending_is Status.Failed e = not_both e refl
-pending_is Status.Canceled e = not_both e refl
 
 -- the end of the step is y, and it wakes nothing
 module _ (ns job : Name) (t u : Tenant) (w p y : World) (is : get p.tenants ns ≡ Some u) (ends_in : settle w (promote ns job p) ≡ y)
@@ -148,12 +143,6 @@ module _ (ns job : Name) (t u : Tenant) (w p y : World) (is : get p.tenants ns �
 
 submitted_not : (phase : Phase) → is_submitted phase ≡ false → phase ≢ Phase.Submitted
 submitted_not phase e is = not_both (ap is_submitted is) e
-
-at_least : (a b : ℕ) → nat_le a b ≡ true → a ≤ b
-at_least a b e = elim (leb_tells a b) [ inl less ↦ less.1 | inr more ↦ not_both e more.0 ]
-
-above : (a b : ℕ) → nat_le a b ≡ false → b < a
-above a b e = elim (leb_tells a b) [ inl less ↦ not_both less.0 e | inr more ↦ more.1 ]
 
 pub number_there : (rows : ByNumber Evaluation) (n : ℕ) (e : Evaluation) → get (insert rows n e) n ≡ Some e
 number_there rows n e = get_put numbers one_number rows n e
@@ -205,7 +194,7 @@ module _ (number : ℕ) (ns : Name) (s : State) where
     given_back_to few = subst (Nacked (Content.Nacked Status.Pending)) (sym (settles_one s.world back ns t (without nacked_rows) refl refl refl is refl))
         (nacked_with nacked_rows (Content.Nacked Status.Pending) (record back { tenants = insert s.world.tenants ns (ends t (without nacked_rows)) })
         refl refl refl refl refl
-        (again (above most_nacks (e.nacks + 1) few) refl
+        (again (leb-false most_nacks (e.nacks + 1) few) refl
         (ends_evaluation t (without nacked_rows) worker.evaluation nacked (number_there t.evaluations worker.evaluation nacked)) refl)
         (number_elsewhere t.evaluations worker.evaluation nacked))
 
@@ -236,7 +225,7 @@ module _ (number : ℕ) (ns : Name) (s : State) where
         subst (Nacked (Content.Nacked Status.Failed)) (sym settles)
         (nacked_with failed_rows (Content.Nacked Status.Failed) y
         refl pools quotas (promote_part (λ w. w.plans) (λ w keys. refl) ns e.job put) (promote_part (λ w. w.blocked) (λ w keys. refl) ns e.job put)
-        (fails (at_least most_nacks (e.nacks + 1) many) refl
+        (fails (leb-true most_nacks (e.nacks + 1) many) refl
         (ends_evaluation t (without failed_rows) worker.evaluation failed (number_there nacked_rows worker.evaluation failed))
         (may_promote ns e.job t (without failed_rows) s.world put y (put_there s.world.tenants ns (without failed_rows)) settles refl
         (wakes_nothing s.world promoted ns t (without failed_rows) pools quotas tenants is refl)))

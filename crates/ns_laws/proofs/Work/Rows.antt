@@ -1,7 +1,7 @@
 -- What the end of a worker's step does to the rows of the one namespace that the step changes.
-use Rattle.std.specs.Prelude.{◌≡◌, ◌≢◌, ℕ, ◌+◌, Bool, true, false, cond, not, ◌&&◌, ◌||◌, List, [], Some, Ok}
+use Rattle.std.specs.Prelude.{◌≡◌, ◌≢◌, ℕ, ◌+◌, Bool, true, false, cond, not, ◌||◌, List, [], Some, Ok}
 use Rattle.std.proofs.Common.{refl, sym, ap, subst, ◌∙◌}
-use Rattle.std.proofs.Math.Bool.{and-false}
+use Rattle.std.proofs.Math.Bool.{and-false, and-true}
 use Rattle.std.specs.FinMap.{get, insert}
 use Rattle.ns_types.specs.declared.evaluation.Evaluation.{Evaluation}
 use Rattle.ns_types.specs.declared.reply.Content.{Content}
@@ -98,13 +98,9 @@ other_key key other differs = by (same_key key other) refl
     by true e = absurd (differs (sym (key_is key other e)))
     by false e = refl
 
-and_true : (b : Bool) → (b && true) ≡ b
-and_true true = refl
-and_true false = refl
-
 still_in : (key : Key) (keys : List Key) (other : Key) → other ≢ key → has_key (without_key key keys) other ≡ has_key keys other
 still_in key keys other differs = any_kept (same_key other) (λ k. not (same_key key k)) true
-    (λ k same. ap (λ k. not (same_key key k)) (sym (key_is other k same)) ∙ ap not (other_key key other differs)) keys ∙ and_true (has_key keys other)
+    (λ k same. ap (λ k. not (same_key key k)) (sym (key_is other k same)) ∙ ap not (other_key key other differs)) keys ∙ and-true (has_key keys other)
 
 pub taken_out : (key : Key) (keys : List Key) → IsTakenOut key keys (without_key key keys)
 taken_out key keys = record {
