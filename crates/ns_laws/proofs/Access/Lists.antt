@@ -1,36 +1,29 @@
 -- Who changes the access lists, and what the lists of namespaces and pools show.
-use Rattle.std.specs.Prelude.{◌≡◌, ◌⊎◌, Bool, true, false, cond, ◌&&◌, List, filter, Option, Some, None, Ok, Err, map}
+use Rattle.std.specs.Prelude.{◌≡◌, ◌⊎◌, Bool, true, false, cond, List, Option, Some, None, Ok, Err}
 use Rattle.std.proofs.Common.{refl, sym, ap, ◌∙◌, inl, inr}
-use Rattle.std.specs.FinMap.{get, entries}
-use Rattle.std.specs.List.{list_any}
+use Rattle.std.specs.FinMap.{get}
+use Rattle.std.proofs.lemmas.List.Folds.{list_any_at}
+use Rattle.std.specs.List.{Contains, list_any}
 use Rattle.ns_types.specs.declared.acl.Token.{Token}
 use Rattle.ns_types.specs.declared.acl.TokenKind.{TokenKind}
 use Rattle.ns_types.specs.declared.refusal.Refusal.{Refusal}
 use Rattle.ns_types.specs.declared.reply.Content.{Content}
 use Rattle.ns_types.specs.declared.reply.NamespaceShown.{NamespaceShown}
 use Rattle.ns_types.specs.declared.reply.PoolShown.{PoolShown}
-use Rattle.ns_types.specs.declared.reply.Reply.{Reply}
 use Rattle.ns_types.specs.declared.step.AdminCommand.{AdminCommand}
 use Rattle.ns_types.specs.declared.step.Step.{Step}
-use Rattle.ns_types.specs.Access.Rights.{rights_of, pool_rights_of}
-use Rattle.ns_types.specs.Access.Rights.{has_any}
 use Rattle.ns_types.specs.Asking.Policies.{administer, with_acl, with_world}
 use Rattle.ns_types.specs.Settling.Outcome.{Outcome, NotEnabled, Refused, Done, found, lift}
-use Rattle.ns_types.specs.State.Lists.{Each}
-use Rattle.ns_types.specs.State.Names.{Name, ByName, same_name}
-use Rattle.ns_types.specs.State.Rows.{Acl, State, World, Tenant, PoolRows}
-use Rattle.ns_types.specs.State.Tables.{any_row}
+use Rattle.ns_types.specs.State.Names.{Name, same_name}
+use Rattle.ns_types.specs.State.Rows.{Acl, State, World}
 use Rattle.ns_types.specs.Steps.{Answer, after, act, said, concluded, is_allowed, is_past_bound, settled, reply_of}
-use Rattle.ns_types.proofs.Elements.{each_kept, each_mapped, any_kept, any_map}
 use Rattle.ns_types.proofs.Lists.{each_map, not_both}
-use Rattle.ns_types.proofs.Named.{names, one_name, same_name_is, same_name_refl}
-use Rattle.ns_types.proofs.TableRows.{some_row}
-use Rattle.ns_types.proofs.Tables.{each_row}
+use Rattle.ns_types.proofs.Named.{same_name_refl}
 use Rattle.ns_laws.proofs.Access.Secrets.{only_managers_administer}
-use Rattle.ns_laws.proofs.Access.Tokens.{same_done}
+use Rattle.ns_laws.proofs.Reading.Documents.{namespaces_are_listed, pools_are_listed}
 use Rattle.ns_laws.specs.Secrets as law
 use Rattle.ns_audit.proofs.RightsLemmas.{unknown_is_denied}
-use Rattle.ns_audit.proofs.StepLemmas.{made, same_state, not_said}
+use Rattle.ns_audit.proofs.StepLemmas.{same_state, not_said}
 
 -- ---- who changes the access lists
 
@@ -154,50 +147,23 @@ only_managers_change_access (Step.Nack worker ns) s t answer e = inl (access_lis
 
 -- ---- what the lists show
 
-module _ {X Y : Type 0} (m : ByName X) (shows : Name → Bool) (f : Name × X → Y) where
-  abbrev listed : List Y
-  listed = map f (filter (λ e. shows e.0) (entries m))
-
-  each_listed : (P : Y → Type 0) → ((k : Name) (x : X) → get m k ≡ Some x → shows k ≡ true → P (f (k, x))) → Each P listed
-  each_listed P holds_of = each_mapped P f (filter (λ e. shows e.0) (entries m))
-      (each_map (λ e h. holds_of e.0 e.1 h.0 h.1) (filter (λ e. shows e.0) (entries m))
-      (each_kept (λ e. get m e.0 ≡ Some e.1) (λ e. shows e.0) (entries m) (each_row names one_name (λ k x. get m k ≡ Some x) m (λ k x at. at))))
-
-  all_listed : (name : Y → Name) → ((e : Name × X) → name (f e) ≡ e.0) → (k : Name) (x : X) → get m k ≡ Some x → shows k ≡ true →
-      list_any (λ y. same_name (name y) k) listed ≡ true
-  unfolding any_row
-  all_listed name its k x at shown = any_map (λ y. same_name (name y) k) f (filter (λ e. shows e.0) (entries m))
-      ∙ any_kept (λ e. same_name (name (f e)) k) (λ e. shows e.0) true
-      (λ e same. ap shows (sym (its e) ∙ same_name_is (name (f e)) k same) ∙ shown) (entries m)
-      ∙ ap (λ b. b && true) (some_row names one_name (λ q y. same_name (name (f (q, y))) k) m k x at
-      (ap (λ q. same_name q k) (its (k, x)) ∙ same_name_refl k))
-
-content_made : (step : Step) (s t : State) (reply : Reply) (content : Content) → act step s ≡ Done content s → after step s ≡ said (Ok reply) t →
-    reply.content ≡ content
-content_made step s t reply content acts e =
-    let m = made step s t reply e in
-    sym (ap (λ (r : Reply). r.content) m.replied) ∙ (same_done _ _ _ _ (sym m.acts ∙ acts)).0
+-- a row that is listed with its name is found by that name
+named_among : {Y : Type 0} (name : Y → Name) (ys : List Y) (k : Name) → (y : Y) × Contains ys y × (name y ≡ k) → list_any (λ y. same_name (name y) k) ys ≡ true
+named_among name ys k h = list_any_at (λ y. same_name (name y) k) ys h.1.0 h.0 h.1.1
+    (ap (λ y. same_name (name y) k) h.1.2 ∙ ap (λ n. same_name n k) h.2 ∙ same_name_refl k)
 
 pub list_shows_readable : law.ListShowsReadable
-unfolding act administer
-list_shows_readable s t secret reply e =
-    let shows : Name → Bool = (λ ns. has_any (rights_of s.acl secret ns)) in
-    let f : Name × Tenant → NamespaceShown = (λ x. record { name = x.0; row = x.1.namespace }) in record {
-      rows = listed s.world.tenants shows f;
-      answered = content_made (Step.Admin secret AdminCommand.ListNamespaces) s t reply _ refl e;
-      no_other = each_listed s.world.tenants shows f (law.IsReadable s secret)
-          (λ ns x at shown. record { tenant = x; there = at; row = refl; allowed = shown });
-      all = λ ns x at shown. all_listed s.world.tenants shows f (λ (y : NamespaceShown). y.name) (λ _. refl) ns x at shown;
-    }
+list_shows_readable s t secret reply e = let shows = namespaces_are_listed secret s t reply e in record {
+  rows = shows.shown;
+  answered = shows.answered;
+  no_other = each_map (λ y r. record { tenant = r.row; there = r.is_row; row = r.shows; allowed = r.passes }) shows.shown shows.no_other;
+  all = λ ns x at may. named_among (λ (y : NamespaceShown). y.name) shows.shown ns (shows.all ns x at may);
+}
 
 pub list_shows_readable_pools : law.ListShowsReadablePools
-unfolding act administer
-list_shows_readable_pools s t secret reply e =
-    let shows : Name → Bool = (λ pool. (pool_rights_of s.acl secret pool).read) in
-    let f : Name × PoolRows → PoolShown = (λ x. record { name = x.0; row = x.1.pool }) in record {
-      rows = listed s.world.pools shows f;
-      answered = content_made (Step.Admin secret AdminCommand.ListPools) s t reply _ refl e;
-      no_other = each_listed s.world.pools shows f (law.IsReadablePool s secret)
-          (λ pool x at shown. record { rows = x; there = at; row = refl; allowed = shown });
-      all = λ pool x at shown. all_listed s.world.pools shows f (λ (y : PoolShown). y.name) (λ _. refl) pool x at shown;
-    }
+list_shows_readable_pools s t secret reply e = let shows = pools_are_listed secret s t reply e in record {
+  rows = shows.shown;
+  answered = shows.answered;
+  no_other = each_map (λ y r. record { rows = r.row; there = r.is_row; row = r.shows; allowed = r.passes }) shows.shown shows.no_other;
+  all = λ pool x at may. named_among (λ (y : PoolShown). y.name) shows.shown pool (shows.all pool x at may);
+}
