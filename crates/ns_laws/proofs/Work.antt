@@ -7,6 +7,7 @@ pub mod Nack
 pub mod Phases
 pub mod Places
 pub mod Rows
+pub mod Shown
 pub mod Snapshots
 pub mod Steps
 pub mod Turns

@@ -150,7 +150,12 @@ pub record SeesNodes (w : World) (pool : Name) (seen : List PoolNode) : Type 0 w
   pub no_other : Each (IsNodeThere w pool) seen
   pub all : (name : Name) → node_at w pool name ≢ None → (node : PoolNode) × Contains seen node × (node.name ≡ name)
 
--- the quota's limits, its last release, and what the live allocations of all namespaces that name it take together
+-- the namespace is there, and its record names the quota
+abbrev pub NamesQuota : World → Name → Name → Type 0
+NamesQuota w quota ns = (t : Tenant) × (get w.tenants ns ≡ Some t) × (t.namespace.quota ≡ Some quota)
+
+-- the quota's limits, its last release, what the live allocations of all namespaces that name it take together, and
+-- the namespaces, which are exactly those that name it
 pub record SeesQuota (w : World) (quota : Name) (seen : QuotaSeen) : Type 0 where
   pub name : seen.name ≡ quota
   pub row : QuotaRows
@@ -158,6 +163,8 @@ pub record SeesQuota (w : World) (quota : Name) (seen : QuotaSeen) : Type 0 wher
   pub limits : seen.limits ≡ limits_in row.quota.limits
   pub release : seen.release ≡ row.release
   pub used : seen.used ≡ total (λ a. a.size) (counted_in w quota)
+  pub no_other : Each (NamesQuota w quota) seen.namespaces
+  pub all : (ns : Name) → NamesQuota w quota ns → Contains seen.namespaces ns
 
 -- the pool of a job that is there is the job's, and that of an evaluation whose job is gone is the evaluation's
 abbrev pub HasPool : Option Job → Evaluation → Name → Type 0
@@ -202,7 +209,7 @@ pub record IsSnapped (number : ℕ) (ns : Name) (reply : Reply) (s s' : State) :
 
 -- In a valid state, once a worker has taken a snapshot, it keeps the snapshot, and the snapshot shows exactly what is
 -- there: the evaluation, the job or none, the job's own allocations, the nodes of the pool with what is live on them,
--- the limits and the use of the quota, and the last releases. Nothing else changes.
+-- the limits and the use of the quota, the namespaces that name it, and the last releases. Nothing else changes.
 abbrev pub SnapshotIsTrue : Type 0
 SnapshotIsTrue = (number : ℕ) (ns : Name) (s s' : State) (reply : Reply) → IsValid s →
     IsMade (Step.Snap number ns) s reply s' → IsSnapped number ns reply s s'

@@ -16,7 +16,7 @@ use Rattle.ns_types.proofs.Named.{numbers, one_number}
 use Rattle.ns_types.proofs.Tables.{each_row, get-map_rows}
 use Rattle.ns_types.proofs.Tests.{is_no, same_Some}
 use Rattle.ns_audit.proofs.Steady.Keeping.{row_of_map}
-use Rattle.ns_laws.proofs.Elements.{Has, filter_has, map_has, has_row}
+use Rattle.ns_laws.proofs.Elements.{Has, filter_has, has_row, map_has}
 
 -- ---- lists with no element
 

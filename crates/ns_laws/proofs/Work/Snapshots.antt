@@ -33,6 +33,7 @@ use Rattle.ns_types.proofs.Tests.{either_of, not_Some, same_Some}
 use Rattle.ns_laws.specs.Workers.{Counts, lives, completed, HasPool, IsLiveThere, IsNodeThere, IsOwn, IsTrueOf, SeesNodes, SeesOwn, SeesQuota, shown_live}
 use Rattle.ns_laws.proofs.Elements.{Has, contains_from, each_has, filter_has, flat_has, has_each, has_row, map_has}
 use Rattle.ns_laws.proofs.Reading.Use.{use_is}
+use Rattle.ns_laws.proofs.Work.Shown.{named_all, named_only}
 
 -- ---- the job's own allocations
 
@@ -231,7 +232,16 @@ module _ (w : World) where
       by : (o : Option QuotaRows) → get w.quotas quota ≡ o → option_map as_seen o ≡ Some seen → SeesQuota w quota seen
       by None is e = absurd (not_Some seen e)
       by (Some q) is e = subst (SeesQuota w quota) (same_Some (as_seen q) seen e)
-          (record { name = refl; row = q; is_row = is; limits = refl; release = refl; used = use_is w quota })
+          (record {
+            name = refl;
+            row = q;
+            is_row = is;
+            limits = refl;
+            release = refl;
+            used = use_is w quota;
+            no_other = named_only w quota;
+            all = named_all w quota;
+          })
 
   quota_there : (own : Option Name) (quota : Name) → own ≡ Some quota → get w.quotas quota ≢ None → option_and_then (quota_seen w) own ≢ None
   quota_there own quota is there none = by (get w.quotas quota) refl (ap (option_and_then (quota_seen w)) (sym is) ∙ none)
