@@ -2,7 +2,7 @@
 use Rattle.std.specs.Prelude.{◌≡◌, ◌≢◌, ◌⊎◌, ℕ, ◌+◌, ◌-◌, ◌<◌, ◌≤◌, Bool, true, false, List, [], ◌∷◌, ◌++◌, Option, ◌↔◌}
 use Rattle.std.specs.Prelude.{Some, None}
 use Rattle.std.specs.FinMap.{get}
-use Rattle.std.specs.List.{Contains}
+use Rattle.std.specs.List.{AllPairs, Contains}
 use Rattle.std.specs.Option.{option_map_or, option_or}
 use Rattle.ns_types.specs.declared.allocation.Allocation.{Allocation}
 use Rattle.ns_types.specs.declared.evaluation.Evaluation.{Evaluation}
@@ -138,12 +138,19 @@ pub record IsLiveThere (w : World) (pool node : Name) (live : LiveAllocation) : 
 abbrev pub shown_live : Key → Allocation → LiveAllocation
 shown_live key a = record { namespace = key.0; number = key.1; priority = a.priority; size = a.size }
 
--- the node is there with that row, and the allocations are exactly those that are live on it
+-- of two allocations that are there, the first was placed before the second: its row has the lower place
+abbrev pub IsPlacedBefore : World → LiveAllocation → LiveAllocation → Type 0
+IsPlacedBefore w a b = (first second : Allocation) → allocation_at w (a.namespace, a.number) ≡ Some first →
+    allocation_at w (b.namespace, b.number) ≡ Some second → first.place < second.place
+
+-- the node is there with that row, and the allocations are exactly those that are live on it, in the order in which
+-- they were placed
 pub record IsNodeThere (w : World) (pool : Name) (node : PoolNode) : Type 0 where
   pub is_row : node_at w pool node.name ≡ Some node.row
   pub no_other : Each (IsLiveThere w pool node.name) node.live
   pub all : (key : Key) (a : Allocation) → allocation_at w key ≡ Some a → is_live_on pool node.name a ≡ true →
       Contains node.live (shown_live key a)
+  pub in_order : AllPairs (IsPlacedBefore w) node.live
 
 -- the nodes are exactly those of the pool
 pub record SeesNodes (w : World) (pool : Name) (seen : List PoolNode) : Type 0 where
@@ -209,7 +216,8 @@ pub record IsSnapped (number : ℕ) (ns : Name) (reply : Reply) (s s' : State) :
 
 -- In a valid state, once a worker has taken a snapshot, it keeps the snapshot, and the snapshot shows exactly what is
 -- there: the evaluation, the job or none, the job's own allocations, the nodes of the pool with what is live on them,
--- the limits and the use of the quota, the namespaces that name it, and the last releases. Nothing else changes.
+-- the limits and the use of the quota, the namespaces that name it, and the last releases. The live allocations of a
+-- node stand in the order in which they were placed. Nothing else changes.
 abbrev pub SnapshotIsTrue : Type 0
 SnapshotIsTrue = (number : ℕ) (ns : Name) (s s' : State) (reply : Reply) → IsValid s →
     IsMade (Step.Snap number ns) s reply s' → IsSnapped number ns reply s s'

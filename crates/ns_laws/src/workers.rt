@@ -14,7 +14,8 @@ pub fn dequeued_is_taken()
 
 /// In a valid state, once a worker has taken a snapshot, it keeps the snapshot, and the snapshot shows exactly what is
 /// there: the evaluation, the job or none, the job's own allocations, the nodes of the pool with what is live on them,
-/// the limits and the use of the quota, the namespaces that name it, and the last releases. Nothing else changes.
+/// the limits and the use of the quota, the namespaces that name it, and the last releases. The live allocations of a
+/// node stand in the order in which they were placed. Nothing else changes.
 pub fn snapshot_is_true()
     ensures { SnapshotIsTrue }
 {}

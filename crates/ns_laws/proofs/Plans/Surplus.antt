@@ -50,7 +50,7 @@ module _ {X : Type 0} where
       pairs_from xs (λ i j d lt within. h (suc i) (suc j) d (omega (arith, lt)) (omega (arith, within))),
     )
 
-    all_pairs : (xs : List X) → Pairs R xs → AllPairs R xs
+    pub all_pairs : (xs : List X) → Pairs R xs → AllPairs R xs
     all_pairs [] h = none
       where
         none : AllPairs R []
@@ -247,7 +247,7 @@ stops_no_other s j orderly is runs = each_map (λ a only. no_other s j is runs o
 
 -- ---- snapshots are orderly
 
-rising : {X : Type 0} (es : List (ℕ × X)) → T (is_sorted nat_cmp es) → Pairs (λ x y. x.0 < y.0) es
+pub rising : {X : Type 0} (es : List (ℕ × X)) → T (is_sorted nat_cmp es) → Pairs (λ x y. x.0 < y.0) es
 rising [] h = tt
 rising (x ∷ es) h = (above x.0 es (first (below_all nat_cmp x.0 es) _ h), rising es (second (below_all nat_cmp x.0 es) _ h))
 

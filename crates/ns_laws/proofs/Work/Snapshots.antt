@@ -4,7 +4,7 @@ use Rattle.std.proofs.Common.{refl, sym, ap, subst, ◌∙◌, inl, inr}
 use Rattle.std.proofs.lemmas.Bool.{or_right}
 use Rattle.std.specs.FinMap.{get, entries, from_entries, get-from_entries}
 use Rattle.std.specs.FinMap.Entries.{find}
-use Rattle.std.specs.List.{Contains}
+use Rattle.std.specs.List.{AllPairs, Contains}
 use Rattle.std.specs.Option.{option_map_or, option_and_then}
 use Rattle.std.specs.Ordering.{nat_cmp, eq_by_cmp}
 use Rattle.ns_types.specs.declared.allocation.Allocation.{Allocation}
@@ -30,10 +30,11 @@ use Rattle.ns_types.proofs.Lists.{each_map, not_both}
 use Rattle.ns_types.proofs.Named.{first_of_both, names, numbers, one_name, one_number, same_name_is, same_name_refl, same_number_refl, second_of_both}
 use Rattle.ns_types.proofs.Tables.{each_row, tied}
 use Rattle.ns_types.proofs.Tests.{either_of, not_Some, same_Some}
-use Rattle.ns_laws.specs.Workers.{Counts, lives, completed, HasPool, IsLiveThere, IsNodeThere, IsOwn, IsTrueOf, SeesNodes, SeesOwn, SeesQuota, shown_live}
+use Rattle.ns_laws.specs.Workers.{Counts, lives, completed, HasPool, IsLiveThere, IsNodeThere, IsOwn, IsPlacedBefore}
+use Rattle.ns_laws.specs.Workers.{IsTrueOf, SeesNodes, SeesOwn, SeesQuota, shown_live}
 use Rattle.ns_laws.proofs.Elements.{Has, contains_from, each_has, filter_has, flat_has, has_each, has_row, map_has}
 use Rattle.ns_laws.proofs.Reading.Use.{use_is}
-use Rattle.ns_laws.proofs.Work.Shown.{named_all, named_only}
+use Rattle.ns_laws.proofs.Work.Shown.{named_all, named_only, placed_in_order}
 
 -- ---- the job's own allocations
 
@@ -162,6 +163,11 @@ module _ (w : World) (pool node : Name) where
       let there = each_has IsThere (allocations_on w pool node) a h all_there in
       record { row = a.1.1; is_row = there.0; lives = there.1; priority = refl; size = refl }))
 
+  live_in_order : AllPairs (IsPlacedBefore w) (live_on w pool node)
+  unfolding live_on
+  live_in_order = placed_in_order w (allocations_on w pool node) (by_number_each place (allocations_on w pool node)
+      (λ a. allocation_at w (a.0, a.1.0) ≡ Some a.1.1) (λ a h. (each_has IsThere (allocations_on w pool node) a h all_there).0))
+
   module _ (sound : IsSound w) where
     on_pool : (a : Allocation) → is_live_on pool node a ≡ true → pool ≡ a.pool
     on_pool a on = same_name_is pool a.pool (first_of_both (same_name pool a.pool) _ (second_of_both (is_live a) _ on))
@@ -202,6 +208,7 @@ sees_nodes w pool sound = by (get w.pools pool) refl
             is_row = ap (option_and_then (λ (p : PoolRows). get p.nodes name)) is ∙ at;
             no_other = live_there w pool name;
             all = live_all w pool name sound;
+            in_order = live_in_order w pool name;
           }));
       all = λ name there. found name there (get p.nodes name) refl;
     }
