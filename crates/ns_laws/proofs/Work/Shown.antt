@@ -18,9 +18,8 @@ use Rattle.ns_types.proofs.Tables.{each_row}
 use Rattle.ns_types.proofs.Tests.{same_Some}
 use Rattle.ns_audit.proofs.ValidEvaluations.Pairs.{Pairs, pairs_mapped, pairs_of, pairs_with}
 use Rattle.ns_laws.specs.Workers.{IsPlacedBefore, NamesQuota}
-use Rattle.ns_laws.proofs.Elements.{contains_from, filter_has, map_has}
+use Rattle.ns_laws.proofs.Elements.{contains_from, filter_has, has_row, map_has}
 use Rattle.ns_laws.proofs.Plans.Surplus.{all_pairs, rising}
-use Rattle.ns_laws.proofs.ReadsLemmas.{has_row}
 
 -- ---- the live allocations of a node
 
