@@ -100,8 +100,7 @@ unchanged_evaluations_keep_indexes step s s' ns old now n e valid h at was =
             ∙ ap (option_map (woken_row (woken s.world c.own.world) ns n)) b.1)
             (ap (λ o. get (stamp_tenant o u).evaluations n) (sym h.was_there) ∙ ap (λ (t : Tenant). get t.evaluations n) c.is_now ∙ at)
             (was_the_same old n e was) in
-            let w = woken_dates wakes b.0 in
-            (
+            let w = woken_dates wakes b.0 in (
               ap (λ (e : Evaluation). e.create_index) (sym d) ∙ w.created ∙ b.2.created,
               ap (λ (e : Evaluation). e.modify_index) (sym d) ∙ w.modified ∙ b.2.modified,
             )

@@ -79,12 +79,11 @@ shown_then f g e a b = record {
 
 stamped_row : (old : Option Tenant) (t : Tenant) (n : ℕ) (f : Evaluation) → get t.evaluations n ≡ Some f →
     (e : Evaluation) × (get (stamp_tenant old t).evaluations n ≡ Some e) × IsShown f e
-stamped_row old t n f at = let r = redated_evaluation old t n f at in
-    (
-      record f { create_index = r.0; modify_index = r.1 },
-      r.2,
-      record { status = f.status; created = r.0; modified = r.1; same = refl; pends = λ is. is },
-    )
+stamped_row old t n f at = let r = redated_evaluation old t n f at in (
+  record f { create_index = r.0; modify_index = r.1 },
+  r.2,
+  record { status = f.status; created = r.0; modified = r.1; same = refl; pends = λ is. is },
+)
 
 shown_settled : (w x : World) (ns : Name) (n : ℕ) (f e : Evaluation) → evaluation_at x (ns, n) ≡ Some f → evaluation_at (settle w x) (ns, n) ≡ Some e → IsShown f e
 shown_settled w x ns n f e at later = by (get x.tenants ns) refl at

@@ -88,9 +88,12 @@ no_name (n ∷ ns) h = not_both (ap (λ b. b || has_name ns n) (same_name_refl n
 
 named : (kept : Snapshot) (ks : List ℕ) → Says (names_in kept ks ≢ []) (not (is_empty ks))
 named kept [] = ((λ e. not_both e refl), λ some. absurd (some (no_name (names_in kept []) (λ q. sorted_has [] q))))
-named kept (k ∷ ks) = ((λ _ none. not_both (sorted_has (node_name kept k ∷ map (node_name kept) ks) (node_name kept k)
-    ∙ ap (λ b. b || has_name (map (node_name kept) ks) (node_name kept k)) (same_name_refl (node_name kept k)))
-    (ap (λ list. has_name list (node_name kept k)) none)), λ _. refl)
+named kept (k ∷ ks) = (
+  (λ _ none. not_both (sorted_has (node_name kept k ∷ map (node_name kept) ks) (node_name kept k)
+      ∙ ap (λ b. b || has_name (map (node_name kept) ks) (node_name kept k)) (same_name_refl (node_name kept k)))
+      (ap (λ list. has_name list (node_name kept k)) none)),
+  λ _. refl,
+)
 
 -- ---- what was committed, and what was dropped
 

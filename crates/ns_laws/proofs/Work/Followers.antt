@@ -148,12 +148,12 @@ module _ (kept : Snapshot) where
   ruled_out_is : (class : Class) → IsRuledOut kept class → Contains (infeasible_classes kept) class
   ruled_out_is class r =
       let infeasible : ruled_out r.node ≡ true = any_of (λ c. not (escapes c) && not (holds r.node.name r.node.row c)) (constraints_of kept.job) r.constraint
-          (constraint_has kept r.constraint r.is_constraint)
-          (λ i. not (not_escaping r.constraint.target r.by_class i) && not (by_failing r.node.name r.node.row r.constraint r.fails i)) in
+      (constraint_has kept r.constraint r.is_constraint)
+      (λ i. not (not_escaping r.constraint.target r.by_class i) && not (by_failing r.node.name r.node.row r.constraint r.fails i)) in
       let among = filter_has ruled_out kept.nodes r.node (has_of kept.nodes r.node r.is_node) infeasible in
       let here = any_has (same_class class) (infeasible_classes kept) (has_infeasible class
-          ∙ any_of (λ (p : PoolNode). same_class class (class_of p.row)) (filter ruled_out kept.nodes) r.node among
-          (ap (same_class class) r.of_class ∙ class_same class)) in
+      ∙ any_of (λ (p : PoolNode). same_class class (class_of p.row)) (filter ruled_out kept.nodes) r.node among
+      (ap (same_class class) r.of_class ∙ class_same class)) in
       subst (Contains (infeasible_classes kept)) (sym (class_is class here.0 here.2)) (contains_from (infeasible_classes kept) here.0 here.1)
 
 -- ---- the quota

@@ -96,7 +96,6 @@ module _ (t u : Tenant) where
 
 -- ---- which evaluation of a job becomes ready
 
-
 -- the end of the step is y, and it wakes nothing
 module _ (ns job : Name) (t u : Tenant) (w p y : World) (is : get p.tenants ns ≡ Some u) (ends_in : settle w (promote ns job p) ≡ y)
     (ready : y.ready ≡ (promote ns job p).ready) (wakes : woken w (promote ns job p) ≡ []) where
