@@ -1,8 +1,8 @@
 """Tries the wrong models `wrong-models/*.edit`: each plants a mistake in the definitions, and makes the law false that it names.
 
-    python3 bench/wrong_models.py                every one
-    python3 bench/wrong_models.py deny_grants    these
-    python3 bench/wrong_models.py --standing     proves nothing, and takes a second: checks that each can be read and applied
+    python3 bench/wrong_models.py                      every one
+    python3 bench/wrong_models.py deny_is_forgotten    these
+    python3 bench/wrong_models.py --standing           proves nothing, and takes a second: checks that each can be read and applied
 
 An edit has a line `law: MODULE::LAW` of `ns_laws`, a line `why:` that says in words what would break the law, and then the lines
 of a wrong body, for files of `crates/ns_types`. The definitions, the lemmas and the laws are copied into a folder of their own and
@@ -10,8 +10,9 @@ checked there, from their source. First each named law has to be proved over the
 by itself: its definitions have to be accepted, and the law must not be proved. Some 20 seconds each; RT_JOBS says how many run side
 by side.
 
-That a proof fails does not show that the law is false: read `why:` for that. It shows that the law does not hold by a proof that
-never looks at the definition. Prints each law that is proved all the same, then `N refused, M not`; the exit status is 0 if M is 0.
+A refusal shows that the proof of the law depends on the definition. It does not show that the law is false over the changed one: a
+proof can fail there although the law holds. Read `why:` for that. Prints each law that is proved all the same, then `N refused, M
+not`; the exit status is 0 if M is 0.
 """
 
 import concurrent.futures
