@@ -7,7 +7,7 @@
 An edit has a line `law: MODULE::LAW` of `ns_laws`, a line `why:` that says in words what would break the law, and then the lines
 of a wrong body, for files of `crates/ns_types`. The definitions, the lemmas and the laws are copied into a folder of their own and
 checked there, from their source. First each named law has to be proved over the definitions as they are. Then each edit is applied
-by itself: its definitions have to be accepted, and the law must not be proved. Some 20 seconds each; RT_JOBS says how many run side
+by itself: its definitions have to be accepted, and the law must not be proved. Some 30 seconds each; RT_JOBS says how many run side
 by side.
 
 A refusal shows that the proof of the law depends on the definition. It does not show that the law is false over the changed one: a
