@@ -1,4 +1,0 @@
-use Rattle.ns_running_tests.proofs.filling.a_full_log_takes_no_step.Given as goal
-
-abbrev pub ghosts-fills : goal.ghosts-fills
-ghosts-fills g a = record { name = a.blank.name; parts = a.blank.parts }

@@ -1,4 +1,0 @@
-use Rattle.ns_running_tests.proofs.many.many_at_once.Given as goal
-
-abbrev pub ghosts-settles : goal.ghosts-settles
-ghosts-settles g a = record { name = a.blank.name; parts = a.blank.parts }

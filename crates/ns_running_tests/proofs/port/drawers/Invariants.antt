@@ -1,5 +1,0 @@
-use Rattle.std.proofs.Common.{◌≡◌, ◌+◌, vec_len}
-use Rattle.ns_running_tests.proofs.port.drawers.Given as goal
-
-abbrev pub invariant-loop : goal.invariant-loop
-invariant-loop l = vec_len l.drawers ≡ l.counter + 1

@@ -1,4 +1,0 @@
-use Rattle.ns_running_tests.proofs.stopping.no_step_out_of_turn.Given as goal
-
-abbrev pub ghosts-stay_idle : goal.ghosts-stay_idle
-ghosts-stay_idle g a = record { name = a.blank.name; parts = a.blank.parts }

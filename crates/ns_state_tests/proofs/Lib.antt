@@ -1,2 +1,0 @@
-mod Fresh
-mod OneNode

@@ -1,0 +1,3 @@
+mod Crossing
+mod Fresh
+mod OneNode
