@@ -7,6 +7,7 @@ pub mod Elements
 pub mod Endings
 pub mod Index
 pub mod OrderedLemmas
+pub mod PairLemmas
 pub mod Plans
 pub mod QueueLemmas
 pub mod Reading

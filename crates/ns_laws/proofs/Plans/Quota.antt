@@ -41,9 +41,10 @@ use Rattle.ns_laws.specs.Placement as chosen
 use Rattle.ns_laws.specs.Planning as plans
 use Rattle.ns_laws.specs.Surplus as law
 use Rattle.ns_laws.proofs.Choices.Placement.{room_before_victims}
+use Rattle.ns_laws.proofs.PairLemmas.{pairs_from}
 use Rattle.ns_laws.proofs.Plans.Planning.{same_text}
 use Rattle.ns_laws.proofs.Plans.Limits.{allows_is}
-use Rattle.ns_laws.proofs.Plans.Surplus.{has, has_itself, no_one, pairs_from}
+use Rattle.ns_laws.proofs.Plans.Surplus.{has, has_itself, no_one}
 use Rattle.ns_laws.proofs.Plans.Room.{choice_frees, evictable_sum, evicted_first}
 
 -- ---- what the stops take

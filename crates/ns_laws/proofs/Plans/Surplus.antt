@@ -3,13 +3,13 @@ use Rattle.std.specs.Prelude.{◌≡◌, ◌≢◌, ℕ, zero, suc, ◌+◌, ◌
 use Rattle.std.specs.Prelude.{IsTrue, List, T, [], ◌∷◌, ◌++◌, Some, drop, filter, length, map, nat_le, slice_get}
 use Rattle.std.specs.FinMap.{entries, entries_sorted, get}
 use Rattle.std.specs.FinMap.Entries.{below_all, is_sorted}
-use Rattle.std.specs.List.{AllPairs, flat_map, list_all, list_any, slice_index_or}
+use Rattle.std.specs.List.{AllPairs, flat_map, list_all, list_any}
 use Rattle.std.specs.Ordering.{nat_cmp}
 use Rattle.std.proofs.Common.{refl, sym, ap, subst, ◌∙◌, arith}
 use Rattle.std.proofs.lemmas.Bool.{or_right}
 use Rattle.std.proofs.lemmas.List.{length-drop}
 use Rattle.std.proofs.lemmas.List.Folds.{list_any-append}
-use Rattle.std.proofs.lemmas.List.Kept.{AllPairs-cons, AllPairs-filter}
+use Rattle.std.proofs.lemmas.List.Kept.{AllPairs-filter}
 use Rattle.ns_types.specs.declared.allocation.Allocation.{Allocation}
 use Rattle.ns_types.specs.declared.job.Document.{Document}
 use Rattle.ns_types.specs.declared.job.Group.{Group}
@@ -23,7 +23,7 @@ use Rattle.ns_types.specs.State.Lists.{Each}
 use Rattle.ns_types.specs.State.Names.{has_number, same_name, same_number}
 use Rattle.ns_types.specs.State.Rows.{Tenant, is_live}
 use Rattle.ns_types.specs.Working.Snapshot.{is_done_for}
-use Rattle.ns_types.proofs.Elements.{all_from, any_map, each_both, each_kept, each_true}
+use Rattle.ns_types.proofs.Elements.{any_map, each_both, each_kept, each_true}
 use Rattle.ns_types.proofs.Lists.{each_map, filter_all, not_both}
 use Rattle.ns_types.proofs.Named.{first_of_both, one_number, other_number, same_name_refl, same_number_refl, second_of_both}
 use Rattle.ns_types.proofs.Tables.{tied}
@@ -32,31 +32,13 @@ use Rattle.ns_audit.proofs.ValidEvaluations.Pairs.{Pairs, pairs_mapped, pairs_of
 use Rattle.ns_laws.specs.Planning as plans
 use Rattle.ns_laws.specs.Surplus as law
 use Rattle.ns_laws.proofs.OrderedLemmas.{above}
+use Rattle.ns_laws.proofs.PairLemmas.{all_pairs, pairs_from}
 use Rattle.ns_laws.proofs.Plans.ApplyRows.{each_slice}
 use Rattle.ns_laws.proofs.Plans.Planning.{completed_is, each_drop, running_is, same_text, stops_not_wanted}
 
 -- ---- lists without repetitions
 
 module _ {X : Type 0} where
-  each_index : (P : X → Type 0) (xs : List X) (d : X) → ((j : ℕ) → j < length xs → P (slice_index_or xs j d)) → Each P xs
-  each_index P [] d h = tt
-  each_index P (x ∷ xs) d h = (h 0 (omega arith), each_index P xs d (λ j lt. h (suc j) (omega (arith, lt))))
-
-  module _ (R : X → X → Type 0) where
-    pub pairs_from : (xs : List X) → AllPairs R xs → Pairs R xs
-    pairs_from [] h = tt
-    pairs_from (x ∷ xs) h = (
-      each_index (R x) xs x (λ j lt. h 0 (suc j) x (omega arith) (omega (arith, lt))),
-      pairs_from xs (λ i j d lt within. h (suc i) (suc j) d (omega (arith, lt)) (omega (arith, within))),
-    )
-
-    pub all_pairs : (xs : List X) → Pairs R xs → AllPairs R xs
-    all_pairs [] h = none
-      where
-        none : AllPairs R []
-        none i j d lt within = absurd (omega (arith, within))
-    all_pairs (x ∷ xs) h = AllPairs-cons R x xs (all_from (R x) xs h.0) (all_pairs xs h.1)
-
   -- an element with the key of another is that other
   pub each_once : {K : Type 0} (key : X → K) (xs : List X) → Pairs (λ x y. key x ≢ key y) xs
       → Each (λ x. Each (λ y. key y ≡ key x → y ≡ x) xs) xs

@@ -19,7 +19,8 @@ use Rattle.ns_types.proofs.Tests.{same_Some}
 use Rattle.ns_audit.proofs.ValidEvaluations.Pairs.{Pairs, pairs_mapped, pairs_of, pairs_with}
 use Rattle.ns_laws.specs.Workers.{IsPlacedBefore, NamesQuota}
 use Rattle.ns_laws.proofs.Elements.{contains_from, filter_has, has_row, map_has}
-use Rattle.ns_laws.proofs.Plans.Surplus.{all_pairs, rising}
+use Rattle.ns_laws.proofs.PairLemmas.{all_pairs}
+use Rattle.ns_laws.proofs.Plans.Surplus.{rising}
 
 -- ---- the live allocations of a node
 
