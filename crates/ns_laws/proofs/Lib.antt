@@ -15,5 +15,6 @@ pub mod Refusal
 pub mod Scope
 pub mod Service
 pub mod SumLemmas
+pub mod Texts
 pub mod Wakes
 pub mod Work

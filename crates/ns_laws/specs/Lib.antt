@@ -19,3 +19,4 @@ pub mod Indexes
 pub mod Effects
 pub mod Surplus
 pub mod Serving
+pub mod Names

@@ -1,0 +1,5 @@
+use Rattle.ns_laws.proofs.Texts.Naming.{names_of_pools}
+use Rattle.ns_laws.proofs.names.names_of_pools.Goals as goal
+
+pub returns : goal.returns
+returns c = names_of_pools
