@@ -1,4 +1,5 @@
 -- Names, ids, limits and words.
 pub mod Ids
+pub mod Limiting
 pub mod Naming
 pub mod Ordering

@@ -20,3 +20,4 @@ pub mod Effects
 pub mod Surplus
 pub mod Serving
 pub mod Names
+pub mod Limits

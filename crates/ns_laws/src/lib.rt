@@ -6,6 +6,7 @@ pub mod effects;
 pub mod ending;
 pub mod indexes;
 pub mod isolation;
+pub mod limits;
 pub mod names;
 pub mod nodes;
 pub mod placement;
