@@ -3,3 +3,4 @@ pub mod Ids
 pub mod Limiting
 pub mod Naming
 pub mod Ordering
+pub mod Wording

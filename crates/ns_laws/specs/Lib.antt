@@ -21,3 +21,4 @@ pub mod Surplus
 pub mod Serving
 pub mod Names
 pub mod Limits
+pub mod Words

@@ -26,4 +26,5 @@ pub mod surplus;
 pub mod turns;
 pub mod waking;
 pub mod woken;
+pub mod words;
 pub mod workers;
