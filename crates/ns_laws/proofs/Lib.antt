@@ -13,6 +13,7 @@ pub mod QueueLemmas
 pub mod Reading
 pub mod Refusal
 pub mod Scope
+pub mod Sending
 pub mod Service
 pub mod SumLemmas
 pub mod Texts

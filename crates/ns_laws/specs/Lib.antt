@@ -22,3 +22,4 @@ pub mod Serving
 pub mod Names
 pub mod Limits
 pub mod Words
+pub mod Wire

@@ -25,6 +25,7 @@ pub mod sums;
 pub mod surplus;
 pub mod turns;
 pub mod waking;
+pub mod wire;
 pub mod woken;
 pub mod words;
 pub mod workers;

@@ -1,0 +1,3 @@
+-- Where requests end, and the bytes of responses.
+pub mod Framing
+pub mod Responding

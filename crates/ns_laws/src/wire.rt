@@ -1,0 +1,98 @@
+//! Laws of the wire: where a request ends, when its connection closes, and the bytes of the response.
+
+ghost use Rattle.ns_laws.specs.Wire.{
+  HeaderNames,
+  NoLengthNoBody,
+  OneLengthCounts,
+  TwoLengthsAreBad,
+  CodingsAreRefused,
+  BodiesAreSmall,
+  MessagesAreSmall,
+  FirstTokenCounts,
+  ClosesByHead,
+  LastRequests,
+  RefusalsOnWire,
+  FieldsOnWire,
+  HeadFaultsOnWire,
+  DoneOnWire,
+  ResponsesInOrder,
+};
+
+/// Two names of headers are the same exactly if they are, character by character, but for upper and lower case of the
+/// letters A to Z.
+pub fn header_names()
+    ensures { HeaderNames }
+{}
+
+/// A request with neither a `Content-Length` nor a `Transfer-Encoding` has no body.
+pub fn no_length_no_body()
+    ensures { NoLengthNoBody }
+{}
+
+/// A request with one `Content-Length`, and no `Transfer-Encoding`, has a body of that length, if the value is a number of
+/// at most 1,048,576 in 1 to 20 digits. A greater number is refused as too large, and another value as a bad head.
+pub fn one_length_counts()
+    ensures { OneLengthCounts }
+{}
+
+/// A request with two `Content-Length` is refused as a bad head, even if they are the same.
+pub fn two_lengths_are_bad()
+    ensures { TwoLengthsAreBad }
+{}
+
+/// A `Transfer-Encoding` is refused: without a `Content-Length` since a length is needed, and beside one as a bad head.
+pub fn codings_are_refused()
+    ensures { CodingsAreRefused }
+{}
+
+/// No request has a body of more than 1,048,576 bytes.
+pub fn bodies_are_small()
+    ensures { BodiesAreSmall }
+{}
+
+/// A request has at most 16,384 bytes before its body, 64 headers, and a body of 1,048,576 bytes.
+pub fn messages_are_small()
+    ensures { MessagesAreSmall }
+{}
+
+/// The token is the value of the first `X-Nomad-Token`. Without one there is none.
+pub fn first_token_counts()
+    ensures { FirstTokenCounts }
+{}
+
+/// A request of HTTP/1.0 closes its connection. One of HTTP/1.1 closes it if a `Connection` lists `close`, and leaves it
+/// open without any `Connection`.
+pub fn closes_by_head()
+    ensures { ClosesByHead }
+{}
+
+/// A request whose head is refused is the last one of its connection, and so is one of HTTP/1.0.
+pub fn last_requests()
+    ensures { LastRequests }
+{}
+
+/// Each refusal is sent with its status, its phrase, its text and the length of that, as a text without an index.
+pub fn refusals_on_wire()
+    ensures { RefusalsOnWire }
+{}
+
+/// A bad field is sent with status 400 and with its name, as in `bad field: Priority`.
+pub fn fields_on_wire()
+    ensures { FieldsOnWire }
+{}
+
+/// A head that is refused is answered 400, 411 or 413, and the answer says that the connection closes.
+pub fn head_faults_on_wire()
+    ensures { HeadFaultsOnWire }
+{}
+
+/// What was done is answered 200, as JSON, with the index if there is one, and with the length of the body. Where the
+/// connection closes, the answer says so.
+pub fn done_on_wire()
+    ensures { DoneOnWire }
+{}
+
+/// Responses are sent one after the other, in the order of their requests.
+pub fn responses_in_order()
+    ensures { ResponsesInOrder }
+{}
