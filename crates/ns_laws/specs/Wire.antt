@@ -1,6 +1,6 @@
 -- Laws of the wire: where a request ends, when its connection closes, and the bytes of the response.
-use Rattle.std.specs.Prelude.{◌≡◌, ◌↔◌, ◌⊎◌, ℕ, ◌+◌, ◌<◌, ◌≤◌, true, false, List, [], ◌∷◌, ◌++◌, Some, None}
-use Rattle.std.specs.Prelude.{Result, Ok, Err, All, IsTrue, codes, count_by, decimal, length}
+use Rattle.std.specs.Prelude.{◌≡◌, ◌≢◌, ◌↔◌, ◌⊎◌, ℕ, ◌+◌, ◌<◌, ◌≤◌, true, false, ◌||◌, List, [], ◌∷◌, ◌++◌, Some}
+use Rattle.std.specs.Prelude.{None, Result, Ok, Err, All, IsTrue, codes, count_by, decimal, length}
 use Rattle.std.specs.Int.{IsInRange}
 use Rattle.std.specs.List.{AllZip}
 use Rattle.std.specs.Str.Parse.{digits_value}
@@ -96,6 +96,11 @@ ClosesByHead = (headers before after : List Header) (name value : List ℕ) → 
     × (count_named (codes "Connection") headers ≡ 0 → asks_close 1 headers ≡ false)
     × (IsTrue (eq_ignore_case name (codes "Connection")) → IsTrue (lists_close value)
     → asks_close 1 (before ++ (name, value) ∷ after) ≡ true)
+
+-- A `Connection` that has words between commas, of which 44 is the code, lists `close` exactly if one of the words does.
+abbrev pub CommasSeparate : Type 0
+CommasSeparate = (first rest : List ℕ) → All (λ c. c ≢ 44) first
+    → lists_close (first ++ 44 ∷ rest) ≡ (lists_close first || lists_close rest)
 
 -- A request whose head is refused is the last one, as is one of HTTP/1.0.
 abbrev pub LastRequests : Type 0

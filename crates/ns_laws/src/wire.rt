@@ -10,6 +10,7 @@ ghost use Rattle.ns_laws.specs.Wire.{
   MessagesAreSmall,
   FirstTokenCounts,
   ClosesByHead,
+  CommasSeparate,
   LastRequests,
   RefusalsOnWire,
   FieldsOnWire,
@@ -64,6 +65,11 @@ pub fn first_token_counts()
 /// open without any `Connection`.
 pub fn closes_by_head()
     ensures { ClosesByHead }
+{}
+
+/// A `Connection` that has words between commas lists `close` exactly if one of the words does.
+pub fn commas_separate()
+    ensures { CommasSeparate }
 {}
 
 /// A request whose head is refused is the last one of its connection, and so is one of HTTP/1.0.

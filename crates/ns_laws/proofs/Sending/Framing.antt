@@ -1,22 +1,25 @@
 -- How long a body is, which token a request has, and whether its connection closes, by its headers.
-use Rattle.std.specs.Prelude.{◌≡◌, ◌⊎◌, ℕ, ◌+◌, ◌≤◌, Bool, true, false, cond, ◌&&◌, ◌||◌, ◌==◌, List, [], ◌∷◌}
+use Rattle.std.specs.Prelude.{◌≡◌, ◌≢◌, ◌⊎◌, ℕ, ◌+◌, ◌≤◌, Bool, true, false, cond, ◌&&◌, ◌||◌, ◌==◌, List, [], ◌∷◌}
 use Rattle.std.specs.Prelude.{◌++◌, All, Decides, Ok, Err, codes, length, map, nat_eq, nat_le, nat_lt}
 use Rattle.std.specs.Char.{is_ascii_digit, to_ascii_lowercase}
 use Rattle.std.specs.Cmp.Lexicographic.{pointwise}
 use Rattle.std.specs.Int.{IsInRange}
-use Rattle.std.specs.List.{AllZip, list_all, list_any}
+use Rattle.std.specs.List.{AllZip, list_all, list_any, slice_split}
 use Rattle.std.specs.Str.Parse.{digits_value}
 use Rattle.std.proofs.Common.{inl, inr, refl, sym, ap, subst, ◌∙◌, arith, length-append}
 use Rattle.std.proofs.lemmas.Bool.{and_from, and_parts, cases_lt, cond-false, cond-true, eq-eqb, eqb-true, false_from_ne_true, le-leb, leb-true}
-use Rattle.std.proofs.lemmas.Bool.{lt-leb, lt-ltb, ltb-true, or_left, or_right}
+use Rattle.std.proofs.lemmas.Bool.{lt-leb, lt-ltb, ltb-true, ne_eqb, or_left, or_right}
 use Rattle.std.proofs.lemmas.Bool.Decides.{Decides-and, Decides-by_and}
+use Rattle.std.proofs.lemmas.List.Elements.{All-weaker}
 use Rattle.std.proofs.lemmas.List.Folds.{list_any-append}
 use Rattle.std.proofs.lemmas.List.Recursion.{is_count_by}
+use Rattle.std.proofs.lemmas.List.Splits.{slice_split_at, slice_split_none}
 use Rattle.std.proofs.lemmas.Str.Ascii.{lowercase_is}
 use Rattle.ns_types.specs.declared.reply.HeadFault.TheVariants.{BadHead, NeedLength, TooLarge}
 use Rattle.ns_types.specs.Wire.Http.{Header, asks_close, body_len, body_len_of, eq_ignore_case, first_value, headers_of, is_length, length_of}
 use Rattle.ns_types.specs.Wire.Http.{lists_close, token_of, values_named}
 use Rattle.ns_types.proofs.Lists.{not_both}
+use Rattle.ns_types.proofs.Tests.{or_none}
 use Rattle.ns_laws.specs.Wire as law
 use Rattle.ns_laws.specs.Wire.{IsLengthBy, IsNumber, IsSameLetter, codings, count_named, lengths}
 
@@ -310,6 +313,19 @@ closes_by_head headers before after name value = (
       (or_left (close_listed (name, value)) (list_any close_listed after)
       (and_from (eq_ignore_case name (codes "connection")) (lists_close value) (sym (same_connection_name name) ∙ same) listed))),
 )
+
+-- some part of a text passes, of those between commas, if the first one does or one of the others
+part_passes : (test : List ℕ → Bool) (first rest : List ℕ) → All (λ c. (c == 44) ≡ false) first
+    → list_any test (slice_split (λ c. c == 44) (first ++ 44 ∷ rest))
+    ≡ (list_any test (slice_split (λ c. c == 44) first) || list_any test (slice_split (λ c. c == 44) rest))
+part_passes test first rest none = ap (list_any test) (slice_split_at (λ c. c == 44) first 44 rest none refl)
+    ∙ ap (λ b. b || list_any test (slice_split (λ c. c == 44) rest))
+    (sym (ap (list_any test) (slice_split_none (λ c. c == 44) first none) ∙ or_none (test first)))
+
+pub commas_separate : law.CommasSeparate
+unfolding lists_close
+commas_separate first rest plain =
+    part_passes _ first rest (All-weaker (λ c. c ≢ 44) (λ c. (c == 44) ≡ false) (λ c other. ne_eqb c 44 other) first plain)
 
 pub last_requests : law.LastRequests
 last_requests = (
