@@ -46,7 +46,7 @@ pub record IsOfPool (text : Name) : Type 0 where
   pub other : text ≢ codes "all"
   pub made_of : IsMadeOf plain_or_underscore 128 text
 
--- A pool has such a name, which may be any but `all`.
+-- A text is a name of a pool exactly if it is such a name too, and is not `all`.
 abbrev pub NamesOfPools : Type 0
 NamesOfPools = (text : Name) → IsTrue (is_pool_name text) ↔ IsOfPool text
 
@@ -61,7 +61,7 @@ NamesOfJobs = (text : Name) → (IsTrue (is_name NameKind.Job text) ↔ IsMadeOf
 abbrev pub TextsOfSecrets : Type 0
 TextsOfSecrets = (text : Name) → IsTrue (is_name NameKind.Secret text) ↔ IsMadeOf printable 64 text
 
--- Two names are the same exactly if they are the same text, in upper and lower case too.
+-- Two names are the same exactly if they are the same text: a letter in upper case is another than in lower case.
 abbrev pub SameNames : Type 0
 SameNames = (a b : Name) → IsTrue (same_name a b) ↔ (a ≡ b)
 

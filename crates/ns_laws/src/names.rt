@@ -25,7 +25,7 @@ pub fn names_of_nodes()
     ensures { NamesOfNodes }
 {}
 
-/// A pool has such a name too, which may be any but `all`.
+/// A text is a name of a pool exactly if it is such a name too, and is not `all`.
 pub fn names_of_pools()
     ensures { NamesOfPools }
 {}
