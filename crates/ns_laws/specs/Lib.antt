@@ -23,3 +23,4 @@ pub mod Names
 pub mod Limits
 pub mod Words
 pub mod Wire
+pub mod Requests

@@ -105,3 +105,9 @@ IdsHaveKinds = (n : ℕ) → n < 2 ^ 64 → (¬ (IsNoId IdKind.Evaluation (id_te
     × IsNoId IdKind.Allocation (id_text IdKind.Evaluation n)
     × (¬ (IsNoId IdKind.Allocation (id_text IdKind.Allocation n)))
     × IsNoId IdKind.Evaluation (id_text IdKind.Allocation n)
+
+-- Ids are written so: the first evaluation, the first allocation, and allocation 43981, which is abcd in hexadecimal.
+pub record AreWrittenSo : Type 0 where
+  pub evaluation : id_text IdKind.Evaluation 1 ≡ codes "00000000-0000-0001-0000-000000000001"
+  pub allocation : id_text IdKind.Allocation 1 ≡ codes "00000000-0000-0002-0000-000000000001"
+  pub later : id_text IdKind.Allocation 43981 ≡ codes "00000000-0000-0002-0000-00000000abcd"

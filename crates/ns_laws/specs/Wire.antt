@@ -102,6 +102,18 @@ abbrev pub CommasSeparate : Type 0
 CommasSeparate = (first rest : List ℕ) → All (λ c. c ≢ 44) first
     → lists_close (first ++ 44 ∷ rest) ≡ (lists_close first || lists_close rest)
 
+-- `close` is listed alone, or between commas, with spaces or tabs around it, in upper or in lower case; other words are
+-- none.
+pub record CloseIsListed : Type 0 where
+  pub alone : lists_close (codes "close") ≡ true
+  pub upper : lists_close (codes "Close") ≡ true
+  pub later : lists_close (codes "keep-alive,CLOSE") ≡ true
+  pub between : lists_close (codes "keep-alive , \tclose\t, upgrade") ≡ true
+  pub other : lists_close (codes "keep-alive") ≡ false
+  pub longer : lists_close (codes "closed") ≡ false
+  pub within : lists_close (codes "keep close") ≡ false
+  pub none : lists_close [] ≡ false
+
 -- A request whose head is refused is the last one, as is one of HTTP/1.0.
 abbrev pub LastRequests : Type 0
 LastRequests = ((fault : HeadFault) → is_last (Refused fault) ≡ true)

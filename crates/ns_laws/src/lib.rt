@@ -16,6 +16,7 @@ pub mod reach;
 pub mod reads;
 pub mod reasons;
 pub mod refusals;
+pub mod requests;
 pub mod rights;
 pub mod secrets;
 pub mod serving;

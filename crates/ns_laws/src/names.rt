@@ -11,6 +11,7 @@ ghost use Rattle.ns_laws.specs.Names.{
   IdsDiffer,
   IdsReadBack,
   IdsHaveKinds,
+  AreWrittenSo,
 };
 
 /// A text is a name of a namespace, or of a policy, exactly if it has 1 to 128 characters, each a letter, a digit or
@@ -66,4 +67,10 @@ pub fn ids_read_back()
 /// The id of an evaluation is an id of an evaluation and no id of an allocation, and the other way round.
 pub fn ids_have_kinds()
     ensures { IdsHaveKinds }
+{}
+
+/// The first evaluation of a namespace has the id `00000000-0000-0001-0000-000000000001`, and its first allocation
+/// `00000000-0000-0002-0000-000000000001`. Higher numbers end in their hexadecimal digits, in lower case.
+pub fn ids_are_written_so()
+    ensures { AreWrittenSo }
 {}

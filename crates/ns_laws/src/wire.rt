@@ -10,6 +10,7 @@ ghost use Rattle.ns_laws.specs.Wire.{
   MessagesAreSmall,
   FirstTokenCounts,
   ClosesByHead,
+  CloseIsListed,
   CommasSeparate,
   LastRequests,
   RefusalsOnWire,
@@ -70,6 +71,12 @@ pub fn closes_by_head()
 /// A `Connection` that has words between commas lists `close` exactly if one of the words does.
 pub fn commas_separate()
     ensures { CommasSeparate }
+{}
+
+/// `close` is listed alone or between commas, with spaces or tabs around it, in upper or lower case. `closed` and
+/// `keep close` do not list it.
+pub fn close_is_listed()
+    ensures { CloseIsListed }
 {}
 
 /// A request whose head is refused is the last one of its connection, and so is one of HTTP/1.0.

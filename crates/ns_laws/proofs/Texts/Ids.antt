@@ -1,6 +1,7 @@
 -- The numbers of ids.
 use Rattle.std.specs.Prelude.{◌≡◌, ℕ, ◌^◌, ◌<◌, Some}
 use Rattle.std.proofs.Common.{refl, sym, ap, ◌∙◌, arith}
+use Rattle.uuid.specs.Text.{by_index}
 use Rattle.ns_types.specs.declared.id.IdKind.{IdKind}
 use Rattle.ns_types.specs.declared.id.IdKind.TheVariants.{Evaluation, Allocation}
 use Rattle.ns_types.specs.State.Id.{id_number, id_text, uuid_number}
@@ -31,3 +32,7 @@ ids_have_kinds n small = (
   (λ none. none n small (id_text-number Allocation n small)),
   (λ m small_m e. let same = number_is Allocation Evaluation n m small e in omega (arith, same, small_m)),
 )
+
+pub are_written_so : law.AreWrittenSo
+unfolding by_index
+are_written_so = record { evaluation = refl; allocation = refl; later = refl }
