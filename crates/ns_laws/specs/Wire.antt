@@ -89,11 +89,12 @@ FirstTokenCounts = (before after : List Header) (name value : List ℕ) → coun
 
 -- ---- when a connection closes
 
--- A request of HTTP/1.0 closes its connection. One of HTTP/1.1 closes it if a `Connection` lists `close`, and not
--- without any `Connection`.
+-- A request of HTTP/1.0 closes its connection. One of HTTP/1.1 closes it if a `Connection` lists `close`, and leaves it
+-- open if none does.
 abbrev pub ClosesByHead : Type 0
 ClosesByHead = (headers before after : List Header) (name value : List ℕ) → (asks_close 0 headers ≡ true)
-    × (count_named (codes "Connection") headers ≡ 0 → asks_close 1 headers ≡ false)
+    × (All (λ h. IsTrue (eq_ignore_case h.0 (codes "Connection")) → lists_close h.1 ≡ false) headers
+    → asks_close 1 headers ≡ false)
     × (IsTrue (eq_ignore_case name (codes "Connection")) → IsTrue (lists_close value)
     → asks_close 1 (before ++ (name, value) ∷ after) ≡ true)
 

@@ -63,7 +63,7 @@ pub fn first_token_counts()
 {}
 
 /// A request of HTTP/1.0 closes its connection. One of HTTP/1.1 closes it if a `Connection` lists `close`, and leaves it
-/// open without any `Connection`.
+/// open if none does.
 pub fn closes_by_head()
     ensures { ClosesByHead }
 {}

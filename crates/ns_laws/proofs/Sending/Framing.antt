@@ -1,6 +1,6 @@
 -- How long a body is, which token a request has, and whether its connection closes, by its headers.
 use Rattle.std.specs.Prelude.{◌≡◌, ◌≢◌, ◌⊎◌, ℕ, ◌+◌, ◌≤◌, Bool, true, false, cond, ◌&&◌, ◌||◌, ◌==◌, List, [], ◌∷◌}
-use Rattle.std.specs.Prelude.{◌++◌, All, Decides, Ok, Err, codes, length, map, nat_eq, nat_le, nat_lt}
+use Rattle.std.specs.Prelude.{◌++◌, All, Decides, IsTrue, Ok, Err, codes, length, map, nat_eq, nat_le, nat_lt}
 use Rattle.std.specs.Char.{is_ascii_digit, to_ascii_lowercase}
 use Rattle.std.specs.Cmp.Lexicographic.{pointwise}
 use Rattle.std.specs.Int.{IsInRange}
@@ -10,7 +10,7 @@ use Rattle.std.proofs.Common.{inl, inr, refl, sym, ap, subst, ◌∙◌, arith, 
 use Rattle.std.proofs.lemmas.Bool.{and_from, and_parts, cases_lt, cond-false, cond-true, eq-eqb, eqb-true, false_from_ne_true, le-leb, leb-true}
 use Rattle.std.proofs.lemmas.Bool.{lt-leb, lt-ltb, ltb-true, ne_eqb, or_left, or_right}
 use Rattle.std.proofs.lemmas.Bool.Decides.{Decides-and, Decides-by_and}
-use Rattle.std.proofs.lemmas.List.Elements.{All-weaker}
+use Rattle.std.proofs.lemmas.List.Elements.{All-head, All-tail, All-weaker}
 use Rattle.std.proofs.lemmas.List.Folds.{list_any-append}
 use Rattle.std.proofs.lemmas.List.Recursion.{is_count_by}
 use Rattle.std.proofs.lemmas.List.Splits.{slice_split_at, slice_split_none}
@@ -292,22 +292,23 @@ new_closes : (headers : List Header) → asks_close 1 headers ≡ list_any close
 unfolding asks_close
 new_closes headers = refl
 
-none_listed : (headers : List Header) → length (values_named (codes "connection") headers) ≡ 0 → list_any close_listed headers ≡ false
-none_listed [] e = refl
-none_listed (h ∷ headers) e = by (eq_ignore_case h.0 (codes "connection")) (none_listed headers) e
+abbrev leaves_open : Header → Type 0
+leaves_open h = IsTrue (eq_ignore_case h.0 (codes "Connection")) → lists_close h.1 ≡ false
+
+none_listed : (headers : List Header) → All leaves_open headers → list_any close_listed headers ≡ false
+none_listed [] none = refl
+none_listed (h ∷ headers) none = by (eq_ignore_case h.0 (codes "connection"))
+    (λ same. All-head leaves_open h headers none (same_connection_name h.0 ∙ same)) (none_listed headers (All-tail leaves_open h headers none))
   where
-    by : (b : Bool) → (length (values_named (codes "connection") headers) ≡ 0 → list_any close_listed headers ≡ false)
-        → length (cond b (h.1 ∷ values_named (codes "connection") headers) (values_named (codes "connection") headers)) ≡ 0
+    by : (b : Bool) → (IsTrue b → lists_close h.1 ≡ false) → list_any close_listed headers ≡ false
         → ((b && lists_close h.1) || list_any close_listed headers) ≡ false
-    by true later e = absurd (omega (arith, e))
-    by false later e = later e
+    by true one rest = ap (λ c. c || list_any close_listed headers) (one refl) ∙ rest
+    by false one rest = rest
 
 pub closes_by_head : law.ClosesByHead
 closes_by_head headers before after name value = (
   old_closes headers,
-  (λ none. new_closes headers ∙ none_listed headers
-      (ap length (sym (values_alike (codes "Connection") (codes "connection") same_connection_name headers))
-      ∙ values_counted (codes "Connection") headers ∙ none)),
+  (λ none. new_closes headers ∙ none_listed headers none),
   (λ same listed. new_closes (before ++ (name, value) ∷ after) ∙ list_any-append close_listed before ((name, value) ∷ after)
       ∙ or_right (list_any close_listed before) (list_any close_listed ((name, value) ∷ after))
       (or_left (close_listed (name, value)) (list_any close_listed after)
