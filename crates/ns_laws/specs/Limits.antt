@@ -164,7 +164,7 @@ PoolLimits = (name : Name) (p : Pool) → IsTrue (is_good_admin (AdminCommand.Pu
     ↔ IsOfPool name × (length p.description ≤ 256)
 
 -- A put of a policy is within the limits exactly if the policy has a name, a description of at most 256 bytes, and rules
--- of at most 65,536.
+-- of at most 65,536 bytes.
 abbrev pub PolicyLimits : Type 0
 PolicyLimits = (name : Name) (p : Policy) → IsTrue (is_good_admin (AdminCommand.PutPolicy name p))
     ↔ IsMadeOf plain 128 name × (length p.description ≤ 256) × (length p.text ≤ 65536)

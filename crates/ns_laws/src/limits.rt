@@ -68,7 +68,7 @@ pub fn pool_limits()
 {}
 
 /// A put of a policy is within the limits exactly if the policy has a name, a description of at most 256 bytes, and rules
-/// of at most 65,536.
+/// of at most 65,536 bytes.
 pub fn policy_limits()
     ensures { PolicyLimits }
 {}
