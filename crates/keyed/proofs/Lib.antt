@@ -17,5 +17,6 @@ pub mod RowSums
 pub mod RowsAtKeys
 pub mod Summed
 pub mod Tables
+pub mod Taken
 pub mod Values
 pub mod Viewing
