@@ -1,73 +1,130 @@
--- What a change of the table of quotas, or of that of pools, leaves of the groups.
-use Rattle.std.specs.Prelude.{◌≡◌, ℕ, true, Option, Some, None}
-use Rattle.std.proofs.Common.{refl, sym, ap, subst, ◌∙◌}
-use Rattle.std.proofs.lemmas.Bool.{and_right}
+-- What a change of the set of the quotas' places, or of that of the pools' places, leaves of the groups.
+use Rattle.std.specs.Prelude.{◌≡◌, ℕ, true, false, not, ◌&&◌, ◌||◌, IsTrue, Option, Some, None}
+use Rattle.std.proofs.Common.{refl, sym, ap, subst}
 use Rattle.std.specs.Option.{option_map_or}
-use Rattle.std.specs.FinMap.{empty, get-empty}
-use Rattle.keyed.specs.Table.{flat, row_at}
-use Rattle.ns_blocked.specs.declared.entry.Waiting.{Waiting}
+use Rattle.std.specs.FinMap.{empty}
+use Rattle.keyed.specs.Levels.{Adds, Drops, Keeps, has_key_room, holds_key, holds_number}
+use Rattle.keyed.specs.Table.{row_at}
+use Rattle.keyed.specs.declared.key_set.KeySet.{KeySet}
+use Rattle.keyed.proofs.Levels.{no_number, not_true, says_nothing}
 use Rattle.ns_blocked.specs.declared.entry.Waits.{Waits}
 use Rattle.ns_blocked.specs.declared.entry.Waits.TheVariants.{Pool, Quota}
 use Rattle.ns_blocked.specs.declared.groups.Groups.{Groups}
-use Rattle.ns_blocked.specs.ByKey.{ByKey, KeepsOtherRoom, KeepsRoom, KeepsRows, WritesRow, numbers_of, row_in}
-use Rattle.ns_blocked.specs.Groups.{KeepsGroupRoom, KeepsGroups, KeepsOtherGroupRoom, WritesGroup, group_of, group_row, same_waits}
-use Rattle.ns_blocked.proofs.ByKey.{no_row}
-use Rattle.ns_types.specs.State.Names.{Name, ByNumber, name_cmp, same_name, same_number}
-use Rattle.ns_types.proofs.Named.{same_name_refl}
+use Rattle.ns_blocked.specs.Groups.{group_of, has_waiting_room, holds_waiting, places_of, same_waiting}
+use Rattle.ns_types.specs.State.Names.{Key, Name, ByNumber, same_key}
 
-pub same_waits_refl : (waits : Waits) → same_waits waits waits ≡ true
-same_waits_refl (Quota name) = same_name_refl name
-same_waits_refl (Pool name) = same_name_refl name
-
--- the slots at a name have its rows
-numbers_row : {V : Type 0} (rows : ByKey V) (name : Name) (n : ℕ) → row_at (numbers_of rows name) n ≡ row_in rows (name, n)
-numbers_row {V = V} rows name n = by (row_at rows name)
+-- the slots of a name have its places
+holds_of : (keys : KeySet) (name : Name) (n : ℕ) → holds_number (places_of keys name) n ≡ holds_key keys (name, n)
+holds_of keys name n = by (row_at keys.numbers name)
   where
-    by : (r : Option (ByNumber (Option V))) → row_at (option_map_or (λ numbers. numbers) r empty) n ≡ option_map_or (λ numbers. row_at numbers n) r None
-    by None = no_row empty refl n
-    by (Some numbers) = refl
+    by : (r : Option (ByNumber (Option Unit))) →
+        holds_number (option_map_or (λ places. places) r empty) n ≡ option_map_or (λ places. holds_number places n) r false
+    by None = no_number empty refl n
+    by (Some places) = refl
 
-pub group_slot : (groups : Groups) (waits : Waits) (n : ℕ) → row_at (group_of groups waits) n ≡ group_row groups waits n
-group_slot groups (Quota name) n = numbers_row groups.quotas name n
-group_slot groups (Pool name) n = numbers_row groups.pools name n
+pub group_holds : (groups : Groups) (waits : Waits) (n : ℕ) → holds_number (group_of groups waits) n ≡ holds_waiting groups (waits, n)
+group_holds groups (Quota name) n = holds_of groups.quotas name n
+group_holds groups (Pool name) n = holds_of groups.pools name n
 
-pub no_group : (groups : Groups) → groups.quotas ≡ empty → groups.pools ≡ empty → (waits : Waits) (n : ℕ) → group_row groups waits n ≡ None
-no_group groups quotas pools (Quota name) n = ap (λ m. row_in m (name, n)) quotas
-    ∙ ap (λ r. option_map_or (λ numbers. row_at numbers n) (flat r) None) (get-empty name_cmp name)
-no_group groups quotas pools (Pool name) n = ap (λ m. row_in m (name, n)) pools
-    ∙ ap (λ r. option_map_or (λ numbers. row_at numbers n) (flat r) None) (get-empty name_cmp name)
+pub no_group : (groups : Groups) → groups.quotas.numbers ≡ empty → groups.pools.numbers ≡ empty → (waits : Waits) (n : ℕ) →
+    holds_waiting groups (waits, n) ≡ false
+no_group groups quotas pools (Quota name) n = says_nothing (λ (s : KeySet). s.numbers) holds_number groups.quotas quotas (name, n)
+no_group groups quotas pools (Pool name) n = says_nothing (λ (s : KeySet). s.numbers) holds_number groups.pools pools (name, n)
+
+-- ---- where one of the sets changes, and the other is the same
 
 module _ (old new : Groups) where
-  pub groups_kept : KeepsRows old.quotas new.quotas → KeepsRows old.pools new.pools → KeepsGroups old new
-  groups_kept quotas pools (Quota name) n = quotas (name, n)
-  groups_kept quotas pools (Pool name) n = pools (name, n)
-
-  pub room_kept : KeepsRoom old.quotas new.quotas → KeepsRoom old.pools new.pools → KeepsGroupRoom old new
-  room_kept quotas pools (Quota name) n = quotas (name, n)
-  room_kept quotas pools (Pool name) n = pools (name, n)
-
-  pub quota_written : (waits : Waits) (name : Name) (place : ℕ) (row : Option Waiting) → waits ≡ Quota name →
-      WritesRow (name, place) row old.quotas new.quotas → KeepsRows old.pools new.pools → WritesGroup waits place row old new
-  quota_written waits name place row is quotas pools = subst (λ waits. WritesGroup waits place row old new) (sym is) by
+  pub quotas_kept : Keeps holds_key has_key_room old.quotas new.quotas → new.pools ≡ old.pools → Keeps holds_waiting has_waiting_room old new
+  quotas_kept keeps same = record { held = λ q. held q.0 q.1; room = λ q. room q.0 q.1 }
     where
-      by : WritesGroup (Quota name) place row old new
-      by (Quota other) n = quotas (other, n)
-      by (Pool other) n = pools (other, n)
+      held : (w : Waits) (n : ℕ) → holds_waiting new (w, n) ≡ holds_waiting old (w, n)
+      held (Quota name) n = keeps.held (name, n)
+      held (Pool name) n = ap (λ s. holds_key s (name, n)) same
 
-  pub pool_written : (waits : Waits) (name : Name) (place : ℕ) (row : Option Waiting) → waits ≡ Pool name →
-      WritesRow (name, place) row old.pools new.pools → KeepsRows old.quotas new.quotas → WritesGroup waits place row old new
-  pool_written waits name place row is pools quotas = subst (λ waits. WritesGroup waits place row old new) (sym is) by
+      room : (w : Waits) (n : ℕ) → IsTrue (has_waiting_room old (w, n)) → IsTrue (has_waiting_room new (w, n))
+      room (Quota name) n h = keeps.room (name, n) h
+      room (Pool name) n h = subst (λ s. IsTrue (has_key_room s (name, n))) (sym same) h
+
+  pub pools_kept : Keeps holds_key has_key_room old.pools new.pools → new.quotas ≡ old.quotas → Keeps holds_waiting has_waiting_room old new
+  pools_kept keeps same = record { held = λ q. held q.0 q.1; room = λ q. room q.0 q.1 }
     where
-      by : WritesGroup (Pool name) place row old new
-      by (Quota other) n = quotas (other, n)
-      by (Pool other) n = pools (other, n)
+      held : (w : Waits) (n : ℕ) → holds_waiting new (w, n) ≡ holds_waiting old (w, n)
+      held (Quota name) n = ap (λ s. holds_key s (name, n)) same
+      held (Pool name) n = keeps.held (name, n)
 
-  pub quota_room_left : (name : Name) (place : ℕ) → KeepsOtherRoom (name, place) old.quotas new.quotas → KeepsRoom old.pools new.pools →
-      KeepsOtherGroupRoom place old new
-  quota_room_left name place quotas pools (Quota other) n apart h = quotas (other, n) (and_right (same_name other name) (same_number n place) apart) h
-  quota_room_left name place quotas pools (Pool other) n apart h = pools (other, n) h
+      room : (w : Waits) (n : ℕ) → IsTrue (has_waiting_room old (w, n)) → IsTrue (has_waiting_room new (w, n))
+      room (Quota name) n h = subst (λ s. IsTrue (has_key_room s (name, n))) (sym same) h
+      room (Pool name) n h = keeps.room (name, n) h
 
-  pub pool_room_left : (name : Name) (place : ℕ) → KeepsOtherRoom (name, place) old.pools new.pools → KeepsRoom old.quotas new.quotas →
-      KeepsOtherGroupRoom place old new
-  pool_room_left name place pools quotas (Quota other) n apart h = quotas (other, n) h
-  pool_room_left name place pools quotas (Pool other) n apart h = pools (other, n) (and_right (same_name other name) (same_number n place) apart) h
+  pub quotas_held : ((key : Key) → holds_key new.quotas key ≡ holds_key old.quotas key) → new.pools ≡ old.pools → (w : Waits) (n : ℕ) →
+      holds_waiting new (w, n) ≡ holds_waiting old (w, n)
+  quotas_held held same (Quota name) n = held (name, n)
+  quotas_held held same (Pool name) n = ap (λ s. holds_key s (name, n)) same
+
+  pub pools_held : ((key : Key) → holds_key new.pools key ≡ holds_key old.pools key) → new.quotas ≡ old.quotas → (w : Waits) (n : ℕ) →
+      holds_waiting new (w, n) ≡ holds_waiting old (w, n)
+  pools_held held same (Quota name) n = ap (λ s. holds_key s (name, n)) same
+  pools_held held same (Pool name) n = held (name, n)
+
+  module _ (waits : Waits) (name : Name) (place : ℕ) where
+    pub quotas_added : waits ≡ Quota name → Adds holds_key has_key_room same_key (name, place) old.quotas new.quotas → new.pools ≡ old.pools →
+        Adds holds_waiting has_waiting_room same_waiting (waits, place) old new
+    quotas_added is adds same = subst (λ w. Adds holds_waiting has_waiting_room same_waiting (w, place) old new) (sym is)
+        (record { held = λ q. held q.0 q.1; room = λ q. room q.0 q.1 })
+      where
+        held : (w : Waits) (n : ℕ) → holds_waiting new (w, n) ≡ (same_waiting (w, n) (Quota name, place) || holds_waiting old (w, n))
+        held (Quota other) n = adds.held (other, n)
+        held (Pool other) n = ap (λ s. holds_key s (other, n)) same
+
+        room : (w : Waits) (n : ℕ) → IsTrue (has_waiting_room old (w, n)) → IsTrue (has_waiting_room new (w, n))
+        room (Quota other) n h = adds.room (other, n) h
+        room (Pool other) n h = subst (λ s. IsTrue (has_key_room s (other, n))) (sym same) h
+
+    pub pools_added : waits ≡ Pool name → Adds holds_key has_key_room same_key (name, place) old.pools new.pools → new.quotas ≡ old.quotas →
+        Adds holds_waiting has_waiting_room same_waiting (waits, place) old new
+    pools_added is adds same = subst (λ w. Adds holds_waiting has_waiting_room same_waiting (w, place) old new) (sym is)
+        (record { held = λ q. held q.0 q.1; room = λ q. room q.0 q.1 })
+      where
+        held : (w : Waits) (n : ℕ) → holds_waiting new (w, n) ≡ (same_waiting (w, n) (Pool name, place) || holds_waiting old (w, n))
+        held (Quota other) n = ap (λ s. holds_key s (other, n)) same
+        held (Pool other) n = adds.held (other, n)
+
+        room : (w : Waits) (n : ℕ) → IsTrue (has_waiting_room old (w, n)) → IsTrue (has_waiting_room new (w, n))
+        room (Quota other) n h = subst (λ s. IsTrue (has_key_room s (other, n))) (sym same) h
+        room (Pool other) n h = adds.room (other, n) h
+
+    pub quotas_dropped : waits ≡ Quota name → Drops holds_key has_key_room same_key (name, place) old.quotas new.quotas → new.pools ≡ old.pools →
+        Drops holds_waiting has_waiting_room same_waiting (waits, place) old new
+    quotas_dropped is drops same = subst (λ w. Drops holds_waiting has_waiting_room same_waiting (w, place) old new) (sym is)
+        (record { held = λ q. held q.0 q.1; room = λ q. room q.0 q.1; gone = λ q. gone q.0 q.1 })
+      where
+        held : (w : Waits) (n : ℕ) → holds_waiting new (w, n) ≡ (not (same_waiting (w, n) (Quota name, place)) && holds_waiting old (w, n))
+        held (Quota other) n = drops.held (other, n)
+        held (Pool other) n = ap (λ s. holds_key s (other, n)) same
+
+        room : (w : Waits) (n : ℕ) → same_waiting (w, n) (Quota name, place) ≡ false → IsTrue (has_waiting_room old (w, n)) →
+            IsTrue (has_waiting_room new (w, n))
+        room (Quota other) n apart h = drops.room (other, n) apart h
+        room (Pool other) n apart h = subst (λ s. IsTrue (has_key_room s (other, n))) (sym same) h
+
+        gone : (w : Waits) (n : ℕ) → same_waiting (w, n) (Quota name, place) ≡ true → has_waiting_room new (w, n) ≡ false
+        gone (Quota other) n t = drops.gone (other, n) t
+        gone (Pool other) n t = not_true t
+
+    pub pools_dropped : waits ≡ Pool name → Drops holds_key has_key_room same_key (name, place) old.pools new.pools → new.quotas ≡ old.quotas →
+        Drops holds_waiting has_waiting_room same_waiting (waits, place) old new
+    pools_dropped is drops same = subst (λ w. Drops holds_waiting has_waiting_room same_waiting (w, place) old new) (sym is)
+        (record { held = λ q. held q.0 q.1; room = λ q. room q.0 q.1; gone = λ q. gone q.0 q.1 })
+      where
+        held : (w : Waits) (n : ℕ) → holds_waiting new (w, n) ≡ (not (same_waiting (w, n) (Pool name, place)) && holds_waiting old (w, n))
+        held (Quota other) n = ap (λ s. holds_key s (other, n)) same
+        held (Pool other) n = drops.held (other, n)
+
+        room : (w : Waits) (n : ℕ) → same_waiting (w, n) (Pool name, place) ≡ false → IsTrue (has_waiting_room old (w, n)) →
+            IsTrue (has_waiting_room new (w, n))
+        room (Quota other) n apart h = subst (λ s. IsTrue (has_key_room s (other, n))) (sym same) h
+        room (Pool other) n apart h = drops.room (other, n) apart h
+
+        gone : (w : Waits) (n : ℕ) → same_waiting (w, n) (Pool name, place) ≡ true → has_waiting_room new (w, n) ≡ false
+        gone (Quota other) n t = not_true t
+        gone (Pool other) n t = drops.gone (other, n) t

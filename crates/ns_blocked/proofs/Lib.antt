@@ -1,4 +1,3 @@
-pub mod ByKey
 pub mod Grouping
 pub mod Kept
 pub mod Listed

@@ -10,6 +10,7 @@ use Rattle.std.specs.Ordering.{eq_by_cmp}
 use Rattle.keyed.specs.Table.{flat, row_at}
 use Rattle.ns_types.specs.State.Names.{ByNumber, same_number}
 use Rattle.ns_types.specs.State.Tables.{any_row}
+use Rattle.ns_types.proofs.Elements.{any_same}
 use Rattle.ns_types.proofs.Named.{numbers, one_number, same_number_refl}
 use Rattle.ns_types.proofs.TableRows.{some_row, turned}
 use Rattle.ns_types.proofs.Tables.{any_row-none, tied}
@@ -37,15 +38,6 @@ module _ {K X : Type 0} {R : K → K → Ordering} (o : IsTotalOrder R) (same : 
       by false t = any_row-none o same (λ k x. eq_by_cmp R q k && f x) m
           (λ k x at. other_rows (get m q) refl t k x at (eq_by_cmp R q k) refl) ∙ sym t
 
--- a slot at the number passes, where the row there passes
-pub slot_found : {V : Type 0} (m : ByNumber (Option V)) (n : ℕ) (passes : Option V → Bool) → passes None ≡ false →
-    list_any (λ slot. same_number n slot.0 && passes slot.1) (entries m) ≡ passes (row_at m n)
-slot_found {V = V} m n passes vacant = any_row_at numbers one_number m n passes (same_number_refl n) ∙ by (get m n)
-  where
-    by : (r : Option (Option V)) → option_map_or passes r false ≡ passes (flat r)
-    by None = sym vacant
-    by (Some row) = refl
-
 module _ {K : Type 0} {R : K → K → Ordering} (o : IsTotalOrder R) where
   pub same_turned : (a b : K) → eq_by_cmp R a b ≡ eq_by_cmp R b a
   same_turned a b = by (eq_by_cmp R a b) refl (eq_by_cmp R b a) refl
@@ -63,3 +55,15 @@ at_that_key {R = R} o same f q k x = ap (λ b. b && f k x) (same_turned o k q) �
     by : (b : Bool) → eq_by_cmp R q k ≡ b → (eq_by_cmp R q k && f k x) ≡ (eq_by_cmp R q k && f q x)
     by true t = ap (λ z. eq_by_cmp R q k && f z x) (sym (tied same q k t))
     by false t = ap (λ b. b && f k x) t ∙ sym (ap (λ b. b && f q x) t)
+
+-- a slot at the number passes, where the row there passes
+pub slot_found : {V : Type 0} (m : ByNumber (Option V)) (n : ℕ) (passes : ℕ → Option V → Bool) → passes n None ≡ false →
+    list_any (λ slot. same_number n slot.0 && passes slot.0 slot.1) (entries m) ≡ passes n (row_at m n)
+slot_found {V = V} m n passes vacant = any_same (λ (slot : ℕ × Option V). same_number n slot.0 && passes slot.0 slot.1)
+    (λ slot. same_number n slot.0 && passes n slot.1) (λ slot. ap (λ b. b && passes slot.0 slot.1) (same_turned numbers n slot.0)
+    ∙ at_that_key numbers one_number passes n slot.0 slot.1) (entries m)
+    ∙ any_row_at numbers one_number m n (passes n) (same_number_refl n) ∙ by (get m n)
+  where
+    by : (r : Option (Option V)) → option_map_or (passes n) r false ≡ passes n (flat r)
+    by None = sym vacant
+    by (Some row) = refl

@@ -5,33 +5,34 @@ use Rattle.std.proofs.Common.{refl, sym, ap, subst, ◌∙◌, arith}
 use Rattle.std.proofs.Math.Bool.{and-false, and-true}
 use Rattle.std.proofs.lemmas.Map.Lookups.{btree_set_from_contains, exact_unsigned}
 use Rattle.std.specs.declared.cmp.Ordering.TheVariants.{Less}
-use Rattle.std.specs.FinMap.{entries, entries_sorted, values}
+use Rattle.std.specs.FinMap.{entries, entries_sorted, get}
 use Rattle.std.specs.FinMap.Entries.{below_all, is_sorted}
 use Rattle.std.specs.List.{AllByRecursion, cons_option, list_any}
 use Rattle.std.specs.List.Sorted.{IsStrictlySortedBy}
 use Rattle.std.specs.Ordering.{nat_cmp}
-use Rattle.keyed.specs.Table.{flat}
+use Rattle.keyed.specs.Queue.{Queue}
+use Rattle.keyed.specs.Table.{row_at, rows}
+use Rattle.keyed.proofs.Queued.{chosen, items_are, items_chosen}
+use Rattle.keyed.proofs.Tables.{get-rows}
 use Rattle.ns_types.specs.declared.node.Class.{Class}
 use Rattle.ns_types.specs.State.Lists.{Each}
-use Rattle.ns_types.specs.State.Names.{Key, Name, has_number, same_name, same_number}
+use Rattle.ns_types.specs.State.Names.{Key, Name, ByNumber, has_number, same_name, same_number}
 use Rattle.ns_types.proofs.Elements.{any_map, any_same, each_still, filter_map, map_map}
 use Rattle.ns_types.proofs.Lists.{none_of}
 use Rattle.ns_types.proofs.Named.{numbers, one_number, same_number_refl}
 use Rattle.ns_types.proofs.Tables.{each_row, less_by}
 use Rattle.ns_types.proofs.Tests as tests
 use Rattle.ns_blocked.specs.declared.entry.BlockedEvaluation.{BlockedEvaluation}
-use Rattle.ns_blocked.specs.declared.entry.Waiting.{Waiting}
 use Rattle.ns_blocked.specs.declared.entry.Waits.{Waits}
 use Rattle.ns_blocked.specs.declared.entry.Waits.TheVariants.{Pool, Quota}
-use Rattle.ns_blocked.specs.declared.index.Index.{Index}
+use Rattle.ns_blocked.specs.declared.groups.Groups.{Groups}
 use Rattle.ns_blocked.specs.declared.releases.ReleasedPool.{ReleasedPool}
 use Rattle.ns_blocked.specs.declared.releases.Releases.{Releases}
-use Rattle.ns_blocked.specs.Blocked.{BlockedList, IsIndexed, by_place, entry_at, row_for, row_of}
+use Rattle.ns_blocked.specs.Blocked.{BlockedList, IsGrouped, entries_of, entry_at, waits_at}
 use Rattle.ns_blocked.specs.Groups.{same_waits}
 use Rattle.ns_blocked.specs.Waking.{AddsPlaces, AreKeysAt, ArePassing, ArePresent, IsLeftWithout, can_use, can_use_any, is_of_pool, is_of_quota}
 use Rattle.ns_blocked.specs.Waking.{is_usable, is_woken, keys_of_passing, passes_at, released_in, wakes_of_pool, wakes_of_quota, wakes_waiting}
 use Rattle.ns_blocked.specs.Waking.{without_passing}
-use Rattle.ns_blocked.proofs.Listed.{entries_kept, place_row}
 use Rattle.ns_blocked.proofs.OneKey.{any_row_at}
 use Rattle.ns_blocked.proofs.Places.{IsTaking, TakesPlaces, keys_at}
 
@@ -77,49 +78,61 @@ any_kept {A = A} p passes (x ∷ xs) = by (passes x) (any_kept p passes xs)
     by true same = λ i. sym (and-true (p x)) i || same i
     by false same = same ∙ ap (λ b. b || others) (sym (and-false (p x)))
 
-module _ (index : Index) (passes : BlockedEvaluation → Bool) where
-  passing : List (ℕ × BlockedEvaluation)
-  passing = filter (λ e. passes e.1) (entries (by_place index))
+module _ (b : BlockedList) (passes : BlockedEvaluation → Bool) where
+  abbrev placed : ByNumber BlockedEvaluation
+  placed = rows b.queue.placed.rows
 
-  has_passing : (n : ℕ) → has_number (map (λ e. e.0) passing) n ≡ passes_at passes (entry_at index n)
+  placed_at : (n : ℕ) → get placed n ≡ entry_at b n
+  placed_at n = get-rows numbers b.queue.placed.rows n
+
+  entries_are : entries_of b ≡ map (λ e. e.1) (entries placed)
+  entries_are = sym b.queue.in_order ∙ items_are b.queue.placed.rows
+
+  passing : List (ℕ × BlockedEvaluation)
+  passing = filter (λ e. passes e.1) (entries placed)
+
+  has_passing : (n : ℕ) → has_number (map (λ e. e.0) passing) n ≡ passes_at passes (entry_at b n)
   unfolding passing
   has_passing n = any_map (same_number n) (λ (e : ℕ × BlockedEvaluation). e.0) passing
-      ∙ any_kept (λ (e : ℕ × BlockedEvaluation). same_number n e.0) (λ e. passes e.1) (entries (by_place index))
-      ∙ any_row_at numbers one_number (by_place index) n passes (same_number_refl n) ∙ ap (passes_at passes) (place_row index n)
+      ∙ any_kept (λ (e : ℕ × BlockedEvaluation). same_number n e.0) (λ e. passes e.1) (entries placed)
+      ∙ any_row_at numbers one_number placed n passes (same_number_refl n) ∙ ap (passes_at passes) (placed_at n)
 
-  listed_keys : (es : List (ℕ × BlockedEvaluation)) → Each (λ e. entry_at index e.0 ≡ Some e.1) es → keys_at index (map (λ e. e.0) es) ≡ map (λ e. e.1.key) es
+  listed_keys : (es : List (ℕ × BlockedEvaluation)) → Each (λ e. entry_at b e.0 ≡ Some e.1) es → keys_at b (map (λ e. e.0) es) ≡ map (λ e. e.1.key) es
   listed_keys [] h = refl
   listed_keys (e ∷ es) h = λ i. cons_option (option_map (λ (e : BlockedEvaluation). e.key) (h.0 i)) (listed_keys es h.1 i)
 
-  pub passing_keys : (places : List ℕ) → ArePassing passes index places → IsStrictlySortedBy nat_cmp places →
-      keys_at index places ≡ keys_of_passing passes (values (by_place index))
+  pub passing_keys : (places : List ℕ) → ArePassing passes b places → IsStrictlySortedBy nat_cmp places →
+      keys_at b places ≡ keys_of_passing passes (entries_of b)
   unfolding passing
-  passing_keys places are sorted = ap (keys_at index) (btree_set_from_contains numbers (record { keys = places })
+  passing_keys places are sorted = ap (keys_at b) (btree_set_from_contains numbers (record { keys = places })
       (record { keys = map (λ e. e.0) passing }) sorted
-      (kept_sorted passes (entries (by_place index)) (entries_sorted (by_place index))) (λ n. are n ∙ sym (has_passing n)) exact_unsigned)
-      ∙ listed_keys passing (each_still (λ (e : ℕ × BlockedEvaluation). entry_at index e.0 ≡ Some e.1) (λ e. passes e.1) (entries (by_place index))
-      (each_row numbers one_number (λ n x. entry_at index n ≡ Some x) (by_place index) (λ n x at. sym (place_row index n) ∙ at)))
+      (kept_sorted passes (entries placed) (entries_sorted placed)) (λ n. are n ∙ sym (has_passing n)) exact_unsigned)
+      ∙ listed_keys passing (each_still (λ (e : ℕ × BlockedEvaluation). entry_at b e.0 ≡ Some e.1) (λ e. passes e.1) (entries placed)
+      (each_row numbers one_number (λ n x. entry_at b n ≡ Some x) placed (λ n x at. sym (placed_at n) ∙ at)))
       ∙ sym (map_map (λ (e : BlockedEvaluation). e.key) (λ (e : ℕ × BlockedEvaluation). e.1) passing)
-      ∙ ap (map (λ (e : BlockedEvaluation). e.key)) (sym (filter_map passes (λ (e : ℕ × BlockedEvaluation). e.1) (entries (by_place index))))
+      ∙ ap (map (λ (e : BlockedEvaluation). e.key)) (sym (filter_map passes (λ (e : ℕ × BlockedEvaluation). e.1) (entries placed)))
+      ∙ ap (keys_of_passing passes) (sym entries_are)
 
-  pub passing_gone : (new : Index) (places : List ℕ) → ArePassing passes index places → TakesPlaces places index new →
-      values (by_place new) ≡ without_passing passes (values (by_place index))
-  passing_gone new places are taken = entries_kept index new (λ e. not (passes e)) (λ n. taken n
-      ∙ ap (λ b. cond b None (entry_at index n)) (are n) ∙ by (entry_at index n))
+  pub passing_gone : (new : BlockedList) (places : List ℕ) → ArePassing passes b places → TakesPlaces places b new →
+      entries_of new ≡ without_passing passes (entries_of b)
+  passing_gone new places are taken = sym new.queue.in_order
+      ∙ items_chosen (λ e. not (passes e)) b.queue.placed.rows new.queue.placed.rows (λ n. taken n
+      ∙ ap (λ c. cond c None (entry_at b n)) (are n) ∙ by (entry_at b n))
+      ∙ ap (without_passing passes) b.queue.in_order
     where
-      which : (e : BlockedEvaluation) (b : Bool) → cond b None (Some e) ≡ cond (not b) (Some e) None
+      which : (e : BlockedEvaluation) (c : Bool) → cond c None (Some e) ≡ cond (not c) (Some e) None
       which e true = refl
       which e false = refl
 
-      by : (r : Option BlockedEvaluation) → cond (passes_at passes r) None r ≡ flat (option_map (λ e. cond (not (passes e)) (Some e) None) r)
+      by : (r : Option BlockedEvaluation) → cond (passes_at passes r) None r ≡ chosen (λ e. not (passes e)) r
       by None = refl
       by (Some e) = which e (passes e)
 
 -- ---- all that pass are taken out
 
 -- where an entry passes, it is there
-pub passing_there : (index : Index) (passes : BlockedEvaluation → Bool) (places : List ℕ) → ArePassing passes index places → ArePresent places index
-passing_there index passes places are n among = by (entry_at index n) (sym (are n) ∙ among)
+pub passing_there : (b : BlockedList) (passes : BlockedEvaluation → Bool) (places : List ℕ) → ArePassing passes b places → ArePresent places b
+passing_there b passes places are n among = by (entry_at b n) (sym (are n) ∙ among)
   where
     by : (r : Option BlockedEvaluation) → passes_at passes r ≡ true → IsTrue (is_some r)
     by None t = absurd (subst T (sym t) tt)
@@ -131,12 +144,12 @@ nothing_left (n ∷ ns) none = absurd (subst T (sym (none (omega arith))) tt)
 
 module _ (start now : BlockedList) (all left : List ℕ) (keys : List Key) (h : IsTaking start now all left keys) (none : left ≡ []) where
   pub all_keys : IsStrictlySortedBy nat_cmp all → AreKeysAt all start (reverse keys)
-  all_keys sorted passes are = sym (ap (λ l. keys_at now.index l ++ reverse keys) none) ∙ h.out
-      ∙ passing_keys start.index passes all are sorted
+  all_keys sorted passes are = sym (ap (λ l. keys_at now l ++ reverse keys) none) ∙ h.out
+      ∙ passing_keys start passes all are sorted
 
   pub all_gone : IsLeftWithout all start now
-  all_gone passes are = passing_gone start.index passes now.index all are
-      (λ n. sym (ap (λ l. cond (has_number l n) None (entry_at now.index n)) none) ∙ h.gone n)
+  all_gone passes are = passing_gone start passes now all are
+      (λ n. sym (ap (λ l. cond (has_number l n) None (entry_at now n)) none) ∙ h.gone n)
 
 -- an entry wakes if it waits for one of the quotas, or for one of the pools and can use one of its classes
 woken_by_either : (r : Releases) (e : BlockedEvaluation) → (list_any (λ quota. wakes_of_quota quota e) r.quotas
@@ -144,43 +157,36 @@ woken_by_either : (r : Releases) (e : BlockedEvaluation) → (list_any (λ quota
 woken_by_either r e = by e.waits
   where
     by : (waits : Waits) → (list_any (λ quota. same_waits (Quota quota) waits) r.quotas
-        || list_any (λ p. same_waits (Pool p.pool) waits && can_use_any p.classes (row_of e)) r.pools)
-        ≡ wakes_waiting (released_in r) waits (can_use (row_of e))
+        || list_any (λ p. same_waits (Pool p.pool) waits && can_use_any p.classes e) r.pools)
+        ≡ wakes_waiting (released_in r) waits (can_use e)
     by (Quota quota) = ap (λ b. list_any (λ name. same_name name quota) r.quotas || b) (none_of r.pools)
         ∙ tests.or_none (list_any (λ name. same_name name quota) r.quotas)
-    by (Pool pool) = ap (λ b. b || list_any (λ p. same_name p.pool pool && can_use_any p.classes (row_of e)) r.pools) (none_of r.quotas)
+    by (Pool pool) = ap (λ b. b || list_any (λ p. same_name p.pool pool && can_use_any p.classes e) r.pools) (none_of r.quotas)
 
 -- ---- what a group says of the entries
 
-module _ (index : Index) (next : ℕ) (h : IsIndexed index next) (n : ℕ) where
-  pub quota_at : (quota : Name) → is_of_quota index.groups n quota ≡ passes_at (wakes_of_quota quota) (entry_at index n)
-  quota_at quota = ap is_some (h.grouped (Quota quota) n) ∙ by (entry_at index n)
+module _ (queue : Queue BlockedEvaluation) (groups : Groups) (h : IsGrouped queue.placed.rows groups) (n : ℕ) where
+  pub quota_at : (quota : Name) → is_of_quota groups n quota ≡ passes_at (wakes_of_quota quota) (row_at queue.placed.rows n)
+  quota_at quota = h.held (Quota quota) n ∙ by (row_at queue.placed.rows n)
     where
-      which : (row : Waiting) (b : Bool) → is_some (cond b (Some row) None) ≡ b
-      which row true = refl
-      which row false = refl
-
-      by : (r : Option BlockedEvaluation) → is_some (row_for (Quota quota) r) ≡ passes_at (wakes_of_quota quota) r
+      by : (r : Option BlockedEvaluation) → waits_at (Quota quota) r ≡ passes_at (wakes_of_quota quota) r
       by None = refl
-      by (Some e) = which (row_of e) (same_waits (Quota quota) e.waits)
+      by (Some e) = refl
 
   pub pool_at : (pool : Name) (classes : List Class) →
-      is_of_pool index.groups n pool classes ≡ passes_at (wakes_of_pool pool classes) (entry_at index n)
-  pool_at pool classes = ap (is_usable classes) (h.grouped (Pool pool) n) ∙ by (entry_at index n)
+      is_of_pool queue groups n pool classes ≡ passes_at (wakes_of_pool pool classes) (row_at queue.placed.rows n)
+  pool_at pool classes = ap (λ b. b && is_usable classes (row_at queue.placed.rows n)) (h.held (Pool pool) n) ∙ by (row_at queue.placed.rows n)
     where
-      which : (row : Waiting) (b : Bool) → is_usable classes (cond b (Some row) None) ≡ (b && can_use_any classes row)
-      which row true = refl
-      which row false = refl
-
-      by : (r : Option BlockedEvaluation) → is_usable classes (row_for (Pool pool) r) ≡ passes_at (wakes_of_pool pool classes) r
+      by : (r : Option BlockedEvaluation) → (waits_at (Pool pool) r && is_usable classes r) ≡ passes_at (wakes_of_pool pool classes) r
       by None = refl
-      by (Some e) = which (row_of e) (same_waits (Pool pool) e.waits)
+      by (Some e) = refl
 
-  pub woken_at : (r : Releases) → (list_any (is_of_quota index.groups n) r.quotas || list_any (λ p. is_of_pool index.groups n p.pool p.classes) r.pools)
-      ≡ passes_at (is_woken r) (entry_at index n)
-  woken_at r = (λ i. any_same (is_of_quota index.groups n) (λ quota. passes_at (wakes_of_quota quota) (entry_at index n)) quota_at r.quotas i
-      || any_same (λ (p : ReleasedPool). is_of_pool index.groups n p.pool p.classes) (λ p. passes_at (wakes_of_pool p.pool p.classes) (entry_at index n))
-      (λ p. pool_at p.pool p.classes) r.pools i) ∙ by (entry_at index n)
+  pub woken_at : (r : Releases) → (list_any (is_of_quota groups n) r.quotas || list_any (λ p. is_of_pool queue groups n p.pool p.classes) r.pools)
+      ≡ passes_at (is_woken r) (row_at queue.placed.rows n)
+  woken_at r = (λ i. any_same (is_of_quota groups n) (λ quota. passes_at (wakes_of_quota quota) (row_at queue.placed.rows n)) quota_at r.quotas i
+      || any_same (λ (p : ReleasedPool). is_of_pool queue groups n p.pool p.classes)
+      (λ p. passes_at (wakes_of_pool p.pool p.classes) (row_at queue.placed.rows n)) (λ p. pool_at p.pool p.classes) r.pools i)
+      ∙ by (row_at queue.placed.rows n)
     where
       by : (x : Option BlockedEvaluation) → (list_any (λ quota. passes_at (wakes_of_quota quota) x) r.quotas
           || list_any (λ p. passes_at (wakes_of_pool p.pool p.classes) x) r.pools) ≡ passes_at (is_woken r) x
@@ -189,21 +195,21 @@ module _ (index : Index) (next : ℕ) (h : IsIndexed index next) (n : ℕ) where
 
 -- ---- the places that are found, where none were before
 
-module _ (index : Index) (next : ℕ) (h : IsIndexed index next) (none : List ℕ) (empty : none ≡ []) where
-  pub quota_found : (quota : Name) (found : List ℕ) → AddsPlaces (λ n. is_of_quota index.groups n quota) none found →
-      ArePassing (wakes_of_quota quota) index found
-  quota_found quota found adds n = adds n ∙ ap (λ ns. has_number ns n || is_of_quota index.groups n quota) empty ∙ quota_at index next h n quota
+module _ (b : BlockedList) (h : IsGrouped b.queue.placed.rows b.groups) (none : List ℕ) (empty : none ≡ []) where
+  pub quota_found : (quota : Name) (found : List ℕ) → AddsPlaces (λ n. is_of_quota b.groups n quota) none found →
+      ArePassing (wakes_of_quota quota) b found
+  quota_found quota found adds n = adds n ∙ ap (λ ns. has_number ns n || is_of_quota b.groups n quota) empty ∙ quota_at b.queue b.groups h n quota
 
-  pub pool_found : (pool : Name) (classes : List Class) (found : List ℕ) → AddsPlaces (λ n. is_of_pool index.groups n pool classes) none found →
-      ArePassing (wakes_of_pool pool classes) index found
-  pool_found pool classes found adds n = adds n ∙ ap (λ ns. has_number ns n || is_of_pool index.groups n pool classes) empty
-      ∙ pool_at index next h n pool classes
+  pub pool_found : (pool : Name) (classes : List Class) (found : List ℕ) → AddsPlaces (λ n. is_of_pool b.queue b.groups n pool classes) none found →
+      ArePassing (wakes_of_pool pool classes) b found
+  pool_found pool classes found adds n = adds n ∙ ap (λ ns. has_number ns n || is_of_pool b.queue b.groups n pool classes) empty
+      ∙ pool_at b.queue b.groups h n pool classes
 
   pub woken_found : (r : Releases) (quotas : List Name) (pools : List ReleasedPool) (some found : List ℕ) → quotas ≡ r.quotas → pools ≡ r.pools →
-      AddsPlaces (λ n. list_any (is_of_quota index.groups n) quotas) none some →
-      AddsPlaces (λ n. list_any (λ p. is_of_pool index.groups n p.pool p.classes) pools) some found → ArePassing (is_woken r) index found
+      AddsPlaces (λ n. list_any (is_of_quota b.groups n) quotas) none some →
+      AddsPlaces (λ n. list_any (λ p. is_of_pool b.queue b.groups n p.pool p.classes) pools) some found → ArePassing (is_woken r) b found
   woken_found r quotas pools some found q p first second n = second n
-      ∙ ap (λ b. b || list_any (λ p. is_of_pool index.groups n p.pool p.classes) pools)
-      (first n ∙ ap (λ ns. has_number ns n || list_any (is_of_quota index.groups n) quotas) empty)
-      ∙ (λ i. list_any (is_of_quota index.groups n) (q i) || list_any (λ p. is_of_pool index.groups n p.pool p.classes) (p i))
-      ∙ woken_at index next h n r
+      ∙ ap (λ c. c || list_any (λ p. is_of_pool b.queue b.groups n p.pool p.classes) pools)
+      (first n ∙ ap (λ ns. has_number ns n || list_any (is_of_quota b.groups n) quotas) empty)
+      ∙ (λ i. list_any (is_of_quota b.groups n) (q i) || list_any (λ p. is_of_pool b.queue b.groups n p.pool p.classes) (p i))
+      ∙ woken_at b.queue b.groups h n r

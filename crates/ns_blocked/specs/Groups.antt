@@ -1,11 +1,15 @@
--- The entries grouped by the quota or the pool that they wait for.
-use Rattle.std.specs.Prelude.{◌≡◌, ℕ, Bool, false, cond, ◌&&◌, IsTrue, Option}
-use Rattle.ns_blocked.specs.declared.entry.Waiting.{Waiting}
+-- The places of the entries, grouped by the quota or the pool that the entries wait for.
+use Rattle.std.specs.Prelude.{ℕ, ◌+◌, Bool, false, ◌&&◌, IsTrue, List, [], ◌∷◌, Option}
+use Rattle.std.specs.FinMap.{empty}
+use Rattle.std.specs.Option.{option_map_or}
+use Rattle.keyed.specs.Levels.{has_key_room, holds_key}
+use Rattle.keyed.specs.Table.{row_at}
+use Rattle.keyed.specs.declared.key_set.KeySet.{KeySet}
+use Rattle.ns_blocked.specs.declared.entry.BlockedEvaluation.{BlockedEvaluation}
 use Rattle.ns_blocked.specs.declared.entry.Waits.{Waits}
 use Rattle.ns_blocked.specs.declared.entry.Waits.TheVariants.{Pool, Quota}
 use Rattle.ns_blocked.specs.declared.groups.Groups.{Groups}
-use Rattle.ns_blocked.specs.ByKey.{has_room, numbers_of, row_in}
-use Rattle.ns_types.specs.State.Names.{ByNumber, same_name, same_number}
+use Rattle.ns_types.specs.State.Names.{Name, ByNumber, same_name, same_number}
 
 -- both wait for the same quota, or for the same pool
 abbrev pub same_waits : Waits → Waits → Bool
@@ -14,33 +18,32 @@ same_waits (Quota a) (Pool b) = false
 same_waits (Pool a) (Quota b) = false
 same_waits (Pool a) (Pool b) = same_name a b
 
--- the slots of the entries that wait for this quota or pool, by their places
-abbrev pub group_of : Groups → Waits → ByNumber (Option Waiting)
-group_of groups (Quota name) = numbers_of groups.quotas name
-group_of groups (Pool name) = numbers_of groups.pools name
+-- the slots of the name's places
+abbrev pub places_of : KeySet → Name → ByNumber (Option Unit)
+places_of keys name = option_map_or (λ places. places) (row_at keys.numbers name) empty
 
--- the entry at a place of a group
-abbrev pub group_row : Groups → Waits → ℕ → Option Waiting
-group_row groups (Quota name) place = row_in groups.quotas (name, place)
-group_row groups (Pool name) place = row_in groups.pools (name, place)
+-- the slots of the places of those that wait for this quota or pool
+abbrev pub group_of : Groups → Waits → ByNumber (Option Unit)
+group_of groups (Quota name) = places_of groups.quotas name
+group_of groups (Pool name) = places_of groups.pools name
 
-abbrev pub group_room : Groups → Waits → ℕ → Bool
-group_room groups (Quota name) place = has_room groups.quotas (name, place)
-group_room groups (Pool name) place = has_room groups.pools (name, place)
+-- ---- a quota or a pool, with a place
 
--- ---- what a change leaves
+abbrev pub same_waiting : Waits × ℕ → Waits × ℕ → Bool
+same_waiting a b = same_waits a.0 b.0 && same_number a.1 b.1
 
-abbrev pub KeepsGroups : Groups → Groups → Type 0
-KeepsGroups old new = (waits : Waits) (place : ℕ) → group_row new waits place ≡ group_row old waits place
+-- the group of the quota or pool holds the place
+abbrev pub holds_waiting : Groups → Waits × ℕ → Bool
+holds_waiting groups (Quota name, place) = holds_key groups.quotas (name, place)
+holds_waiting groups (Pool name, place) = holds_key groups.pools (name, place)
 
-abbrev pub KeepsGroupRoom : Groups → Groups → Type 0
-KeepsGroupRoom old new = (waits : Waits) (place : ℕ) → IsTrue (group_room old waits place) → IsTrue (group_room new waits place)
+-- putting the place into the group takes no memory
+abbrev pub has_waiting_room : Groups → Waits × ℕ → Bool
+has_waiting_room groups (Quota name, place) = has_key_room groups.quotas (name, place)
+has_waiting_room groups (Pool name, place) = has_key_room groups.pools (name, place)
 
-abbrev pub KeepsOtherGroupRoom : ℕ → Groups → Groups → Type 0
-KeepsOtherGroupRoom at old new = (waits : Waits) (place : ℕ) → same_number place at ≡ false →
-    IsTrue (group_room old waits place) → IsTrue (group_room new waits place)
-
--- afterwards the row is in that group at that place (or no row is), and all other rows stay
-abbrev pub WritesGroup : Waits → ℕ → Option Waiting → Groups → Groups → Type 0
-WritesGroup of at row old new = (waits : Waits) (place : ℕ) →
-    group_row new waits place ≡ cond (same_waits waits of && same_number place at) row (group_row old waits place)
+-- putting the entries' places, from this one on, into their groups takes no memory
+abbrev pub HasGroupRoom : ℕ → List BlockedEvaluation → Groups → Type 0
+HasGroupRoom place [] groups = Unit {0}
+HasGroupRoom place (e ∷ es) groups =
+    IsTrue (has_waiting_room groups (e.waits, place)) × HasGroupRoom (place + 1) es groups

@@ -1,4 +1,3 @@
 pub mod Blocked
-pub mod ByKey
 pub mod Groups
 pub mod Waking

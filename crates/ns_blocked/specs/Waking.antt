@@ -4,16 +4,16 @@ use Rattle.std.specs.Prelude.{Option, is_some, option_map}
 use Rattle.std.specs.FinMap.{entries}
 use Rattle.std.specs.List.{filter_map, list_any}
 use Rattle.std.specs.Option.{option_map_or}
+use Rattle.keyed.specs.Queue.{Queue}
+use Rattle.keyed.specs.Table.{row_at}
 use Rattle.ns_blocked.specs.declared.entry.BlockedEvaluation.{BlockedEvaluation}
-use Rattle.ns_blocked.specs.declared.entry.Waiting.{Waiting}
 use Rattle.ns_blocked.specs.declared.entry.Waits.{Waits}
 use Rattle.ns_blocked.specs.declared.entry.Waits.TheVariants.{Pool, Quota}
 use Rattle.ns_blocked.specs.declared.groups.Groups.{Groups}
-use Rattle.ns_blocked.specs.declared.index.Index.{Index}
 use Rattle.ns_blocked.specs.declared.releases.ReleasedPool.{ReleasedPool}
 use Rattle.ns_blocked.specs.declared.releases.Releases.{Releases}
-use Rattle.ns_blocked.specs.Blocked.{BlockedList, entries_of, entry_at, row_of}
-use Rattle.ns_blocked.specs.Groups.{group_row, same_waits}
+use Rattle.ns_blocked.specs.Blocked.{BlockedList, entries_of, entry_at}
+use Rattle.ns_blocked.specs.Groups.{holds_waiting, same_waits}
 use Rattle.ns_types.specs.declared.evaluation.Evaluation.{Evaluation}
 use Rattle.ns_types.specs.declared.node.Class.{Class}
 use Rattle.ns_types.specs.Settling.Releases.{Released, may_use, released_classes, releases_quota}
@@ -23,15 +23,15 @@ use Rattle.ns_types.specs.State.Rows.{PoolRows, World, evaluation_at}
 
 -- ---- which entries a release wakes
 
-abbrev pub can_use : Waiting → Class → Bool
-can_use row class = may_use row.escapes row.infeasible class
+abbrev pub can_use : BlockedEvaluation → Class → Bool
+can_use e class = may_use e.escapes e.infeasible class
 
-abbrev pub can_use_any : List Class → Waiting → Bool
-can_use_any classes row = list_any (can_use row) classes
+abbrev pub can_use_any : List Class → BlockedEvaluation → Bool
+can_use_any classes e = list_any (can_use e) classes
 
--- whether a slot has an evaluation that can use one of the classes
-abbrev pub is_usable : List Class → Option Waiting → Bool
-is_usable classes slot = option_map_or (can_use_any classes) slot false
+-- an entry is there, and can use one of the classes
+abbrev pub is_usable : List Class → Option BlockedEvaluation → Bool
+is_usable classes entry = option_map_or (can_use_any classes) entry false
 
 -- what the lists have: quotas, and pools with their classes
 abbrev pub released_in : Releases → Released
@@ -47,7 +47,7 @@ wakes_waiting released (Pool pool) passes = released.room pool passes
 
 -- the releases wake the entry
 abbrev pub is_woken : Releases → BlockedEvaluation → Bool
-is_woken r e = wakes_waiting (released_in r) e.waits (can_use (row_of e))
+is_woken r e = wakes_waiting (released_in r) e.waits (can_use e)
 
 -- the entry waits for the quota
 abbrev pub wakes_of_quota : Name → BlockedEvaluation → Bool
@@ -55,7 +55,7 @@ wakes_of_quota quota e = same_waits (Quota quota) e.waits
 
 -- the entry waits for the pool, and can use one of the classes
 abbrev pub wakes_of_pool : Name → List Class → BlockedEvaluation → Bool
-wakes_of_pool pool classes e = same_waits (Pool pool) e.waits && can_use_any classes (row_of e)
+wakes_of_pool pool classes e = same_waits (Pool pool) e.waits && can_use_any classes e
 
 -- the keys of the entries that pass, in the list's order; and the entries that do not pass
 abbrev pub keys_of_passing : (BlockedEvaluation → Bool) → List BlockedEvaluation → List Key
@@ -103,22 +103,22 @@ abbrev pub passes_at : (BlockedEvaluation → Bool) → Option BlockedEvaluation
 passes_at passes e = option_map_or passes e false
 
 -- these are the places of exactly the entries that pass
-abbrev pub ArePassing : (BlockedEvaluation → Bool) → Index → List ℕ → Type 0
-ArePassing passes index places = (n : ℕ) → has_number places n ≡ passes_at passes (entry_at index n)
+abbrev pub ArePassing : (BlockedEvaluation → Bool) → BlockedList → List ℕ → Type 0
+ArePassing passes b places = (n : ℕ) → has_number places n ≡ passes_at passes (entry_at b n)
 
 -- if these are the places of the entries that pass, these are their keys
 abbrev pub AreKeysAt : List ℕ → BlockedList → List Key → Type 0
-AreKeysAt places b keys = (passes : BlockedEvaluation → Bool) → ArePassing passes b.index places →
+AreKeysAt places b keys = (passes : BlockedEvaluation → Bool) → ArePassing passes b places →
     keys ≡ keys_of_passing passes (entries_of b)
 
 -- if these are the places of the entries that pass, the list has all entries but those
 abbrev pub IsLeftWithout : List ℕ → BlockedList → BlockedList → Type 0
-IsLeftWithout places old new = (passes : BlockedEvaluation → Bool) → ArePassing passes old.index places →
+IsLeftWithout places old new = (passes : BlockedEvaluation → Bool) → ArePassing passes old places →
     entries_of new ≡ without_passing passes (entries_of old)
 
 -- each of these places has an entry
-abbrev pub ArePresent : List ℕ → Index → Type 0
-ArePresent places index = (n : ℕ) → IsTrue (has_number places n) → IsTrue (is_some (entry_at index n))
+abbrev pub ArePresent : List ℕ → BlockedList → Type 0
+ArePresent places b = (n : ℕ) → IsTrue (has_number places n) → IsTrue (is_some (entry_at b n))
 
 -- the places that were there before, and those that pass as well
 abbrev pub AddsPlaces : (ℕ → Bool) → List ℕ → List ℕ → Type 0
@@ -126,8 +126,9 @@ AddsPlaces more old new = (n : ℕ) → has_number new n ≡ (has_number old n |
 
 -- an entry waits for the quota at this place
 abbrev pub is_of_quota : Groups → ℕ → Name → Bool
-is_of_quota groups n quota = is_some (group_row groups (Quota quota) n)
+is_of_quota groups n quota = holds_waiting groups (Quota quota, n)
 
 -- an entry that waits for the pool at this place can use one of the classes
-abbrev pub is_of_pool : Groups → ℕ → Name → List Class → Bool
-is_of_pool groups n pool classes = is_usable classes (group_row groups (Pool pool) n)
+abbrev pub is_of_pool : Queue BlockedEvaluation → Groups → ℕ → Name → List Class → Bool
+is_of_pool queue groups n pool classes =
+    holds_waiting groups (Pool pool, n) && is_usable classes (row_at queue.placed.rows n)

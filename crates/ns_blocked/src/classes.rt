@@ -1,30 +1,30 @@
 //! Which classes a blocked evaluation can use.
 
-ghost use Rattle.std.specs.Prelude.{◌≡◌};
+ghost use Rattle.std.specs.Prelude.{◌≡◌, option_copied};
 ghost use Rattle.ns_blocked.specs.Waking.{can_use, can_use_any, is_usable};
 
-use crate::entry::Waiting;
+use crate::entry::BlockedEvaluation;
 use ns_equality::may_use;
 use ns_types::node::Class;
 
-fn can_use(row: &Waiting, class: &Class) -> bool
-    ensures { result ≡ can_use row.now class.now }
+fn can_use(entry: &BlockedEvaluation, class: &Class) -> bool
+    ensures { result ≡ can_use entry.now class.now }
 {
-    may_use(row.escapes, row.infeasible.as_slice(), class)
+    may_use(entry.escapes, entry.infeasible.as_slice(), class)
 }
 
-fn can_use_any(row: &Waiting, classes: &[Class]) -> bool
-    ensures { result ≡ can_use_any classes.now row.now }
+fn can_use_any(entry: &BlockedEvaluation, classes: &[Class]) -> bool
+    ensures { result ≡ can_use_any classes.now entry.now }
 {
-    classes.iter().any(|class| can_use(row, class))
+    classes.iter().any(|class| can_use(entry, class))
 }
 
-/// Whether the blocked evaluation can use room on a node of one of these classes. A vacant slot cannot.
-pub(crate) fn is_usable(slot: &Option<Waiting>, classes: &[Class]) -> bool
-    ensures { result ≡ is_usable classes.now slot.now }
+/// Whether an entry is there that can use room on a node of one of these classes.
+pub(crate) fn is_usable(entry: Option<&BlockedEvaluation>, classes: &[Class]) -> bool
+    ensures { result ≡ is_usable classes.now (option_copied entry.entry) }
 {
-    match slot {
-        Some(row) => can_use_any(row, classes),
+    match entry {
+        Some(entry) => can_use_any(entry, classes),
         None => false,
     }
 }

@@ -1,5 +1,6 @@
 //! A blocked evaluation, what it waits for, and which classes wake it.
 
+use keyed::Keyed;
 use ns_types::key::EvalKey;
 use ns_types::node::Class;
 use ns_types::rows::Rows;
@@ -23,10 +24,10 @@ pub struct BlockedEvaluation {
     pub infeasible: Rows<Class>,
 }
 
-/// A blocked evaluation as the index has it under the quota or the pool that it waits for.
-#[derive(Drop)]
-pub struct Waiting {
-    pub key: EvalKey,
-    pub escapes: bool,
-    pub infeasible: Rows<Class>,
+impl Keyed for BlockedEvaluation {
+    ghost key_of = { λ e. e.key };
+
+    fn key(&self) -> &EvalKey {
+        &self.key
+    }
 }

@@ -1,106 +1,122 @@
-//! The entries grouped by the quota or the pool that they wait for, and in a group by their places in the list.
+//! The places of the entries, grouped by the quota or the pool that the entries wait for.
 
-ghost use Rattle.std.specs.Prelude.{◌≡◌, ℕ, IsTrue, None, OnOk, Some, option_copied};
+ghost use Rattle.std.specs.Prelude.{◌≡◌, ℕ, false, IsTrue, OnOk};
 ghost use Rattle.std.specs.FinMap.{entries};
+ghost use Rattle.keyed.specs.Levels.{Adds, Drops, Keeps};
 ghost use Rattle.ns_blocked.specs.declared.entry.Waits.{Waits};
-ghost use Rattle.ns_blocked.specs.Groups.{KeepsGroupRoom, KeepsGroups, KeepsOtherGroupRoom};
-ghost use Rattle.ns_blocked.specs.Groups.{WritesGroup, group_of, group_room, group_row};
+ghost use Rattle.ns_blocked.specs.Groups.{HasGroupRoom, group_of, has_waiting_room, holds_waiting};
+ghost use Rattle.ns_blocked.specs.Groups.{places_of, same_waiting};
 
-use crate::by_key::{ByKey, clear_row, get_row, remove_row, reserve_row, set_row, slots_of};
-use crate::entry::{Waiting, Waits};
-use keyed::{NameTable, NumberSlot};
+use crate::entry::{BlockedEvaluation, Waits};
+use keyed::{KeySet, NumberSlot};
 use ns_types::text::Text;
 use std::alloc::{AllocError, Global};
 
-/// The entries that wait for a quota and those that wait for a pool, by the name of the quota or pool, then by place.
+/// The places of the entries that wait for a quota, and of those that wait for a pool: a set of keys each, the name of the
+/// quota or pool with a place.
 #[derive(Drop)]
 pub(crate) struct Groups {
-    quotas: ByKey<Waiting>,
-    pools: ByKey<Waiting>,
+    quotas: KeySet,
+    pools: KeySet,
+}
+
+/// The slots of the name's places, in their order.
+fn places_of<'a>(keys: &'a KeySet, name: &Text) -> &'a [NumberSlot<()>]
+    ensures { result.now ≡ entries (places_of keys.now name.now) }
+{
+    match keys.numbers_of(name) {
+        Some(places) => places.as_slice(),
+        None => &[],
+    }
 }
 
 impl Groups {
     pub(crate) fn new(alloc: Global) -> Groups
-        ensures { (waits : Waits) (place : ℕ) → group_row result waits place ≡ None }
+        ensures { (waits : Waits) (place : ℕ) → holds_waiting result (waits, place) ≡ false }
     {
         Groups {
-            quotas: NameTable::new(alloc),
-            pools: NameTable::new(alloc),
+            quotas: KeySet::new(alloc),
+            pools: KeySet::new(alloc),
         }
     }
 
-    /// The slots of the entries that wait for the quota, in the order of their places.
-    pub(crate) fn of_quota(&self, quota: &Text) -> &[NumberSlot<Waiting>]
+    /// The slots of the places of those that wait for the quota, in their order.
+    pub(crate) fn of_quota(&self, quota: &Text) -> &[NumberSlot<()>]
         ensures { result.now ≡ entries (group_of self.now (Waits.Quota quota.now)) }
     {
-        slots_of(&self.quotas, quota)
+        places_of(&self.quotas, quota)
     }
 
-    /// The slots of the entries that wait for the pool, in the order of their places.
-    pub(crate) fn of_pool(&self, pool: &Text) -> &[NumberSlot<Waiting>]
+    /// The slots of the places of those that wait for the pool, in their order.
+    pub(crate) fn of_pool(&self, pool: &Text) -> &[NumberSlot<()>]
         ensures { result.now ≡ entries (group_of self.now (Waits.Pool pool.now)) }
     {
-        slots_of(&self.pools, pool)
+        places_of(&self.pools, pool)
     }
 
-    /// The entry that waits at this place.
-    pub(crate) fn get(&self, waits: &Waits, place: u64) -> Option<&Waiting>
-        ensures { option_copied result ≡ group_row self.now waits.now place }
+    /// Makes room for the place of an entry. Want of memory is the only error.
+    fn reserve(&mut self, alloc: Global, waits: &Waits, place: u64) -> Result<(), AllocError>
+        ensures same { Keeps holds_waiting has_waiting_room self.old self.new }
+        ensures ok { OnOk result (IsTrue (has_waiting_room self.new (waits.now, place))) }
     {
         match waits {
-            Waits::Quota(name) => get_row(&self.quotas, name, place),
-            Waits::Pool(name) => get_row(&self.pools, name, place),
+            Waits::Quota(name) => self.quotas.reserve(alloc, name, place),
+            Waits::Pool(name) => self.pools.reserve(alloc, name, place),
         }
     }
 
-    /// Makes room for an entry at this place. Want of memory is the only error.
-    pub(crate) fn reserve(
+    /// Makes room for the entries' places, from `first` on. Want of memory is an error, and so is want of places.
+    pub(crate) fn reserve_from(
         &mut self,
         alloc: Global,
-        waits: &Waits,
-        place: u64,
+        first: u64,
+        entries: &[BlockedEvaluation],
     ) -> Result<(), AllocError>
-        ensures rows { KeepsGroups self.old self.new }
-        ensures room { KeepsGroupRoom self.old self.new }
-        ensures ok { OnOk result (IsTrue (group_room self.new waits.now place)) }
+        ensures same { Keeps holds_waiting has_waiting_room self.old self.new }
+        ensures ok { OnOk result (HasGroupRoom first entries.now self.new) }
+    {
+        let mut place = first;
+        for entry in entries {
+            if place >= u64::MAX {
+                return Err(AllocError);
+            }
+            self.reserve(alloc, &entry.waits, place)?;
+            place += 1;
+        }
+        Ok(())
+    }
+
+    /// Puts the place of an entry in. It takes no memory.
+    pub(crate) fn insert(&mut self, waits: &Waits, place: u64)
+        requires { IsTrue (has_waiting_room self.old (waits.now, place)) }
+        ensures { Adds holds_waiting has_waiting_room same_waiting (waits.now, place)
+            self.old self.new }
     {
         match waits {
-            Waits::Quota(name) => reserve_row(&mut self.quotas, alloc, name, place),
-            Waits::Pool(name) => reserve_row(&mut self.pools, alloc, name, place),
+            Waits::Quota(name) => self.quotas.insert(name, place),
+            Waits::Pool(name) => self.pools.insert(name, place),
         }
     }
 
-    /// Puts an entry at this place. It takes no memory.
-    pub(crate) fn set(&mut self, waits: &Waits, place: u64, row: Waiting)
-        requires { IsTrue (group_room self.old waits.now place) }
-        ensures rows { WritesGroup waits.now place (Some row) self.old self.new }
-        ensures room { KeepsGroupRoom self.old self.new }
+    /// Takes the place of an entry out, with the room for it. It takes no memory.
+    pub(crate) fn remove(&mut self, waits: &Waits, place: u64)
+        ensures { Drops holds_waiting has_waiting_room same_waiting (waits.now, place)
+            self.old self.new }
     {
         match waits {
-            Waits::Quota(name) => set_row(&mut self.quotas, name, place, row),
-            Waits::Pool(name) => set_row(&mut self.pools, name, place, row),
+            Waits::Quota(name) => self.quotas.remove(name, place),
+            Waits::Pool(name) => self.pools.remove(name, place),
         }
     }
 
-    /// Takes the entry at this place out, and returns it, if there was one. It takes no memory.
-    pub(crate) fn remove(&mut self, waits: &Waits, place: u64) -> Option<Waiting>
-        ensures row { result ≡ group_row self.old waits.now place }
-        ensures rows { WritesGroup waits.now place None self.old self.new }
-        ensures room { KeepsOtherGroupRoom place self.old self.new }
-    {
-        match waits {
-            Waits::Quota(name) => remove_row(&mut self.quotas, name, place),
-            Waits::Pool(name) => remove_row(&mut self.pools, name, place),
-        }
-    }
-
-    /// Gives the room for an entry at this place back, unless an entry is there.
+    /// Gives the room for the place of an entry back, unless the place is held.
     pub(crate) fn clear(&mut self, waits: &Waits, place: u64)
-        ensures { KeepsGroups self.old self.new }
+        ensures { (of : Waits) (n : ℕ) →
+            holds_waiting self.new (of, n) ≡ holds_waiting self.old (of, n) }
     {
         match waits {
-            Waits::Quota(name) => clear_row(&mut self.quotas, name, place),
-            Waits::Pool(name) => clear_row(&mut self.pools, name, place),
+            Waits::Quota(name) => self.quotas.clear(name, place),
+            Waits::Pool(name) => self.pools.clear(name, place),
         }
     }
 }

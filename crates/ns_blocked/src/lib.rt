@@ -2,17 +2,15 @@
 //! no other entry.
 #![tactic(auto)]
 
-mod by_key;
 mod classes;
 mod entry;
 mod finding;
 mod groups;
-mod index;
 mod laws;
 mod list;
 mod releases;
 
-pub use entry::{BlockedEvaluation, Waiting, Waits};
+pub use entry::{BlockedEvaluation, Waits};
 pub use laws::{the_rest_is_the_models, wakes_are_the_models};
 pub use list::BlockedList;
 pub use releases::{ReleasedPool, Releases};

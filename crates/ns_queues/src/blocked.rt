@@ -155,9 +155,5 @@ pub(crate) fn follow(
     if entries.as_slice().len() < settled.blocked.added.as_slice().len() {
         return false;
     }
-    if !list.append_new(entries) {
-        return false;
-    }
-    list.clear_keys(taken);
-    true
+    list.append_new(entries)
 }

@@ -29,7 +29,7 @@ impl BlockedList {
 
     /// Takes the entries that the releases wake out of the list, and returns their keys in the list's order. Want of memory is
     /// the only error, and then nothing is changed. It looks only at entries that wait for what is released. Room for others
-    /// stays, also for these keys (`clear_keys`).
+    /// stays.
     pub fn release(&mut self, releases: &Releases) -> Result<Vec<EvalKey>, AllocError>
         ensures woken { IfOk result
             (λ keys. keys.items ≡ woken_by releases.now (entries_of self.old)) }
@@ -77,29 +77,30 @@ impl BlockedList {
     /// The places of the entries that the releases wake.
     fn find_woken(&self, releases: &Releases) -> Result<BTreeSet<u64>, AllocError>
         ensures { IfOk result (λ places.
-            ArePassing (is_woken releases.now) self.now.index places.keys) }
+            ArePassing (is_woken releases.now) self.now places.keys) }
     {
         let mut places = BTreeSet::new(self.alloc);
-        add_quotas(&self.index.groups, releases.quotas.as_slice(), &mut places)?;
-        add_pools(&self.index.groups, releases.pools.as_slice(), &mut places)?;
+        add_quotas(&self.groups, releases.quotas.as_slice(), &mut places)?;
+        let pools = releases.pools.as_slice();
+        add_pools(&self.queue, &self.groups, pools, &mut places)?;
         Ok(places)
     }
 
     fn find_in_pool(&self, pool: &Text, classes: &[Class]) -> Result<BTreeSet<u64>, AllocError>
         ensures { IfOk result (λ places.
-            ArePassing (wakes_of_pool pool.now classes.now) self.now.index places.keys) }
+            ArePassing (wakes_of_pool pool.now classes.now) self.now places.keys) }
     {
         let mut places = BTreeSet::new(self.alloc);
-        add_pool(&self.index.groups, pool, classes, &mut places)?;
+        add_pool(&self.queue, &self.groups, pool, classes, &mut places)?;
         Ok(places)
     }
 
     fn find_of_quota(&self, quota: &Text) -> Result<BTreeSet<u64>, AllocError>
         ensures { IfOk result (λ places.
-            ArePassing (wakes_of_quota quota.now) self.now.index places.keys) }
+            ArePassing (wakes_of_quota quota.now) self.now places.keys) }
     {
         let mut places = BTreeSet::new(self.alloc);
-        add_quota(&self.index.groups, quota, &mut places)?;
+        add_quota(&self.groups, quota, &mut places)?;
         Ok(places)
     }
 
@@ -109,8 +110,8 @@ impl BlockedList {
     {
         let mut keys = Vec::with_capacity(self.alloc, places.len())?;
         while let Some(place) = places.pop_first() {
-            if let Some(key) = self.index.key_at(place) {
-                keys.push(key.clone()?)?;
+            if let Some(entry) = self.at(place) {
+                keys.push(entry.key.clone()?)?;
             }
         }
         Ok(Rows::from_vec(keys))
@@ -118,7 +119,7 @@ impl BlockedList {
 
     /// Takes the entries at these places out, from the last to the first, and returns their keys in the list's order.
     fn take_places(&mut self, mut places: BTreeSet<u64>) -> Result<Vec<EvalKey>, AllocError>
-        requires { ArePresent places.keys self.old.index }
+        requires { ArePresent places.keys self.old }
         ensures woken { IfOk result (λ keys. AreKeysAt places.keys self.old keys.items) }
         ensures rest { OnOk result (IsLeftWithout places.keys self.old self.new) }
         ensures err { OnErr result (self.new ≡ self.old) }

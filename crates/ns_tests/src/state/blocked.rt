@@ -6,7 +6,7 @@ ghost use Rattle.ns_types.specs.State.Names.{has_key};
 
 use crate::state::made::{both, only, text};
 use keyed::NumberSlot;
-use ns_blocked::{BlockedEvaluation, BlockedList, ReleasedPool, Releases, Waiting, Waits};
+use ns_blocked::{BlockedEvaluation, BlockedList, ReleasedPool, Releases, Waits};
 use ns_equality::same_key;
 use ns_types::key::EvalKey;
 use ns_types::node::{Attribute, Class};
@@ -148,13 +148,21 @@ fn is_among(keys: &[KeyText], key: &EvalKey) -> bool {
     is_there
 }
 
-/// Whether these are the keys in the slots, in this order. A vacant slot has none.
-fn have_keys(slots: &[NumberSlot<Waiting>], expected: &[KeyText]) -> bool {
+/// Whether the evaluation at the place has this key.
+fn has_at(list: &BlockedList, place: u64, expected: KeyText) -> bool {
+    match list.at(place) {
+        Some(entry) => is_key(&entry.key, expected),
+        None => false,
+    }
+}
+
+/// Whether these are the keys of the evaluations at the slots' places, in this order. A vacant slot has no place.
+fn have_keys(list: &BlockedList, slots: &[NumberSlot<()>], expected: &[KeyText]) -> bool {
     let mut rest = expected;
     for slot in slots {
-        if let Some(row) = &slot.1 {
+        if slot.1.is_some() {
             match rest {
-                [first, others @ ..] if is_key(&row.key, *first) => rest = others,
+                [first, others @ ..] if has_at(list, slot.0, *first) => rest = others,
                 _ => return false,
             }
         }
@@ -171,8 +179,8 @@ fn wait(
     expected: &[KeyText],
 ) -> bool {
     match source {
-        Source::Quota(name) => have_keys(list.of_quota(&text(rt, alloc, name)), expected),
-        Source::Pool(name) => have_keys(list.of_pool(&text(rt, alloc, name)), expected),
+        Source::Quota(name) => { have_keys(list, list.of_quota(&text(rt, alloc, name)), expected) }
+        Source::Pool(name) => have_keys(list, list.of_pool(&text(rt, alloc, name)), expected),
     }
 }
 

@@ -16,22 +16,15 @@ returns-then-as_slice-clause-kept c = sym (not_where_missing c.args.tables.now c
     (c.take_out.ensures.entries ∙ ap (λ (keys : List Key). filter (λ e. not (has_key keys e.key)) (entries_of c.args.list.now)) c.as_slice-taken.ensures)
     c.requires.added (omega (arith, ap length c.as_slice.ensures, ap length c.as_slice-2.ensures, c.if-as_slice.true)))
 
-pub returns-then-not-append_new-clause-kept : goal.returns-then-not-append_new-clause-kept
-returns-then-not-append_new-clause-kept c = sym c.if-not-append_new.true ∙ c.append_new.ensures.new
-    ∙ kept_where_new c.args.tables.now c.args.settled.now c.args.list.now c.take_out.new.self c.args.entries
-    (c.take_out.ensures.entries ∙ ap (λ (keys : List Key). filter (λ e. not (has_key keys e.key)) (entries_of c.args.list.now)) c.as_slice-taken.ensures)
-    c.requires.added (sym c.any_moved.ensures.any ∙ c.if-any_moved.false)
-    (omega (arith, ap length c.as_slice.ensures, ap length c.as_slice-2.ensures, c.if-as_slice.false))
-
 pub returns-clause-right : goal.returns-clause-right
-returns-clause-right c = λ _. followed (world_of c.args.tables.now) c.args.settled.now c.args.list.now c.take_out.new.self c.clear_keys.new.self c.args.entries
+returns-clause-right c = λ all. followed (world_of c.args.tables.now) c.args.settled.now c.args.list.now c.take_out.new.self c.append_new.new.self c.args.entries
     (c.take_out.ensures.entries ∙ ap (λ (keys : List Key). filter (λ e. not (has_key keys e.key)) (entries_of c.args.list.now)) c.as_slice-taken.ensures)
     (c.any_moved.ensures.none c.if-any_moved.false (still_unmoved c.take_out.new.self)) c.requires.added
     (omega (arith, ap length c.as_slice.ensures, ap length c.as_slice-2.ensures, c.if-as_slice.false))
-    (c.clear_keys.ensures ∙ c.append_new.ensures.entries c.if-not-append_new.false)
+    (c.append_new.ensures.entries all)
 
 pub returns-clause-kept : goal.returns-clause-kept
-returns-clause-kept c = sym c.if-not-append_new.false ∙ c.append_new.ensures.new
+returns-clause-kept c = c.append_new.ensures.new
     ∙ kept_where_new c.args.tables.now c.args.settled.now c.args.list.now c.take_out.new.self c.args.entries
     (c.take_out.ensures.entries ∙ ap (λ (keys : List Key). filter (λ e. not (has_key keys e.key)) (entries_of c.args.list.now)) c.as_slice-taken.ensures)
     c.requires.added (sym c.any_moved.ensures.any ∙ c.if-any_moved.false)

@@ -1,5 +1,3 @@
-use Rattle.std.proofs.Common.{◌++◌}
-use Rattle.ns_blocked.specs.Blocked.{entries_of}
 use Rattle.ns_blocked.proofs.Rooms.{IsChecking}
 use Rattle.ns_blocked.proofs.list.BlockedList.append_new.Given as goal
 

@@ -4,7 +4,7 @@ use Rattle.ns_blocked.proofs.Passing.{passing_there}
 use Rattle.ns_blocked.proofs.list.BlockedList.release_pool.Goals as goal
 
 pub take_places-requires : goal.take_places-requires
-take_places-requires c = passing_there c.args.self.now.index (wakes_of_pool c.args.pool.now c.args.classes.now) _ c.in_ok-places.ensures
+take_places-requires c = passing_there c.args.self.now (wakes_of_pool c.args.pool.now c.args.classes.now) _ c.in_ok-places.ensures
 
 pub returns-clause-woken : goal.returns-clause-woken
 returns-clause-woken c = if_ok c.take_places.result _ _ (λ keys are. are (wakes_of_pool c.args.pool.now c.args.classes.now) c.in_ok-places.ensures)

@@ -1,24 +1,28 @@
-use Rattle.std.specs.Prelude.{◌≡◌, ℕ, ◌+◌, ◌<◌, ◌^◌, List}
-use Rattle.std.proofs.Common.{arith, subst, sym, take, ◌∙◌}
-use Rattle.keyed.proofs.Mapped.{take_all}
-use Rattle.ns_blocked.specs.declared.entry.BlockedEvaluation.{BlockedEvaluation}
-use Rattle.ns_blocked.specs.Blocked.{HasRoomFrom}
-use Rattle.ns_blocked.proofs.Rooms.{reserved_next}
+use Rattle.std.specs.Prelude.{ℕ}
+use Rattle.std.proofs.Common.{ap, refl, subst, sym, ◌∙◌}
+use Rattle.ns_types.proofs.Results.{on_ok}
+use Rattle.ns_blocked.specs.Blocked.{entries_of}
+use Rattle.ns_blocked.specs.Groups.{HasGroupRoom}
+use Rattle.ns_blocked.proofs.Listed.{still_grouped}
 use Rattle.ns_blocked.proofs.list.BlockedList.reserve.Goals as goal
 
-pub loop-entry-preserved : goal.loop-entry-preserved
-loop-entry-preserved c =
-    let next : c.reserve_at.new.self.next ≡ c.loop-entry.self.next = c.reserve_at.ensures.next in
-    let at : c.loop-entry.place ≡ c.loop-entry.self.next + c.loop-entry.entry-index = c.loop-entry.invariant.0 in
-    let bound : c.loop-entry.place + 1 < 2 ^ 64 = omega arith in (
-      omega arith,
-      c.reserve_at.ensures.entries ∙ c.loop-entry.invariant.1,
-      subst (λ (n : ℕ). HasRoomFrom n (take (c.loop-entry.entry-index + 1) c.args.entries.now) c.reserve_at.new.self.index) (sym next)
-          (reserved_next c.loop-entry.self.index c.reserve_at.new.self.index c.loop-entry.self.next c.loop-entry.entry-index c.loop-entry.place
-          c.args.entries.now c.entry-item.result c.loop-entry-test.true c.entry-item.is at bound c.reserve_at.ensures.room
-          c.in_ok-reserve_at.ensures.ok c.loop-entry.invariant.2),
-    )
+pub invariant_of-self : goal.invariant_of-self
+invariant_of-self c = still_grouped c.self.inside.queue.placed.rows c.self.inside.queue.placed.rows c.self.inside.groups
+    c.reserve_from.new.self c.self.invariant (λ n. refl) (λ waits n. c.reserve_from.ensures.same.held (waits, n))
+
+pub invariant_of-self-2 : goal.invariant_of-self-2
+invariant_of-self-2 c = still_grouped c.self.inside.queue.placed.rows c.reserve.new.self.placed.rows c.self.inside.groups
+    c.reserve_from.new.self c.self.invariant c.reserve.ensures.places.rows (λ waits n. c.reserve_from.ensures.same.held (waits, n))
+
+pub returns-in_err-reserve_from-clause-entries : goal.returns-in_err-reserve_from-clause-entries
+returns-in_err-reserve_from-clause-entries c = ap entries_of c.self.view_is
+
+pub returns-clause-entries : goal.returns-clause-entries
+returns-clause-entries c = c.reserve.ensures.items ∙ ap entries_of c.self.view_is
 
 pub returns-clause-ok : goal.returns-clause-ok
-returns-clause-ok c = subst (λ (es : List BlockedEvaluation). HasRoomFrom c.loop-entry.self.next es c.loop-entry.self.index)
-    (take_all c.args.entries.now c.loop-entry.entry-index c.loop-entry-test.false) c.loop-entry.invariant.2
+returns-clause-ok c = on_ok c.reserve.result (λ can. (
+  can,
+  subst (λ (n : ℕ). HasGroupRoom n c.args.entries.now c.reserve_from.new.self) (c.next_place-first.ensures.next ∙ sym c.reserve.ensures.places.next)
+      c.in_ok-reserve_from.ensures.ok,
+)) c.reserve.ensures.ok

@@ -1,6 +1,6 @@
 use Rattle.std.proofs.Common.{arith, sym, subst, ◌∙◌}
 use Rattle.ns_blocked.specs.Waking.{AreKeysAt}
-use Rattle.ns_blocked.proofs.Places.{has_a_key, last_there, one_taken, taking_none}
+use Rattle.ns_blocked.proofs.Places.{has_a_key, one_taken, taking_none}
 use Rattle.ns_blocked.proofs.Passing.{all_gone, all_keys, nothing_left}
 use Rattle.ns_blocked.proofs.list.BlockedList.take_places.Goals as goal
 
@@ -9,10 +9,6 @@ loop-place-init c = record {
   taking = taking_none c.args.self.now c.args.places.keys _ c.in_ok-keys.ensures.items c.requires;
   room = omega (arith, c.in_ok-keys.ensures.len, c.in_ok-keys.ensures.capacity);
 }
-
-pub take_at-requires : goal.take_at-requires
-take_at-requires c = last_there c.args.self.now c.loop-place.self c.loop-place.self c.args.places.keys _ _ c.in-Some.place _
-    c.loop-place.invariant.taking c.in-Some.ensures.removal
 
 pub loop-place-preserved : goal.loop-place-preserved
 loop-place-preserved c = has_a_key c.args.self.now c.loop-place.self c.loop-place.self c.args.places.keys _ _ c.in-Some.place _
