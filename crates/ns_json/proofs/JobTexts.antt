@@ -25,7 +25,7 @@ use Rattle.ns_json.specs.Rendering.{constraint_json, group_json, job_json, task_
 use Rattle.json.specs.Print.{escape_byte, token_text}
 use Rattle.json.specs.Token.{boolean}
 use Rattle.std.proofs.Common.{decimal}
-use Rattle.ns_json.specs.JobText.{Continues, joined, member_text, numbered, stop_text, texted}
+use Rattle.ns_json.specs.JobText.{Continues, joined, member_text, numbered, spelled, stop_text, texted}
 
 -- no byte of a plain text is escaped
 pub escape_plain : (s : List ℕ) → list_all is_plain s ≡ true → escape s ≡ s
@@ -90,39 +90,52 @@ regroup4 a b c d = simp append_assoc
 regroup6 : (a b c d e f : List ℕ) → ((((a ++ b) ++ c) ++ d) ++ e) ++ f ≡ a ++ (b ++ (c ++ (d ++ (e ++ f))))
 regroup6 a b c d e f = simp append_assoc
 
+-- a quote that ends a text, where it stands at the front of what follows
+quote_then : (before text rest : List ℕ) → spelled (before ++ 34 ∷ []) text ++ 34 ∷ rest ≡ texted before text ++ rest
+quote_then before text rest = simp append_assoc
+
 pub constraint_is : (c : Constraint) (target operand value : List ℕ) → target ≡ target_text c.target → operand ≡ operand_text c.operand → value ≡ c.value →
-    ((texted (codes "{\"LTarget\":") target ++ texted (codes ",\"Operand\":") operand) ++ texted (codes ",\"RTarget\":") value) ++ codes "}" ≡
-    compact_text (constraint_json c)
+    ((spelled (codes "{\"LTarget\":\"") target ++ spelled (codes "\",\"Operand\":\"") operand) ++ spelled (codes "\",\"RTarget\":\"") value) ++
+    codes "\"}" ≡ compact_text (constraint_json c)
 unfolding constraint_json escape_byte
 constraint_is c target operand value e1 e2 e3 = rw (e1, e2, e3)
-    (regroup4 (texted (codes "{\"LTarget\":") (target_text c.target)) (texted (codes ",\"Operand\":") (operand_text c.operand))
-    (texted (codes ",\"RTarget\":") c.value) (codes "}"))
+    (regroup4 (spelled (codes "{\"LTarget\":\"") (target_text c.target)) (spelled (codes "\",\"Operand\":\"") (operand_text c.operand))
+    (spelled (codes "\",\"RTarget\":\"") c.value) (codes "\"}") ∙
+    quote_then (codes "{\"LTarget\":") (target_text c.target) (spelled (codes ",\"Operand\":\"") (operand_text c.operand) ++
+    (spelled (codes "\",\"RTarget\":\"") c.value ++ codes "\"}")) ∙
+    ap (λ (r : List ℕ). texted (codes "{\"LTarget\":") (target_text c.target) ++ r)
+    (quote_then (codes ",\"Operand\":") (operand_text c.operand) (spelled (codes ",\"RTarget\":\"") c.value ++ codes "\"}") ∙
+    ap (λ (r : List ℕ). texted (codes ",\"Operand\":") (operand_text c.operand) ++ r) (quote_then (codes ",\"RTarget\":") c.value (codes "}"))))
 
 -- two numbers of an object inside another
 two_numbers : (x lit y : List ℕ) → x ++ (lit ++ (y ++ 125 ∷ 125 ∷ [])) ≡ (x ++ (lit ++ (y ++ 125 ∷ []))) ++ 125 ∷ []
 two_numbers x lit y = simp append_assoc
 
 pub task_is : (t : Task) (name : List ℕ) → name ≡ t.name →
-    ((texted (codes "{\"Name\":") name ++ numbered (codes ",\"Resources\":{\"CPU\":") t.resources.cpu) ++ numbered (codes ",\"MemoryMB\":") t.resources.memory) ++
+    ((spelled (codes "{\"Name\":\"") name ++ numbered (codes "\",\"Resources\":{\"CPU\":") t.resources.cpu) ++ numbered (codes ",\"MemoryMB\":") t.resources.memory) ++
     codes "}}" ≡ compact_text (task_json t)
 unfolding task_json escape_byte
 task_is t name e = rw e
-    (regroup4 (texted (codes "{\"Name\":") t.name) (numbered (codes ",\"Resources\":{\"CPU\":") t.resources.cpu)
+    (regroup4 (spelled (codes "{\"Name\":\"") t.name) (numbered (codes "\",\"Resources\":{\"CPU\":") t.resources.cpu)
     (numbered (codes ",\"MemoryMB\":") t.resources.memory) (codes "}}") ∙
+    quote_then (codes "{\"Name\":") t.name (numbered (codes ",\"Resources\":{\"CPU\":") t.resources.cpu ++
+    (numbered (codes ",\"MemoryMB\":") t.resources.memory ++ codes "}}")) ∙
     ap (λ (r : List ℕ). texted (codes "{\"Name\":") t.name ++ (codes ",\"Resources\":{\"CPU\":" ++ r))
     (two_numbers (decimal t.resources.cpu) (codes ",\"MemoryMB\":") (decimal t.resources.memory)))
 
 pub group_is : (g : Group) (name : List ℕ) (tasks : List Task) → name ≡ g.name → tasks ≡ g.tasks →
-    ((((numbered (codes "{\"Count\":") g.count ++ numbered (codes ",\"EphemeralDisk\":{\"SizeMB\":") g.disk) ++ texted (codes "},\"Name\":") name) ++
-    codes ",\"Tasks\":[") ++ joined (λ t. compact_text (task_json t)) tasks) ++ codes "]}" ≡ compact_text (group_json g)
+    ((((numbered (codes "{\"Count\":") g.count ++ numbered (codes ",\"EphemeralDisk\":{\"SizeMB\":") g.disk) ++ spelled (codes "},\"Name\":\"") name) ++
+    codes "\",\"Tasks\":[") ++ joined (λ t. compact_text (task_json t)) tasks) ++ codes "]}" ≡ compact_text (group_json g)
 unfolding group_json escape_byte
 group_is g name tasks e1 e2 =
     let count : List ℕ = numbered (codes "{\"Count\":") g.count in
     let disk : List ℕ = numbered (codes ",\"EphemeralDisk\":{\"SizeMB\":") g.disk in
     let called : List ℕ = texted (codes "},\"Name\":") g.name in
+    let texts : List ℕ = joined (λ t. compact_text (task_json t)) g.tasks in
     let listed : List ℕ = items_text false (items_of (map task_json g.tasks)) ++ 125 ∷ [] in
     rw (e1, e2)
-    (regroup6 count disk called (codes ",\"Tasks\":[") (joined (λ t. compact_text (task_json t)) g.tasks) (codes "]}") ∙
+    (regroup6 count disk (spelled (codes "},\"Name\":\"") g.name) (codes "\",\"Tasks\":[") texts (codes "]}") ∙
+    ap (λ (r : List ℕ). count ++ (disk ++ r)) (quote_then (codes "},\"Name\":") g.name (codes ",\"Tasks\":[" ++ (texts ++ codes "]}"))) ∙
     ap (λ (r : List ℕ). count ++ (disk ++ (called ++ (codes ",\"Tasks\":[" ++ r)))) (list_then task_json g.tasks (125 ∷ [])) ∙
     ap (λ (r : List ℕ). count ++ (codes ",\"EphemeralDisk\":{\"SizeMB\":" ++ r))
     (sym (append_assoc (decimal g.disk) (125 ∷ []) (codes ",\"Name\":" ++ (quoted g.name ++ (codes ",\"Tasks\":[" ++ listed))))))
@@ -146,22 +159,36 @@ member_rest j rest =
     (texted (codes ",\"Namespace\":") j.namespace ++ (texted (codes ",\"NodePool\":") j.row.document.pool ++
     (numbered (codes ",\"Priority\":") j.row.document.priority ++ (texted (codes ",\"Status\":") (job_status_text j.status) ++ rest)))))
 
+-- each text of the members with both its quotes
+quotes_then : (j : JobShown) (rest : List ℕ) → spelled (codes ",\"ID\":\"") j.id ++ (numbered (codes "\",\"JobModifyIndex\":") j.row.modify_index ++
+    (spelled (codes ",\"Namespace\":\"") j.namespace ++ (spelled (codes "\",\"NodePool\":\"") j.row.document.pool ++
+    (numbered (codes "\",\"Priority\":") j.row.document.priority ++ (texted (codes ",\"Status\":") (job_status_text j.status) ++ rest))))) ≡ member_rest j rest
+quotes_then j rest =
+    let modified : List ℕ = numbered (codes ",\"JobModifyIndex\":") j.row.modify_index in
+    let ranked : List ℕ = numbered (codes ",\"Priority\":") j.row.document.priority ++ (texted (codes ",\"Status\":") (job_status_text j.status) ++ rest) in
+    let pooled : List ℕ = spelled (codes ",\"NodePool\":\"") j.row.document.pool ++ 34 ∷ ranked in
+    quote_then (codes ",\"ID\":") j.id (modified ++ (spelled (codes ",\"Namespace\":\"") j.namespace ++ 34 ∷ pooled)) ∙
+    ap (λ (r : List ℕ). texted (codes ",\"ID\":") j.id ++ (modified ++ r))
+    (quote_then (codes ",\"Namespace\":") j.namespace pooled ∙
+    ap (λ (r : List ℕ). texted (codes ",\"Namespace\":") j.namespace ++ r) (quote_then (codes ",\"NodePool\":") j.row.document.pool ranked))
+
 members_then : (j : JobShown) (rest : List ℕ) → member_text j ++ rest ≡
     93 ∷ (numbered (codes ",\"CreateIndex\":") j.row.create_index ++
     member_rest j (codes ",\"Stop\":" ++ (token_text (boolean j.row.stop) ++ (codes ",\"TaskGroups\":[" ++ rest))))
 unfolding member_text
 members_then j rest =
-    regroup_members (numbered (codes "],\"CreateIndex\":") j.row.create_index) (texted (codes ",\"ID\":") j.id)
-    (numbered (codes ",\"JobModifyIndex\":") j.row.modify_index) (texted (codes ",\"Namespace\":") j.namespace)
-    (texted (codes ",\"NodePool\":") j.row.document.pool) (numbered (codes ",\"Priority\":") j.row.document.priority)
+    regroup_members (numbered (codes "],\"CreateIndex\":") j.row.create_index) (spelled (codes ",\"ID\":\"") j.id)
+    (numbered (codes "\",\"JobModifyIndex\":") j.row.modify_index) (spelled (codes ",\"Namespace\":\"") j.namespace)
+    (spelled (codes "\",\"NodePool\":\"") j.row.document.pool) (numbered (codes "\",\"Priority\":") j.row.document.priority)
     (texted (codes ",\"Status\":") (job_status_text j.status)) (stop_text j.row.stop) rest ∙
+    ap (λ (r : List ℕ). numbered (codes "],\"CreateIndex\":") j.row.create_index ++ r) (quotes_then j (stop_text j.row.stop ++ rest)) ∙
     ap (λ (r : List ℕ). numbered (codes "],\"CreateIndex\":") j.row.create_index ++ member_rest j r) (stop_then j.row.stop rest)
 
 -- the members, with the texts that were written
 pub members_are : (j : JobShown) (d : Document) (id namespace pool status stop : List ℕ) → d ≡ j.row.document → id ≡ j.id →
     namespace ≡ j.namespace → pool ≡ d.pool → status ≡ texted (codes ",\"Status\":") (job_status_text j.status) → stop ≡ stop_text j.row.stop →
-    ((((((numbered (codes "],\"CreateIndex\":") j.row.create_index ++ texted (codes ",\"ID\":") id) ++ numbered (codes ",\"JobModifyIndex\":") j.row.modify_index) ++
-    texted (codes ",\"Namespace\":") namespace) ++ texted (codes ",\"NodePool\":") pool) ++ numbered (codes ",\"Priority\":") d.priority) ++
+    ((((((numbered (codes "],\"CreateIndex\":") j.row.create_index ++ spelled (codes ",\"ID\":\"") id) ++ numbered (codes "\",\"JobModifyIndex\":") j.row.modify_index) ++
+    spelled (codes ",\"Namespace\":\"") namespace) ++ spelled (codes "\",\"NodePool\":\"") pool) ++ numbered (codes "\",\"Priority\":") d.priority) ++
     status) ++ stop ≡ member_text j
 unfolding member_text
 members_are j d id namespace pool status stop same e1 e2 e3 e4 e5 = rw (e1, e2, e3, e4, e5, same) refl

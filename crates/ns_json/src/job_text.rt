@@ -1,12 +1,12 @@
 //! The text of a job in replies: the fixed parts are constants, and the rest is copied right from the job's row.
 
-ghost use Rattle.std.specs.Prelude.{◌≡◌, ◌∷◌, OnOk, IfOk, codes, decimal, string_bytes};
+ghost use Rattle.std.specs.Prelude.{◌≡◌, ℕ, List, [], ◌∷◌, ◌++◌, OnOk, IfOk, codes, decimal, string_bytes};
 ghost use Rattle.std.specs.List.{flat_map, list_all};
-ghost use Rattle.json.specs.Print.{quoted};
+ghost use Rattle.json.specs.Print.{escape};
 ghost use Rattle.json.specs.Run.{is_plain};
 ghost use Rattle.serde_json.specs.Written.{compact_text};
 ghost use Rattle.ns_types.specs.Wire.Words.{job_status_text, kind_text};
-ghost use Rattle.ns_json.specs.JobText.{Continues, joined, member_text, numbered, stop_text, texted};
+ghost use Rattle.ns_json.specs.JobText.{Continues, joined, member_text, numbered, spelled, stop_text, texted};
 ghost use Rattle.ns_json.specs.Rendering.{constraint_json, group_json, job_json, task_json};
 
 use crate::job_reply::{operand_text, target_text};
@@ -16,18 +16,13 @@ use ns_types::job::{Constraint, Group, JobKind, Task};
 use ns_types::reply::{JobShown, JobStatus};
 use std::alloc::{AllocError, Global};
 
+/// Inlined, as what passes it constants is, so that these are copied without a call.
+#[inline(always)]
 fn push(out: &mut String, text: &str) -> Result<(), AllocError>
     ensures { OnOk result (Continues (string_bytes out.old) (string_bytes out.new)
         (text.now)) }
 {
     out.push_str(text)
-}
-
-fn push_quote(out: &mut String) -> Result<(), AllocError>
-    ensures { OnOk result (Continues (string_bytes out.old) (string_bytes out.new)
-        (codes "\"")) }
-{
-    out.push('"')
 }
 
 /// Whether no byte of a JSON string with this text is escaped.
@@ -39,29 +34,35 @@ fn is_plain(text: &str) -> bool
         .all(|b| *b != b'"' && *b != b'\\' && *b >= 32)
 }
 
-/// Adds the text as a JSON string in which some bytes are escaped.
+/// The text between its quotes.
+fn without_quotes(text: &str) -> &str
+    ensures { (inner : List ℕ) → text.now ≡ 34 ∷ (inner ++ 34 ∷ []) → result.now ≡ inner }
+{
+    let rest = text.strip_prefix('"').unwrap_or(text);
+    rest.strip_suffix('"').unwrap_or(rest)
+}
+
+/// Adds the text as it stands in a JSON string in which some bytes are escaped.
 fn push_escaped(out: &mut String, alloc: Global, text: &str) -> Result<(), AllocError>
     ensures { OnOk result (Continues (string_bytes out.old) (string_bytes out.new)
-        (quoted text.now)) }
+        (escape text.now)) }
 {
     let mut writer = Writer::new(Vec::new(alloc));
     writer.string(text)?;
     // What a writer wrote is UTF-8.
-    let escaped = unsafe { String::from_utf8_unchecked(writer.into_inner()) };
-    push(out, escaped.as_str())
+    let quoted = unsafe { String::from_utf8_unchecked(writer.into_inner()) };
+    push(out, without_quotes(quoted.as_str()))
 }
 
-/// Adds the text as a JSON string.
-fn push_quoted(out: &mut String, alloc: Global, text: &str) -> Result<(), AllocError>
+/// Adds the text as it stands in a JSON string, without the quotes.
+fn push_text(out: &mut String, alloc: Global, text: &str) -> Result<(), AllocError>
     ensures { OnOk result (Continues (string_bytes out.old) (string_bytes out.new)
-        (quoted text.now)) }
+        (escape text.now)) }
 {
-    if !is_plain(text) {
-        return push_escaped(out, alloc, text);
+    if is_plain(text) {
+        return push(out, text);
     }
-    push_quote(out)?;
-    push(out, text)?;
-    push_quote(out)
+    push_escaped(out, alloc, text)
 }
 
 fn push_number(out: &mut String, n: u64) -> Result<(), AllocError>
@@ -73,6 +74,7 @@ fn push_number(out: &mut String, n: u64) -> Result<(), AllocError>
 }
 
 /// Adds the text `before`, and the number.
+#[inline(always)]
 fn push_numbered(out: &mut String, before: &str, n: u64) -> Result<(), AllocError>
     ensures { OnOk result (Continues (string_bytes out.old) (string_bytes out.new)
         (numbered before.now n)) }
@@ -81,13 +83,14 @@ fn push_numbered(out: &mut String, before: &str, n: u64) -> Result<(), AllocErro
     push_number(out, n)
 }
 
-/// Adds the text `before`, and the other text as a JSON string.
+/// Adds the text `before`, which ends with a quote, and the other text behind that quote.
+#[inline(always)]
 fn push_texted(out: &mut String, alloc: Global, before: &str, text: &str) -> Result<(), AllocError>
     ensures { OnOk result (Continues (string_bytes out.old) (string_bytes out.new)
-        (texted before.now text.now)) }
+        (spelled before.now text.now)) }
 {
     push(out, before)?;
-    push_quoted(out, alloc, text)
+    push_text(out, alloc, text)
 }
 
 #[tactic(auto, unfolding(crate::specs::Rendering::constraint_json))]
@@ -100,11 +103,11 @@ fn push_constraint(
         (compact_text (constraint_json constraint.now))) }
 {
     let target = target_text(alloc, &constraint.target)?;
-    push_texted(out, alloc, "{\"LTarget\":", target.as_str())?;
+    push_texted(out, alloc, "{\"LTarget\":\"", target.as_str())?;
     let operand = operand_text(constraint.operand);
-    push_texted(out, alloc, ",\"Operand\":", operand)?;
-    push_texted(out, alloc, ",\"RTarget\":", constraint.value.as_str())?;
-    push(out, "}")
+    push_texted(out, alloc, "\",\"Operand\":\"", operand)?;
+    push_texted(out, alloc, "\",\"RTarget\":\"", constraint.value.as_str())?;
+    push(out, "\"}")
 }
 
 /// Adds the constraints, each behind a comma.
@@ -143,8 +146,8 @@ fn push_task(out: &mut String, alloc: Global, task: &Task) -> Result<(), AllocEr
     ensures { OnOk result (Continues (string_bytes out.old) (string_bytes out.new)
         (compact_text (task_json task.now))) }
 {
-    push_texted(out, alloc, "{\"Name\":", task.name.as_str())?;
-    push_numbered(out, ",\"Resources\":{\"CPU\":", task.resources.cpu)?;
+    push_texted(out, alloc, "{\"Name\":\"", task.name.as_str())?;
+    push_numbered(out, "\",\"Resources\":{\"CPU\":", task.resources.cpu)?;
     push_numbered(out, ",\"MemoryMB\":", task.resources.memory)?;
     push(out, "}}")
 }
@@ -179,8 +182,8 @@ fn push_group(out: &mut String, alloc: Global, group: &Group) -> Result<(), Allo
 {
     push_numbered(out, "{\"Count\":", group.count)?;
     push_numbered(out, ",\"EphemeralDisk\":{\"SizeMB\":", group.disk)?;
-    push_texted(out, alloc, "},\"Name\":", group.name.as_str())?;
-    push(out, ",\"Tasks\":[")?;
+    push_texted(out, alloc, "},\"Name\":\"", group.name.as_str())?;
+    push(out, "\",\"Tasks\":[")?;
     push_tasks(out, alloc, group.tasks.as_slice())?;
     push(out, "]}")
 }
@@ -251,11 +254,11 @@ fn push_members(out: &mut String, alloc: Global, job: &JobShown) -> Result<(), A
     let document = job.row.document.get();
     let status = status_member(job.status);
     push_numbered(out, "],\"CreateIndex\":", job.row.create_index)?;
-    push_texted(out, alloc, ",\"ID\":", job.id.as_str())?;
-    push_numbered(out, ",\"JobModifyIndex\":", job.row.modify_index)?;
-    push_texted(out, alloc, ",\"Namespace\":", job.namespace.as_str())?;
-    push_texted(out, alloc, ",\"NodePool\":", document.pool.as_str())?;
-    push_numbered(out, ",\"Priority\":", document.priority)?;
+    push_texted(out, alloc, ",\"ID\":\"", job.id.as_str())?;
+    push_numbered(out, "\",\"JobModifyIndex\":", job.row.modify_index)?;
+    push_texted(out, alloc, ",\"Namespace\":\"", job.namespace.as_str())?;
+    push_texted(out, alloc, "\",\"NodePool\":\"", document.pool.as_str())?;
+    push_numbered(out, "\",\"Priority\":", document.priority)?;
     push(out, status)?;
     let stop = stop_text(job.row.stop);
     push(out, stop)
