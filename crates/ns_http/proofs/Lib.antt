@@ -1,6 +1,7 @@
 pub mod TextLemmas
 pub mod HeadTexts
 pub mod ValuesLemmas
+pub mod FieldsLemmas
 pub mod CountsLemmas
 pub mod StreamLemmas
 pub mod InputLemmas

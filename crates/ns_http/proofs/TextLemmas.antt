@@ -1,18 +1,16 @@
 -- Facts on numbers that digits write, and on the values of a name.
-use Rattle.std.proofs.Common.{◌≡◌, ℕ, zero, suc, ◌+◌, ◌-◌, ◌*◌, ◌<◌, ◌≤◌, Bool, true, false, cond, ◌&&◌, List, [], ◌∷◌, ◌++◌, map, length, get_or, take, drop}
+use Rattle.std.proofs.Common.{◌≡◌, ℕ, zero, suc, ◌+◌, ◌-◌, ◌*◌, ◌<◌, ◌≤◌, Bool, true, false, cond, List, [], ◌∷◌, ◌++◌, length, get_or, take, drop}
 use Rattle.std.proofs.Common.{sym, refl, ap, ◌∙◌, arith}
-use Rattle.std.specs.Prelude.{codes, Ok, Err}
-use Rattle.std.specs.List.{list_all, list_any}
-use Rattle.std.proofs.lemmas.Bool.{and_parts, or_left, or_right, cond-true, cond-false, lt-leb, le-leb}
+use Rattle.std.specs.Prelude.{Ok, Err}
+use Rattle.std.specs.List.{list_all}
+use Rattle.std.proofs.lemmas.Bool.{and_parts, cond-true, cond-false, lt-leb, le-leb}
 use Rattle.std.proofs.lemmas.Bool.Decides.{nat_tests}
 use Rattle.ns_types.specs.declared.reply.HeadFault.TheVariants.{BadHead, TooLarge}
 use Rattle.std.specs.Char.{is_ascii_digit, digit_value}
 use Rattle.std.specs.Str.Parse.{digits_value_after, digits_value}
 use Rattle.std.proofs.Math.Nat.{mul-le-mul_left}
-use Rattle.std.proofs.lemmas.List.{take-append-drop, take_more, map-append}
-use Rattle.httparse.specs.declared.spans.HeaderSpan.{HeaderSpan}
-use Rattle.httparse.specs.Spans.{header_bytes}
-use Rattle.ns_types.specs.Wire.Http.{Header, eq_ignore_case, values_named, is_length, length_of, lists_close, asks_close}
+use Rattle.std.proofs.lemmas.List.{take-append-drop}
+use Rattle.ns_types.specs.Wire.Http.{Header, eq_ignore_case, values_named, is_length, length_of}
 
 -- more digits make no smaller number
 digits_value_after-ge : (radix : ℕ) (ds : List ℕ) (n : ℕ) → 1 ≤ radix → n ≤ digits_value_after radix n ds
@@ -48,13 +46,6 @@ list_all-at p [] i d inside all = absurd (omega arith)
 list_all-at p (x ∷ xs) zero d inside all = (and_parts _ _ all).0
 list_all-at p (x ∷ xs) (suc i) d inside all = list_all-at p xs i d (omega arith) (and_parts _ _ all).1
 
--- one that passes makes the whole pass
-pub list_any-at : {X Y : Type 0} (p : Y → Bool) (f : X → Y) (xs : List X) (i : ℕ) (d : X) → i < length xs → p (f (get_or xs i d)) ≡ true →
-    list_any p (map f xs) ≡ true
-list_any-at p f [] i d inside here = absurd (omega arith)
-list_any-at p f (x ∷ xs) zero d inside here = or_left _ _ here
-list_any-at p f (x ∷ xs) (suc i) d inside here = or_right _ _ (list_any-at p f xs i d (omega arith) here)
-
 pub length_of-bad : (v : List ℕ) → is_length v ≡ false → length_of v ≡ Err BadHead
 unfolding length_of
 length_of-bad v bad = cond-false _ _ _ bad
@@ -71,17 +62,3 @@ pub digit_of_length : (v : List ℕ) (i : ℕ) → is_length v ≡ true → i < 
 digit_of_length v i good inside =
     let digit : is_ascii_digit (get_or v i 0) ≡ true = list_all-at is_ascii_digit v i 0 inside (and_parts _ _ (and_parts _ _ good).1).1 in
     grind (arith, nat_tests)
-
-pub asks_close-any : (minor : ℕ) (hs : List Header) → list_any (λ h. eq_ignore_case h.0 (codes "connection") && lists_close h.1) hs ≡ true →
-    asks_close minor hs ≡ true
-unfolding asks_close
-asks_close-any minor hs any = or_right _ _ any
-
--- the values of a name among the first headers and the next
-pub values_named-more : (name buf : List ℕ) (headers : List HeaderSpan) (i : ℕ) (d : HeaderSpan) → i < length headers →
-    values_named name (map (header_bytes buf) (take (i + 1) headers)) ≡ values_named name (map (header_bytes buf) (take i headers)) ++
-    cond (eq_ignore_case (header_bytes buf (get_or headers i d)).0 name) ((header_bytes buf (get_or headers i d)).1 ∷ []) []
-values_named-more name buf headers i d inside =
-    ap (λ l. values_named name (map (header_bytes buf) l)) (take_more headers i d inside)
-    ∙ ap (values_named name) (map-append (header_bytes buf) (take i headers) (get_or headers i d ∷ []))
-    ∙ values_named-push name (map (header_bytes buf) (take i headers)) (header_bytes buf (get_or headers i d))

@@ -5,10 +5,11 @@ ghost use Rattle.ns_http.specs.Conversation.{streams_between, Conversation, CutS
 ghost use Rattle.ns_http.specs.Counts.{HasGrown, IsOpen, IsWriteFault};
 
 use crate::counting::{Counted, is_interruption};
-use crate::head::{Front, Request, read_front};
+use crate::head::{Front, MAX_HEADERS, Request, read_front};
 use crate::input::{Input, READ_ROOM};
 use crate::output::{Output, WriteFault};
 use crate::response::Outgoing;
+use httparse::spans::{EMPTY_HEADER_SPAN, HeaderSpan};
 use ns_types::reply::Response;
 use std::alloc::{AllocError, Allocator};
 use std::io::{Read, Write};
@@ -90,6 +91,8 @@ enum Progress {
 struct Connection<A: Allocator> {
     input: Input<A>,
     output: Output<A>,
+    /// Where the headers of the last head are.
+    headers: [HeaderSpan; MAX_HEADERS],
     answered: u64,
 }
 
@@ -115,7 +118,7 @@ impl<A: Allocator> Connection<A> {
         ensures open { OnOk result (IsOpen writer.old.counts → IsOpen writer.new.counts) }
         ensures stops { IsOpen writer.old.counts → writer.new.counts.went_on ≡ false }
     {
-        match read_front(self.input.unread()) {
+        match read_front(self.input.unread(), &mut self.headers) {
             Front::Partial(wanted) => Ok(Progress::Waits(wanted)),
             Front::Refused(fault) => {
                 self.output.send(writer, &Outgoing::fault(fault), true)?;
@@ -225,6 +228,7 @@ pub fn serve<A: Allocator + Copy, R: Read, W: Write, H: Answer>(
     let mut connection = Connection {
         input: Input::new(alloc)?,
         output: Output::new(alloc)?,
+        headers: [EMPTY_HEADER_SPAN; MAX_HEADERS],
         answered: 0,
     };
     let mut wanted = 0;

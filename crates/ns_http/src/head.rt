@@ -3,8 +3,8 @@ ghost use Rattle.std.specs.Prelude.{◌+◌, ◌<◌};
 ghost use Rattle.ns_http.specs.Head.{Finds};
 ghost use Rattle.ns_http.specs.HeadStands.{HeadStands};
 
-use crate::header::{asks_close, body_len, token};
-use httparse::spans::{EMPTY_HEADER_SPAN, HeaderSpan, RequestSpans, parse_request};
+use crate::header::Fields;
+use httparse::spans::{HeaderSpan, RequestSpans, parse_request};
 use httparse::{Error, Status};
 use ns_types::reply::HeadFault;
 
@@ -50,7 +50,8 @@ fn with_body<'a>(
     requires { HeadStands bytes.now text.now headers.now head }
     ensures { Finds bytes.now result }
 {
-    match body_len(text, headers) {
+    let fields = Fields::read(text, headers);
+    match fields.body_len() {
         Err(fault) => Front::Refused(fault),
         Ok(len) if bytes.len() - head.len < len => Front::Partial(head.len + len),
         Ok(len) => {
@@ -58,25 +59,24 @@ fn with_body<'a>(
                 method: head.method.of(text),
                 // A head's target is UTF-8 text.
                 target: unsafe { str::from_utf8_unchecked(head.path.of(text)) },
-                token: token(text, headers),
+                token: fields.token(),
                 body: &bytes[head.len..head.len + len],
             };
             Front::Whole {
                 request,
                 len: head.len + len,
-                close: asks_close(text, headers, head.version),
+                close: fields.asks_close(head.version),
             }
         }
     }
 }
 
-/// Reads what stands at the front of the bytes.
-pub(crate) fn read_front(bytes: &[u8]) -> Front<'_>
+/// Reads what stands at the front of the bytes. The places of its headers are written to `headers`.
+pub(crate) fn read_front<'a>(bytes: &'a [u8], headers: &mut [HeaderSpan; MAX_HEADERS]) -> Front<'a>
     ensures { Finds bytes.now result }
 {
-    let mut headers = [EMPTY_HEADER_SPAN; MAX_HEADERS];
     let text = &bytes[..bytes.len().min(MAX_HEAD_LEN)];
-    match parse_request(text, &mut headers) {
+    match parse_request(text, headers) {
         Ok(Status::Complete(head)) => with_body(bytes, text, &headers[..head.headers], head),
         Ok(Status::Partial) if text.len() == MAX_HEAD_LEN => Front::Refused(HeadFault::TooLarge),
         Ok(Status::Partial) => Front::Partial(0),

@@ -3,7 +3,7 @@ ghost use Rattle.std.specs.Prelude.{◌≡◌, ℕ, List, [], ◌∷◌, ◌++�
 ghost use Rattle.std.specs.Option.{option_copied};
 ghost use Rattle.httparse.specs.Grammar.{skip_ows, trim_ows};
 ghost use Rattle.httparse.specs.Spans.{IsHeaderWithin, header_bytes};
-ghost use Rattle.ns_types.specs.Wire.Http.{eq_ignore_case, values_named, first_value, body_len, lists_close, asks_close, token_of, is_length, length_of};
+ghost use Rattle.ns_types.specs.Wire.Http.{Header, eq_ignore_case, first_value, body_len, lists_close, asks_close, token_of, is_length, length_of};
 ghost use Rattle.ns_http.specs.Values.{IsSummaryOf, framing_of};
 
 use httparse::is_space_or_tab;
@@ -50,10 +50,11 @@ impl<'a> HeaderValues<'a> {
     }
 }
 
+/// Whether the texts are equal without regard to case. Most are equal as they stand, or differ in length.
 fn eq_ignore_case(a: &[u8], b: &[u8]) -> bool
     ensures { result ≡ eq_ignore_case a.now b.now }
 {
-    a.eq_ignore_ascii_case(b)
+    a == b || a.eq_ignore_ascii_case(b)
 }
 
 fn trim_start(mut s: &[u8]) -> &[u8]
@@ -92,19 +93,6 @@ fn lists_close(value: &[u8]) -> bool
         .any(|piece| eq_ignore_case(trim_ows(piece), b"close"))
 }
 
-fn values_named<'a>(buf: &'a [u8], headers: &[HeaderSpan], name: &[u8]) -> HeaderValues<'a>
-    requires { All (IsHeaderWithin (length buf.now)) headers.now }
-    ensures { IsSummaryOf result (values_named name.now (map (header_bytes buf.now) headers.now)) }
-{
-    let mut values = HeaderValues::Absent;
-    for header in headers {
-        if eq_ignore_case(header.name.of(buf), name) {
-            values = values.and(header.value.of(buf));
-        }
-    }
-    values
-}
-
 /// Whether these are one to twenty digits.
 fn is_length(digits: &[u8]) -> bool
     ensures { result ≡ is_length digits.now }
@@ -130,16 +118,6 @@ fn parse_len(digits: &[u8]) -> Result<usize, HeadFault>
     Ok(len)
 }
 
-/// How long the body is, or why the head is refused.
-pub(crate) fn body_len(buf: &[u8], headers: &[HeaderSpan]) -> Result<usize, HeadFault>
-    requires { All (IsHeaderWithin (length buf.now)) headers.now }
-    ensures { result ≡ body_len (map (header_bytes buf.now) headers.now) }
-{
-    let lengths = values_named(buf, headers, b"content-length");
-    let codings = values_named(buf, headers, b"transfer-encoding");
-    framing(lengths, codings)
-}
-
 /// How long the body is, by the values of `Content-Length` and of `Transfer-Encoding`.
 fn framing(lengths: HeaderValues<'_>, codings: HeaderValues<'_>) -> Result<usize, HeadFault>
     ensures { result ≡ framing_of lengths.entry codings.entry }
@@ -157,26 +135,73 @@ fn framing(lengths: HeaderValues<'_>, codings: HeaderValues<'_>) -> Result<usize
     }
 }
 
-/// Whether the connection closes after the answer.
-pub(crate) fn asks_close(buf: &[u8], headers: &[HeaderSpan], minor: u8) -> bool
-    requires { All (IsHeaderWithin (length buf.now)) headers.now }
-    ensures { result ≡ asks_close minor (map (header_bytes buf.now) headers.now) }
-{
-    if minor == 0 {
-        return true;
-    }
-    for header in headers {
-        if eq_ignore_case(header.name.of(buf), b"connection") && lists_close(header.value.of(buf)) {
-            return true;
-        }
-    }
-    false
+/// What the engine needs of the fields of a head.
+#[derive(Clone, Copy)]
+pub(crate) struct Fields<'a> {
+    lengths: HeaderValues<'a>,
+    codings: HeaderValues<'a>,
+    tokens: HeaderValues<'a>,
+    /// Whether a `Connection` header lists `close`.
+    closes: bool,
 }
 
-/// The first value of `X-Nomad-Token`.
-pub(crate) fn token<'a>(buf: &'a [u8], headers: &[HeaderSpan]) -> Option<&'a [u8]>
-    requires { All (IsHeaderWithin (length buf.now)) headers.now }
-    ensures { option_copied result ≡ token_of (map (header_bytes buf.now) headers.now) }
-{
-    values_named(buf, headers, b"x-nomad-token").first()
+impl<'a> Fields<'a> {
+    ghost use Rattle.ns_http.specs.Fields.{AreFieldsOf};
+
+    /// Adds the field behind those that came before.
+    fn add(&mut self, name: &[u8], value: &'a [u8])
+        ensures { (headers : List Header) → AreFieldsOf self.old headers
+            → AreFieldsOf self.new (headers ++ (name.now, value.now) ∷ []) }
+    {
+        if eq_ignore_case(name, b"Content-Length") {
+            self.lengths = self.lengths.and(value);
+        } else if eq_ignore_case(name, b"Transfer-Encoding") {
+            self.codings = self.codings.and(value);
+        } else if eq_ignore_case(name, b"X-Nomad-Token") {
+            self.tokens = self.tokens.and(value);
+        } else if eq_ignore_case(name, b"Connection") {
+            self.closes |= lists_close(value);
+        }
+    }
+
+    /// Reads the fields of a head.
+    pub(crate) fn read(buf: &'a [u8], headers: &[HeaderSpan]) -> Fields<'a>
+        requires { All (IsHeaderWithin (length buf.now)) headers.now }
+        ensures { AreFieldsOf result (map (header_bytes buf.now) headers.now) }
+    {
+        let mut fields = Fields {
+            lengths: HeaderValues::Absent,
+            codings: HeaderValues::Absent,
+            tokens: HeaderValues::Absent,
+            closes: false,
+        };
+        for header in headers {
+            fields.add(header.name.of(buf), header.value.of(buf));
+        }
+        fields
+    }
+
+    /// How long the body is, or why the head is refused.
+    pub(crate) fn body_len(&self) -> Result<usize, HeadFault>
+        ensures { (headers : List Header) → AreFieldsOf self.now headers
+            → result ≡ body_len headers }
+    {
+        framing(self.lengths, self.codings)
+    }
+
+    /// Whether the connection closes after the answer.
+    pub(crate) fn asks_close(&self, minor: u8) -> bool
+        ensures { (headers : List Header) → AreFieldsOf self.now headers
+            → result ≡ asks_close minor headers }
+    {
+        minor == 0 || self.closes
+    }
+
+    /// The first value of `X-Nomad-Token`.
+    pub(crate) fn token(&self) -> Option<&'a [u8]>
+        ensures { (headers : List Header) → AreFieldsOf self.now headers
+            → option_copied result ≡ token_of headers }
+    {
+        self.tokens.first()
+    }
 }

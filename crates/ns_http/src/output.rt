@@ -67,6 +67,8 @@ impl<A: Allocator> Output<A> {
         Ok(Output { bytes })
     }
 
+    /// Inlined, so that a constant is copied without a call.
+    #[inline(always)]
     fn put(&mut self, bytes: &[u8])
         requires { vec_len self.old.bytes + length bytes.now ≤ OUTPUT_LEN }
         ensures value { self.new.bytes.items ≡ self.old.bytes.items ++ bytes.now }
