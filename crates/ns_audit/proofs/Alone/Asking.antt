@@ -10,7 +10,7 @@ use Rattle.ns_types.specs.declared.job.Registration.{Registration}
 use Rattle.ns_types.specs.declared.refusal.Refusal.TheVariants as Refusal
 use Rattle.ns_types.specs.declared.reply.Content.TheVariants as Content
 use Rattle.ns_types.specs.declared.step.AskCommand.{AskCommand}
-use Rattle.ns_types.specs.Asking.Asks.{first_refusal, pool_of, document_of, registered_job, registered_with, register, deregistered, index_told, deregister}
+use Rattle.ns_types.specs.Asking.Asks.{first_refusal, pool_of, document_of, registered_job, registered_with, register, deregistered, deregistered_index, deregister}
 use Rattle.ns_types.specs.Asking.Asks.{stop_allocation, asked_in, ask}
 use Rattle.ns_types.specs.Isolation.{Part, alone_in}
 use Rattle.ns_types.specs.Settling.Making.{put_tenant, with_job, with_desired, evaluation_of, evaluation_for, with_evaluation, make_in, make}
@@ -50,7 +50,7 @@ module _ (part : Part) (b : Bool) (ns : Name) (side : part.spaces ns ≡ b) wher
 
     deregistration_goes : (id : Name) (purge : Bool) (t : Tenant) → Goes part w b (deregister ns id purge w t) (deregister ns id purge (alone_in part w) t)
     deregistration_goes id purge t = goes_found part w b (get t.jobs id) _ _ _ (λ _. refl) (λ job _.
-        goes_by part w b (Content.Registered (t.evaluation_number + 1) (t.index + 1) (index_told purge (t.index + 1) job))
+        goes_by part w b (Content.Registered (t.evaluation_number + 1) (t.index + 1) (deregistered_index purge (t.index + 1) job))
         (λ x. make_in ns (evaluation_of id job.document Trigger.JobDeregister) x (deregistered purge id job t))
         (goes_make_in (evaluation_of id job.document Trigger.JobDeregister) (deregistered purge id job t)))
 

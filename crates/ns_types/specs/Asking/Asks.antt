@@ -100,13 +100,14 @@ deregistered true id job t = record t { jobs = remove t.jobs id }
 deregistered false id job t = with_job id (stopped_job (t.index + 1) job) t
 
 -- the modify index in the reply: that of the stopped job or, with purge, the step's index
-abbrev pub index_told : Bool → ℕ → Job → ℕ
-index_told true index job = index
-index_told false index job = (stopped_job index job).modify_index
+abbrev pub deregistered_index : Bool → ℕ → Job → ℕ
+deregistered_index true index job = index
+deregistered_index false index job = (stopped_job index job).modify_index
 
 abbrev pub deregister_job : Name → Name → Bool → World → Tenant → Job → Outcome World
 deregister_job ns id purge w t job =
-    Done (Content.Registered (t.evaluation_number + 1) (t.index + 1) (index_told purge (t.index + 1) job))
+    Done (Content.Registered (t.evaluation_number + 1) (t.index + 1)
+    (deregistered_index purge (t.index + 1) job))
     (make_in ns (evaluation_of id job.document Trigger.JobDeregister) w (deregistered purge id job t))
 
 abbrev pub deregister : Name → Name → Bool → World → Tenant → Outcome World
