@@ -1,5 +1,5 @@
 -- What is looked up of counters, as the program finds it.
-use Rattle.std.specs.Prelude.{◌≡◌, ◌&&◌, Bool, false, [], Option, Some, None, option_map}
+use Rattle.std.specs.Prelude.{◌≡◌, ◌&&◌, Bool, true, false, List, [], ◌∷◌, Option, Some, None, option_map}
 use Rattle.std.proofs.Common.{refl, ap, ◌∙◌}
 use Rattle.std.specs.Option.{option_map_or}
 use Rattle.std.specs.List.{list_any}
@@ -7,7 +7,7 @@ use Rattle.std.specs.FinMap.{entries, get}
 use Rattle.keyed.specs.Table.{row_at}
 use Rattle.ns_types.specs.State.Names.{Name, Key}
 use Rattle.ns_types.specs.State.Rows.{World, Tenant, evaluation_at}
-use Rattle.ns_types.proofs.Lists.{any_alike, each}
+use Rattle.ns_types.proofs.Lists.{any_alike, each, not_both}
 use Rattle.ns_change.specs.declared.change.Change.{Change}
 use Rattle.ns_change.specs.declared.change.PoolChange.{PoolChange}
 use Rattle.ns_change.specs.declared.change.TenantChange.{TenantChange}
@@ -50,6 +50,11 @@ module _ (t : Tables) (name : Name) where
       tenant_passes (world_of t) c (name, x) ≡ option_map_or (passes_in (world_of t) c name y) (option_map tenant_of r) false
   tenant_by c r is x y at = ap (λ x. tenant_passes (world_of t) c (name, x)) at ∙
       at_tenant t name (passes_in (world_of t) c name y) r is
+
+-- a list without elements
+pub empty_by_any : {A : Type 0} (xs : List A) → list_any (λ _. true) xs ≡ false → xs ≡ []
+empty_by_any [] is = refl
+empty_by_any (x ∷ xs) is = not_both refl is
 
 -- where nothing is released, none wakes
 module _ (w : World) (c : Change) where

@@ -50,7 +50,7 @@ use Rattle.ns_counters.proofs.Bounded.{any_row-either, any_with}
 use Rattle.ns_counters.proofs.Indexes.{past_bound_is}
 use Rattle.ns_release.proofs.Rooms.{any_swap, at_row}
 use Rattle.ns_release.proofs.Together.{wakes_by_quotas}
-use Rattle.ns_release.proofs.Woken.{empty_by_any}
+use Rattle.ns_counters.proofs.Passing.{empty_by_any}
 use Rattle.std.proofs.lemmas.Bool.{and_right}
 use Rattle.std.proofs.Math.Bool.{and-false}
 

@@ -1,6 +1,6 @@
 -- The list of blocked evaluations goes along with a step, and when it does.
-use Rattle.std.specs.Prelude.{◌≡◌, ◌<◌, ◌≤◌, Bool, true, false, cond, not, ◌&&◌, List, [], ◌∷◌, ◌++◌, length, map, filter}
-use Rattle.std.specs.Prelude.{Option, Some, None, is_some, option_map}
+use Rattle.std.specs.Prelude.{◌≡◌, ℕ, ◌<◌, ◌≤◌, Bool, true, false, cond, not, ◌&&◌, List, [], ◌∷◌, ◌++◌, length, map, filter}
+use Rattle.std.specs.Prelude.{Option, Some, None, flat_map, is_some, option_map}
 use Rattle.std.proofs.Common.{refl, sym, ap, subst, ◌∙◌, arith, is_eq}
 use Rattle.std.proofs.Math.Bool.{and-false}
 use Rattle.std.specs.Cmp.{tied_itself}
@@ -10,6 +10,7 @@ use Rattle.std.proofs.lemmas.List.Elements.{filter_map-append}
 use Rattle.std.specs.Cmp.Lexicographic.{pointwise}
 use Rattle.std.specs.List.{cons_option, list_all}
 use Rattle.std.specs.Option.{option_eq, option_map_or}
+use Rattle.keyed.specs.Queue.{keys_in}
 use Rattle.ns_blocked.specs.declared.entry.BlockedEvaluation.{BlockedEvaluation}
 use Rattle.ns_blocked.specs.declared.entry.Waits.TheVariants.{Pool, Quota}
 use Rattle.ns_blocked.specs.Blocked.{BlockedList, are_new, entries_of, keys_of}
@@ -18,7 +19,7 @@ use Rattle.ns_change.specs.Changed.{changed_list, without_keys}
 use Rattle.ns_change.specs.Settled.{settled_world}
 use Rattle.ns_change.specs.declared.change.Settled.{Settled}
 use Rattle.ns_queues.specs.After.{NoneMoves, StillUnmoved, any_moves}
-use Rattle.ns_queues.specs.Waiting.{IsBlockedIndex, added_entries, adds_new, entries_for, have_rows, keep_waiting, keeps_list}
+use Rattle.ns_queues.specs.Waiting.{IsBlockedIndex, added_entries, adds_new, entries_at, entries_for, have_rows, keep_waiting, keeps_list}
 use Rattle.ns_queues.specs.Waiting.{moves_entry, rows_alike, waits_alike}
 use Rattle.ns_queues.proofs.Moved.{all_unless_moved}
 use Rattle.ns_tables.specs.World.{world_of}
@@ -99,6 +100,17 @@ has_entry list w w' none key has = rows_are key (evaluation_at w key) (evaluatio
 same_entries : (w w' : World) (keys : List Key) → Each (HasEntry w w') keys → entries_for w keys ≡ entries_for w' keys
 same_entries w w' [] h = refl
 same_entries w w' (key ∷ keys) h = λ i. cons_option (h.0 i) (same_entries w w' keys h.1 i)
+
+put_first : (entry : Option BlockedEvaluation) (entries : List BlockedEvaluation) → cons_option entry [] ++ entries ≡ cons_option entry entries
+put_first None entries = refl
+put_first (Some entry) entries = refl
+
+-- the entries of slots, found slot by slot
+pub entries_are : (w : World) (slots : List (ℕ × Option Key)) → flat_map (entries_at w) slots ≡ entries_for w (keys_in slots)
+entries_are w [] = refl
+entries_are w ((place, None) ∷ slots) = entries_are w slots
+entries_are w ((place, Some key) ∷ slots) = ap (λ l. entries_for w (key ∷ []) ++ l) (entries_are w slots)
+    ∙ put_first (option_map (entry_of key) (evaluation_at w key)) (entries_for w (keys_in slots))
 
 kept_entries : (w : World) (taken keys : List Key) →
     filter (λ e. not (has_key taken e.key)) (entries_for w keys) ≡ entries_for w (without_keys taken keys)

@@ -1,5 +1,6 @@
 -- The index of blocked evaluations beside the tables.
-use Rattle.std.specs.Prelude.{◌≡◌, Bool, not, ◌&&◌, List, Option, is_some, option_map}
+use Rattle.std.specs.Prelude.{◌≡◌, ℕ, Bool, not, ◌&&◌, List, [], ◌∷◌, Option, Some, None, is_some}
+use Rattle.std.specs.Prelude.{option_map}
 use Rattle.std.specs.List.{filter_map, list_all}
 use Rattle.std.specs.Option.{option_eq}
 use Rattle.std.specs.Cmp.Lexicographic.{pointwise}
@@ -23,6 +24,11 @@ pub record IsBlockedIndex (w : World) (list : BlockedList) : Type 0 where
 -- the entries of those keys
 abbrev pub entries_for : World → List Key → List BlockedEvaluation
 entries_for w keys = filter_map (λ key. option_map (entry_of key) (evaluation_at w key)) keys
+
+-- the entry of a slot's key; a vacant slot has none
+abbrev pub entries_at : World → ℕ × Option Key → List BlockedEvaluation
+entries_at w (place, None) = []
+entries_at w (place, Some key) = entries_for w (key ∷ [])
 
 -- the entries of the keys that a step adds, with the rows that the step leaves
 abbrev pub added_entries : World → Settled → List BlockedEvaluation

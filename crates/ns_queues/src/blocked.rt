@@ -1,16 +1,17 @@
 //! The index of blocked evaluations by what they wait for, kept in step with the tables.
 
-ghost use Rattle.std.specs.Prelude.{◌≡◌, ◌&&◌, IfOk, not, option_copied, true};
+ghost use Rattle.std.specs.Prelude.{◌≡◌, ◌++◌, ◌&&◌, IfOk, OnOk, not, option_copied, true};
 ghost use Rattle.std.specs.Cmp.Lexicographic.{pointwise};
 ghost use Rattle.ns_blocked.specs.Blocked.{CanAdd, entries_of, keys_of};
-ghost use Rattle.ns_blocked.specs.Waking.{entry_of, waits_of};
+ghost use Rattle.ns_blocked.specs.Waking.{entries_in, entry_of, waits_of};
 ghost use Rattle.ns_change.specs.Settled.{settled_world};
-ghost use Rattle.ns_queues.specs.Waiting.{IsBlockedIndex, added_entries, keeps_list, moves_entry, rows_alike};
-ghost use Rattle.ns_queues.specs.Waiting.{waits_alike};
+ghost use Rattle.ns_queues.specs.Waiting.{IsBlockedIndex, added_entries, entries_at, keeps_list, moves_entry};
+ghost use Rattle.ns_queues.specs.Waiting.{rows_alike, waits_alike};
 ghost use Rattle.ns_types.specs.State.Names.{same_class};
 ghost use Rattle.ns_tables.specs.World.{world_of};
 
 use crate::after::{WatchesMoves, any_moved, evaluation_after};
+use keyed::NumberSlot;
 use ns_blocked::{BlockedEvaluation, BlockedList, Waits};
 use ns_change::Settled;
 use ns_equality::{same_class, same_flag, same_optional_text};
@@ -42,6 +43,45 @@ fn entry_of(key: &EvalKey, evaluation: &Evaluation) -> Result<BlockedEvaluation,
         escapes: evaluation.escapes,
         infeasible: evaluation.infeasible.clone()?,
     })
+}
+
+/// Adds the entry of the slot's key, with its row in the tables, if it has one.
+fn add_entry(
+    entries: &mut Rows<BlockedEvaluation>,
+    tables: &Tables,
+    slot: &NumberSlot<EvalKey>,
+) -> Result<(), AllocError>
+    ensures { OnOk result (entries.new
+        ≡ entries.old ++ entries_at (world_of tables.now) slot.now) }
+{
+    if let Some(key) = &slot.1 {
+        if let Some(row) = tables.evaluation(key.namespace(), key.number()) {
+            entries.push(entry_of(key, row)?)?;
+        }
+    }
+    Ok(())
+}
+
+/// The entries of the blocked evaluations, in the list's order. A key without a row has none.
+fn entries_in(tables: &Tables) -> Result<Rows<BlockedEvaluation>, AllocError>
+    ensures { IfOk result (λ entries. entries ≡ entries_in (world_of tables.now)) }
+{
+    let mut entries = Rows::new(tables.alloc);
+    for slot in tables.blocked.slots() {
+        add_entry(&mut entries, tables, slot)?;
+    }
+    Ok(entries)
+}
+
+/// A list of the blocked evaluations, made from the tables: it goes through all of them. Want of memory is the only error.
+pub fn blocked_list(tables: &Tables) -> Result<BlockedList, AllocError>
+    ensures { IfOk result (λ list. entries_of list ≡ entries_in (world_of tables.now)) }
+{
+    let entries = entries_in(tables)?;
+    let mut list = BlockedList::new(tables.alloc);
+    list.reserve(entries.as_slice())?;
+    list.append(entries);
+    Ok(list)
 }
 
 /// The entries of the keys that the step adds, with the rows that the step leaves.

@@ -14,4 +14,5 @@ mod ready;
 mod turns;
 
 pub(crate) use after::{WatchesMoves, any_moved, evaluation_after};
+pub use blocked::blocked_list;
 pub use turns::{Coming, Turns};

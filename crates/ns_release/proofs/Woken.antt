@@ -8,7 +8,7 @@ use Rattle.ns_types.specs.declared.evaluation.Evaluation.{Evaluation}
 use Rattle.ns_types.specs.declared.node.Class.{Class}
 use Rattle.ns_types.specs.State.Names.{Name, Key, has_key, same_key, same_name, same_number}
 use Rattle.ns_types.specs.State.Rows.{World, evaluation_at}
-use Rattle.ns_types.proofs.Lists.{any_alike, each, filter_none, not_both}
+use Rattle.ns_types.proofs.Lists.{any_alike, each, filter_none}
 use Rattle.ns_types.proofs.Named.{one_number, same_key_refl, same_name_is}
 use Rattle.ns_types.proofs.Tables.{tied}
 use Rattle.ns_types.specs.Settling.Releases.{wakes_by}
@@ -56,11 +56,6 @@ unfolding changed
 woken_tests w c rooms quotas = filter_members _ _ w.blocked w.blocked (λ k is. is) (λ k is.
     ap (λ b. b && option_map_or (releases_wake w rooms quotas) (evaluation_at w k) false)
     (sym (any_listed (same_key k) w.blocked c.blocked ∙ ap (λ b. b || has_key c.blocked.added k) (left_in c.blocked.taken w.blocked k is))))
-
--- a list without elements
-pub empty_by_any : {A : Type 0} (xs : List A) → list_any (λ _. true) xs ≡ false → xs ≡ []
-empty_by_any [] is = refl
-empty_by_any (x ∷ xs) is = not_both refl is
 
 -- where nothing is released, none wakes
 pub wakes_nothing : (w : World) (key : Key) → releases_wake_at w [] [] key ≡ false

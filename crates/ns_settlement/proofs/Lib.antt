@@ -2,7 +2,6 @@ pub mod Finished
 pub mod Reaching
 pub mod Settling
 pub mod Stamped
-pub mod Waiting
 pub mod Classes
 pub mod Cleared
 pub mod Following

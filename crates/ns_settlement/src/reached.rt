@@ -4,7 +4,8 @@ ghost use Rattle.std.specs.Prelude.{◌≡◌, ◌∷◌, ◌&&◌, [], IfOk, fi
 ghost use Rattle.std.specs.FinMap.{contains_key};
 ghost use Rattle.ns_release.specs.Released.{released_quotas, released_rooms, stays, woken_keys};
 ghost use Rattle.ns_settlement.specs.Reached.{AreOfNames, AreOfRooms, has_room, is_room};
-ghost use Rattle.ns_queues.specs.Waiting.{IsBlockedIndex};
+ghost use Rattle.ns_blocked.specs.Blocked.{entries_of};
+ghost use Rattle.ns_blocked.specs.Waking.{entries_in};
 ghost use Rattle.ns_types.specs.State.Names.{has_class, has_name};
 ghost use Rattle.ns_tables.specs.World.{world_of};
 
@@ -119,7 +120,7 @@ pub fn woken_through(
     rooms: &Rows<ReleasedClass>,
     released: &Rows<Text>,
 ) -> Result<Rows<EvalKey>, AllocError>
-    requires index { IsBlockedIndex (world_of tables.now) list.now }
+    requires entries { entries_of list.now ≡ entries_in (world_of tables.now) }
     requires rooms { rooms.now ≡ released_rooms (world_of tables.now) change.now }
     requires quotas { released.now ≡ released_quotas (world_of tables.now) change.now }
     ensures { IfOk result (λ keys. keys ≡ woken_keys (world_of tables.now) change.now) }

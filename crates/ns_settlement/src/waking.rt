@@ -1,59 +1,23 @@
 //! The evaluations that a step wakes.
 
-ghost use Rattle.std.specs.Prelude.{◌≡◌, ◌++◌, IfOk, OnOk};
-ghost use Rattle.keyed.specs.Queue.{passing_at};
-ghost use Rattle.ns_release.specs.Released.{does_wake, released_quotas, released_rooms, woken_keys};
+ghost use Rattle.std.specs.Prelude.{◌≡◌, IfOk};
+ghost use Rattle.ns_release.specs.Released.{released_quotas, released_rooms, woken_keys};
 ghost use Rattle.ns_queues.specs.Turns.{IsRight};
 ghost use Rattle.ns_tables.specs.World.{world_of};
 
 use crate::reached::woken_through;
 use crate::rooms::ReleasedClass;
-use keyed::NumberSlot;
 use ns_change::Change;
-use ns_queues::Turns;
-use ns_release::{does_wake, releases};
+use ns_queues::{Turns, blocked_list};
 use ns_tables::Tables;
 use ns_types::key::EvalKey;
 use ns_types::rows::Rows;
 use ns_types::text::Text;
 use std::alloc::AllocError;
 
-/// Appends the slot's key, if the step wakes that entry.
-fn add_woken(
-    keys: &mut Rows<EvalKey>,
-    tables: &Tables,
-    change: &Change,
-    slot: &NumberSlot<EvalKey>,
-) -> Result<(), AllocError>
-    ensures { OnOk result (keys.new
-        ≡ keys.old ++ passing_at (does_wake (world_of tables.now) change.now) slot.now) }
-{
-    if let Some(key) = &slot.1 {
-        if does_wake(tables, change, key) {
-            keys.push(key.clone()?)?;
-        }
-    }
-    Ok(())
-}
-
-/// The entries of `blocked`, before the step and after its own change, that its releases wake, in the list's order. It goes
-/// through the list, if the step releases anything.
-fn woken_along(tables: &Tables, change: &Change) -> Result<Rows<EvalKey>, AllocError>
-    ensures { IfOk result (λ keys. keys ≡ woken_keys (world_of tables.now) change.now) }
-{
-    let mut keys = Rows::new(tables.alloc);
-    if !releases(tables, change) {
-        return Ok(keys);
-    }
-    for slot in tables.blocked.slots() {
-        add_woken(&mut keys, tables, change, slot)?;
-    }
-    Ok(keys)
-}
-
 /// The entries of `blocked`, before the step and after its own change, that its releases wake, in the list's order. It looks
-/// them up by what is released if the indexes are known to be right, and goes through the list otherwise. Want of memory is
-/// the only error.
+/// them up by what is released. If the index for that is not known to be right, it first makes one from the tables. Want of
+/// memory is the only error.
 pub fn woken_keys(
     tables: &Tables,
     turns: &Turns,
@@ -66,9 +30,12 @@ pub fn woken_keys(
     requires quotas { released.now ≡ released_quotas (world_of tables.now) change.now }
     ensures { IfOk result (λ keys. keys ≡ woken_keys (world_of tables.now) change.now) }
 {
-    if turns.is_known() {
-        woken_through(tables, turns.blocked(), change, rooms, released)
-    } else {
-        woken_along(tables, change)
+    if rooms.as_slice().is_empty() && released.as_slice().is_empty() {
+        return Ok(Rows::new(tables.alloc));
     }
+    if turns.is_known() {
+        return woken_through(tables, turns.blocked(), change, rooms, released);
+    }
+    let list = blocked_list(tables)?;
+    woken_through(tables, &list, change, rooms, released)
 }

@@ -2,8 +2,7 @@ use Rattle.std.proofs.Common.{sym, ◌∙◌}
 use Rattle.ns_types.proofs.Lists.{left_none, right_none}
 use Rattle.ns_release.specs.Released.{released_quotas, released_rooms}
 use Rattle.ns_tables.specs.World.{world_of}
-use Rattle.ns_release.proofs.Woken.{empty_by_any}
-use Rattle.ns_counters.proofs.Passing.{none_wakes}
+use Rattle.ns_counters.proofs.Passing.{empty_by_any, none_wakes}
 use Rattle.ns_counters.proofs.full.wakings_pass.Goals as goal
 
 pub returns-else-releases : goal.returns-else-releases

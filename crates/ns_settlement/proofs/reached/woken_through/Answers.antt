@@ -12,7 +12,7 @@ returns c =
     let w = world_of c.args.tables.now in
     c.still_there.ensures
     ∙ ap (filter (stays c.args.change.now.blocked)) (c.in_ok-keys.ensures
-    ∙ ap (λ (es : List BlockedEvaluation). woken_by c.in_ok-releases.releases es) c.requires.index.entries)
+    ∙ ap (λ (es : List BlockedEvaluation). woken_by c.in_ok-releases.releases es) c.requires.entries)
     ∙ reached w c.args.rooms.now c.args.released.now c.in_ok-releases.releases
     (subst (λ rooms. AreOfRooms rooms c.in_ok-releases.releases.pools) c.as_slice.ensures c.in_ok-releases.ensures.rooms)
     (subst (λ names. AreOfNames w names c.in_ok-releases.releases.quotas) c.as_slice-2.ensures c.in_ok-releases.ensures.quotas) c.args.change.now
