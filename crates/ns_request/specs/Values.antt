@@ -1,11 +1,17 @@
 -- The values of the parameters that the server knows.
-use Rattle.std.specs.Prelude.{ℕ, List, Option, Some, None, bytes_eq, codes, if◌then◌else◌}
+use Rattle.std.specs.Prelude.{ℕ, Box, List, Option, Some, None, bytes_eq, codes, if◌then◌else◌}
+use Rattle.std.specs.declared.alloc.Global.{Global}
 use Rattle.std.specs.Option.{option_or}
 use Rattle.ns_request.specs.declared.parameters.QueryValues.{QueryValues}
 use Rattle.ns_request.specs.Parameters.{parameter}
 
 abbrev pub no_values : QueryValues
 no_values = record { namespace = None; filter = None; per_page = None; next_token = None; index = None; prefix = None; purge = None }
+
+-- the values that are kept, or no values where none are kept
+abbrev pub or_no_values : Option (Box QueryValues Global) → QueryValues
+or_no_values None = no_values
+or_no_values (Some kept) = kept.value
 
 -- the values of these parameters in the query
 abbrev pub values_of : List ℕ → QueryValues

@@ -40,7 +40,7 @@ fn keep_first(alloc: Global, kept: &mut Option<Text>, value: &str) -> Result<(),
 }
 
 impl QueryValues {
-    ghost use Rattle.ns_request.specs.Values.{no_values, values_of, values_with};
+    ghost use Rattle.ns_request.specs.Values.{no_values, or_no_values, values_of, values_with};
 
     /// Keeps the value of a parameter that the server knows, if it has none yet. Want of memory is the only error.
     fn keep(&mut self, alloc: Global, name: &str, value: &str) -> Result<(), AllocError>
@@ -70,16 +70,16 @@ impl QueryValues {
         Ok(())
     }
 
-    /// Reads the values of the query. Want of memory is the only error.
-    pub fn read(alloc: Global, text: &str) -> Result<QueryValues, AllocError>
-        ensures { IfOk result (λ values. values ≡ values_of text.now) }
+    /// Reads the values of the query, none if it is empty. Want of memory is the only error.
+    pub fn read(alloc: Global, text: &str) -> Result<Option<Box<QueryValues>>, AllocError>
+        ensures { IfOk result (λ values. or_no_values values ≡ values_of text.now) }
     {
-        let mut values = NO_VALUES;
         if text.is_empty() {
-            return Ok(values);
+            return Ok(None);
         }
+        let mut values = Box::new(alloc, NO_VALUES)?;
         match values.keep_all(alloc, text) {
-            Ok(()) => Ok(values),
+            Ok(()) => Ok(Some(values)),
             Err(error) => {
                 drop(values);
                 Err(error)

@@ -19,10 +19,20 @@ use std::alloc::{AllocError, Global};
 use std::marker::Model;
 
 /// The parameters of a query, read once. Contracts see the query.
-#[derive(Drop)]
 pub struct Query<'a> {
     text: &'a str,
-    values: QueryValues,
+    /// The values, or none if no parameter was given. They are behind a pointer, since most requests have no query, and the
+    /// query is moved along with its request.
+    values: Option<Box<QueryValues>>,
+}
+
+impl<'a> Drop for Query<'a> {
+    fn drop(self) {
+        let Query {
+            text: _,
+            values: _values,
+        } = self;
+    }
 }
 
 impl<'a> Model for Query<'a> {
@@ -31,11 +41,11 @@ impl<'a> Model for Query<'a> {
     ghost Value = { List ℕ };
 
     ghost use Rattle.std.specs.Prelude.{◌≡◌};
-    ghost use Rattle.ns_request.specs.Values.{values_of};
+    ghost use Rattle.ns_request.specs.Values.{or_no_values, values_of};
 
     ghost view = { λ query. query.text.now };
 
-    ghost invariant = { λ query. query.values ≡ values_of query.text.now };
+    ghost invariant = { λ query. or_no_values query.values ≡ values_of query.text.now };
 }
 
 /// Whether the value asks for all namespaces at once.
@@ -99,7 +109,9 @@ impl<'a> Query<'a> {
     pub fn is_unserved(&self, endpoint: Endpoint, method: Option<Method>) -> bool
         ensures { result ≡ is_unserved endpoint method self.now }
     {
-        let values = &self.values;
+        let Some(values) = &self.values else {
+            return false;
+        };
         if is_star(values.namespace.as_ref())
             || is_given(values.filter.as_ref())
             || is_given(values.per_page.as_ref())
@@ -119,7 +131,10 @@ impl<'a> Query<'a> {
     pub fn namespace(&self, alloc: Global) -> Result<Option<Text>, Refusal>
         ensures { Gives same result (namespace_in self.now) }
     {
-        let Some(value) = &self.values.namespace else {
+        let Some(values) = &self.values else {
+            return Ok(None);
+        };
+        let Some(value) = &values.namespace else {
             return Ok(None);
         };
         let text = value.as_str();
@@ -136,7 +151,10 @@ impl<'a> Query<'a> {
     pub fn prefix(&self) -> &str
         ensures { result.now ≡ prefix_of self.now }
     {
-        match &self.values.prefix {
+        let Some(values) = &self.values else {
+            return "";
+        };
+        match &values.prefix {
             Some(value) => value.as_str(),
             None => "",
         }
@@ -147,7 +165,10 @@ impl<'a> Query<'a> {
     pub fn purge(&self) -> Result<bool, Refusal>
         ensures { Gives same result (purge_in self.now) }
     {
-        let Some(value) = &self.values.purge else {
+        let Some(values) = &self.values else {
+            return Ok(false);
+        };
+        let Some(value) = &values.purge else {
             return Ok(false);
         };
         let text = value.as_str();
@@ -165,7 +186,10 @@ impl<'a> Query<'a> {
     pub fn index(&self) -> Result<u64, Refusal>
         ensures { Gives same result (index_in self.now) }
     {
-        let Some(value) = &self.values.index else {
+        let Some(values) = &self.values else {
+            return Ok(0);
+        };
+        let Some(value) = &values.index else {
             return Ok(0);
         };
         match number_of(value.as_str()) {
