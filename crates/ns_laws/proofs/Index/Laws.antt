@@ -4,7 +4,7 @@ use Rattle.std.specs.Prelude.{drop, zero, suc, filter, find, is_some, map, nat_l
 use Rattle.std.proofs.Common.{refl, sym, ap, subst, ◌∙◌, inl, inr, arith}
 use Rattle.std.specs.FinMap.{get, entries, from_entries, get-empty, contains_key, empty}
 use Rattle.std.specs.List.{list_any, list_all}
-use Rattle.std.specs.Option.{option_map_or, option_eq, option_or}
+use Rattle.std.specs.Option.{option_map_or, option_or}
 use Rattle.std.specs.Ordering.{nat_cmp}
 use Rattle.std.proofs.lemmas.Bool.{leb-true}
 use Rattle.ns_types.specs.declared.allocation.Allocation.{Allocation}
@@ -53,6 +53,7 @@ use Rattle.ns_laws.proofs.Elements.{Has, append_has, contains_from, filter_has, 
 use Rattle.ns_laws.proofs.Index.BegunRows.{BeginsIn, Begun, Ends, IsDated, act_begins, ends, goes, stays}
 use Rattle.ns_laws.proofs.Index.Stamps.{changed_row, dated_allocation, dated_evaluation, row_changed}
 use Rattle.ns_laws.proofs.Index.Stamps.{each_row_topic, no_map, no_row_topic, none_kept, row_topic}
+use Rattle.ns_laws.proofs.Refusal.Tests.{same_options}
 use Rattle.ns_audit.proofs.StepLemmas.{made, refusal_leaves_all}
 
 -- ---- rows that are not changed
@@ -121,12 +122,6 @@ flag_one true false e = not_both e refl
 flag_one false true e = not_both e refl
 flag_one false false e = refl
 
-option_one : {X : Type 0} (same : X → X → Bool) → ((a b : X) → same a b ≡ true → a ≡ b) → (a b : Option X) → option_eq same a b ≡ true → a ≡ b
-option_one same is None None e = refl
-option_one same is None (Some b) e = not_both e refl
-option_one same is (Some a) None e = not_both e refl
-option_one same is (Some a) (Some b) e = ap Some (is a b e)
-
 resources_one : (a b : Resources) → same_resources a b ≡ true → a ≡ b
 resources_one a b e = same_amounts a b (λ r. tied one_number (quantity r a) (quantity r b) (true_at (λ r. same_number (quantity r a) (quantity r b)) e r))
 
@@ -168,9 +163,9 @@ same_evaluation_was old n a b was e =
       pool = sym (same_name_is a.pool b.pool four.1);
       trigger = sym (trigger_one a.trigger b.trigger five.1);
       status = sym (status_one a.status b.status six.1);
-      previous = sym (option_one same_number (tied one_number) a.previous b.previous seven.1);
-      follower = sym (option_one same_number (tied one_number) a.follower b.follower eight.1);
-      quota = sym (option_one same_name same_name_is a.quota b.quota nine.1);
+      previous = sym (same_options same_number (tied one_number) a.previous b.previous seven.1);
+      follower = sym (same_options same_number (tied one_number) a.follower b.follower eight.1);
+      quota = sym (same_options same_name same_name_is a.quota b.quota nine.1);
       escapes = sym (flag_one a.escapes b.escapes ten.1);
     }
 

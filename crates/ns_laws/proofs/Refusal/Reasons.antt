@@ -1,7 +1,9 @@
 -- The refusals of each request: each has a reason, and the first reason counts.
-use Rattle.std.specs.Prelude.{◌≡◌, ◌≤◌, ℕ, Bool, true, false, cond, not, ◌&&◌, ◌||◌, List, Option, Some, None, Ok, Err, is_some, nat_le}
+use Rattle.std.specs.Prelude.{◌≡◌, ◌≤◌, ℕ, Bool, true, false, cond, not, ◌&&◌, ◌||◌, Decides, List, Option, Some, None, Ok, Err, is_some, nat_le}
 use Rattle.std.proofs.Common.{◌⊎◌, inl, inr, refl, sym, ap, subst, ◌∙◌, arith}
-use Rattle.std.proofs.lemmas.Bool.{leb-true, le-leb, or_right}
+use Rattle.std.proofs.lemmas.Bool.{and_from, false_from_ne_true, leb-true, le-leb, or_cases, or_left, or_right}
+use Rattle.std.proofs.lemmas.Bool.Decides.{Decides-at, Decides-or}
+use mathlib.Core.Bool.{or_assoc}
 use Rattle.std.specs.FinMap.{get, len, contains_key}
 use Rattle.std.specs.List.{list_all}
 use Rattle.std.specs.Option.{option_map_or, option_and_then}
@@ -38,16 +40,16 @@ use Rattle.ns_types.specs.Steps.{act, after, concluded, is_allowed, is_past_boun
 use Rattle.ns_types.proofs.Lists.{not_both}
 use Rattle.ns_types.proofs.Named.{names, one_name, first_of_both, second_of_both, same_name_is, same_name_refl}
 use Rattle.ns_types.proofs.Registrations.{by_tests}
-use Rattle.ns_types.proofs.Tests.{either_of, is_no, is_yes, not_Some, same_Some}
+use Rattle.ns_types.proofs.Tests.{is_no, is_yes, not_Some, same_Some}
 use Rattle.ns_audit.specs.Refusals.{SpeaksAgainst, rank, is_past_after, would_pass_bound}
 use Rattle.ns_laws.specs.Reasons as law
 use Rattle.ns_laws.specs.Reasons.{HasReason, IsActive, IsFullFor, IsMissing, IsNoSuccessor, IsUnknown, IsConflict, IsInUse, LacksRoom}
 use Rattle.ns_laws.specs.Reasons.{KeepsNamespace, KeepsPool, NamesPool, NeedsOld, NotOnNode, NoTokenHas, MissesRecord, MissesNode, MissesRow}
 use Rattle.ns_audit.proofs.RefusalLemmas.{after_allowed, never, only, same_refusal, worker_acts}
 use Rattle.ns_laws.proofs.Refusal.Registration.{first_refusal_of_register, other_against, room_against}
-use Rattle.ns_laws.proofs.Refusal.Tests.{Exceeds, Has, Outside, Passing, Row, Tells, both_hold, first_holds, left_holds, may_not_become, no_successor}
-use Rattle.ns_laws.proofs.Refusal.Tests.{same_client_is, tells_absent, tells_active, tells_exceeds, tells_full, tells_named, tells_names}
-use Rattle.ns_laws.proofs.Refusal.Tests.{tells_needs, tells_option, tells_outside, tells_plainly, tells_rows, tells_same}
+use Rattle.ns_laws.proofs.Refusal.Tests.{Exceeds, Has, Outside, Passing, Row, decides_absent, decides_active, decides_any, decides_exceeds, decides_full}
+use Rattle.ns_laws.proofs.Refusal.Tests.{decides_named, decides_names, decides_needs, decides_option, decides_outside, decides_rows, decides_same}
+use Rattle.ns_laws.proofs.Refusal.Tests.{may_not_become, no_successor, same_client_is}
 use Rattle.ns_audit.proofs.RightsLemmas.{denied_without}
 use Rattle.ns_laws.proofs.Scope.Sharing.{found_in, has_contained}
 use Rattle.ns_audit.proofs.StepLemmas.{same_answer, not_refused, not_said}
@@ -119,38 +121,15 @@ none_there none is = absurd (not_Some _ (sym none ∙ is))
 
 -- ---- more tests
 
-tells_either : {P Q : Type 0} (a b : Bool) → Tells a P → Tells b Q → Tells (a || b) (P ⊎ Q)
-tells_either {P = P} {Q = Q} a b p q = record { why = λ e. by (either_of a b e); holds = holds }
-  where
-    by : (a ≡ true) ⊎ (b ≡ true) → P ⊎ Q
-    by (inl e) = inl (p.why e)
-    by (inr e) = inr (q.why e)
-
-    holds : P ⊎ Q → (a || b) ≡ true
-    holds (inl x) = left_holds a b (p.holds x)
-    holds (inr y) = or_right a b (q.holds y)
-
-grouped : (a b c : Bool) → (a || b || c) ≡ true → (a ≡ true) ⊎ ((b || c) ≡ true)
-grouped true b c e = inl refl
-grouped false true c e = inr refl
-grouped false false c e = inr e
-
-rest_holds : (a b c : Bool) → (b || c) ≡ true → (a || b || c) ≡ true
-rest_holds true b c e = refl
-rest_holds false b c e = e
-
-pub tells_quota : (quota : Name) (namespace : Namespace) → Tells (names_quota quota namespace) (namespace.quota ≡ Some quota)
-tells_quota quota namespace = record {
-  why = λ e. by namespace.quota e;
-  holds = λ e. ap (λ o. option_map_or (same_name quota) o false) e ∙ same_name_refl quota;
-}
+pub decides_quota : (quota : Name) (namespace : Namespace) → Decides (names_quota quota namespace) (namespace.quota ≡ Some quota)
+decides_quota quota namespace = (by namespace.quota, (λ e. ap (λ o. option_map_or (same_name quota) o false) e ∙ same_name_refl quota))
   where
     by : (o : Option Name) → option_map_or (same_name quota) o false ≡ true → o ≡ Some quota
     by None e = not_both e refl
     by (Some q) e = ap Some (sym (same_name_is quota q e))
 
 absent : {A : Type 0} (o : Option A) → is_some o ≡ false → o ≡ None
-absent o e = (tells_absent o).why (ap not e)
+absent o e = (decides_absent o).0 (ap not e)
 
 present : {A : Type 0} (o : Option A) → is_some o ≡ true → Has (λ (x : A). Unit {0}) o
 present None e = not_both e refl
@@ -203,7 +182,7 @@ module _ (s : State) where
         (λ e. HasReason.conflict (IsConflict.not_live a (here n a there) (is_no (is_live a) e))) (λ _. tt))
     asked_why AskCommand.ReadNamespace = tt
     asked_why (AskCommand.QuotaUsage quota) = holds_if _ (names_quota quota t.namespace) _ _ (λ _. tt)
-        (λ e. missing_row (AskCommand.QuotaUsage quota) (λ same. not_both ((tells_quota quota t.namespace).holds same) e))
+        (λ e. missing_row (AskCommand.QuotaUsage quota) (λ same. not_both ((decides_quota quota t.namespace).1 same) e))
     asked_why (AskCommand.Events index) = tt
 
   -- ---- in a pool
@@ -220,18 +199,18 @@ module _ (s : State) where
 
     elsewhere : (name : Name) (r : Report) (a : Allocation) → allocation_at s.world (r.namespace, r.number) ≡ Some a → is_on pool name a ≡ false →
         NotOnNode pool name r s.world
-    elsewhere name r a there off b at own here = not_both (both_hold (same_name pool b.pool) (same_name name b.node)
-        ((tells_same pool b.pool).holds (sym own)) ((tells_same name b.node).holds (sym here)))
+    elsewhere name r a there off b at own here = not_both (and_from (same_name pool b.pool) (same_name name b.node)
+        ((decides_same pool b.pool).1 own) ((decides_same name b.node).1 here))
         (ap (is_on pool name) (same_Some b a (sym at ∙ there)) ∙ off)
 
     pool_why : (command : NodeCommand) → Holds (InPool command) (asked_in_pool pool command s.world p)
     pool_why NodeCommand.ReadPool = tt
     pool_why NodeCommand.ListNodes = tt
     pool_why (NodeCommand.PutNode name offer) = holds_unless _ (not (is_within (node_load s.world pool name) offer.capacity)) Refusal.InUse _
-        (λ e. let x : Exceeds (node_load s.world pool name) offer.capacity = (tells_exceeds (node_load s.world pool name) offer.capacity).why e in
+        (λ e. let x : Exceeds (node_load s.world pool name) offer.capacity = (decides_exceeds (node_load s.world pool name) offer.capacity).0 e in
         HasReason.in_use (IsInUse.put_node x.resource x.more))
         (λ _. holds_unless _ (not (contains_key p.nodes name) && nat_le most_nodes (len p.nodes)) Refusal.Full _
-        (λ e. HasReason.no_room (LacksRoom.nodes p is ((tells_full p.nodes name most_nodes).why e))) (λ _. tt))
+        (λ e. HasReason.no_room (LacksRoom.nodes p is ((decides_full p.nodes name most_nodes).0 e))) (λ _. tt))
     pool_why (NodeCommand.DeleteNode name) = holds_found _ (get p.nodes name) _ (λ e. missing_node (NodeCommand.DeleteNode name) (node_here name None e))
         (λ node at. holds_unless _ (is_ready node.status) Refusal.InUse _
         (λ e. HasReason.in_use (IsInUse.delete_node node (node_here name (Some node) at) (is_ready_node node.status e))) (λ _. tt))
@@ -250,52 +229,55 @@ module _ (s : State) where
 
   -- ---- of administrators
 
-  tells_no_quota : (namespace : Namespace) → Tells (lacks_quota s.world namespace) (Has (λ (q : Name). get s.world.quotas q ≡ None) namespace.quota)
-  tells_no_quota namespace = tells_option (λ q. not (contains_key s.world.quotas q)) (λ q. get s.world.quotas q ≡ None)
-      (λ q. tells_absent (get s.world.quotas q)) namespace.quota
+  decides_no_quota : (namespace : Namespace) → Decides (lacks_quota s.world namespace) (Has (λ (q : Name). get s.world.quotas q ≡ None) namespace.quota)
+  decides_no_quota namespace = decides_option (λ q. not (contains_key s.world.quotas q)) (λ q. get s.world.quotas q ≡ None)
+      (λ q. decides_absent (get s.world.quotas q)) namespace.quota
 
-  tells_no_pool : (namespace : Namespace) → Tells (lacks_allowed s.world namespace) (Has (Outside (contains_key s.world.pools)) namespace.allowed)
-  tells_no_pool namespace = tells_option (λ allowed. not (list_all (contains_key s.world.pools) allowed)) (Outside (contains_key s.world.pools))
-      (λ allowed. tells_outside (contains_key s.world.pools) allowed) namespace.allowed
+  decides_no_pool : (namespace : Namespace) → Decides (lacks_allowed s.world namespace) (Has (Outside (contains_key s.world.pools)) namespace.allowed)
+  decides_no_pool namespace = decides_option (λ allowed. not (list_all (contains_key s.world.pools) allowed)) (Outside (contains_key s.world.pools))
+      (λ allowed. decides_outside (contains_key s.world.pools) allowed) namespace.allowed
 
-  tells_old : (name : Name) (namespace : Namespace) →
-      Tells (option_map_or (forbids_put namespace) (get s.world.tenants name) false) (Has (NeedsOld namespace) (get s.world.tenants name))
-  tells_old name namespace = tells_option (forbids_put namespace) (NeedsOld namespace) (tells_needs namespace) (get s.world.tenants name)
+  decides_old : (name : Name) (namespace : Namespace) →
+      Decides (option_map_or (forbids_put namespace) (get s.world.tenants name) false) (Has (NeedsOld namespace) (get s.world.tenants name))
+  decides_old name namespace = decides_option (forbids_put namespace) (NeedsOld namespace) (decides_needs namespace) (get s.world.tenants name)
 
-  tells_job : (t : Tenant) → Tells (any_row (λ _ (job : Job). true) t.jobs) (Row (λ id (job : Job). true ≡ true) t.jobs)
-  tells_job t = tells_rows names one_name (λ _ job. true) (λ id job. true ≡ true) (λ id job. tells_plainly true) t.jobs
+  abbrev has_job : Tenant → Bool
+  has_job t = any_row (λ _ (job : Job). true) t.jobs
 
-  tells_node : (p : PoolRows) → Tells (any_row (λ _ (node : Node). true) p.nodes) (Row (λ name (node : Node). true ≡ true) p.nodes)
-  tells_node p = tells_rows names one_name (λ _ node. true) (λ name node. true ≡ true) (λ name node. tells_plainly true) p.nodes
+  -- a namespace that has a job or is active
+  decides_kept : (t : Tenant) → Decides (has_job t || has_open t || has_live t) (Row (λ id (job : Job). true ≡ true) t.jobs ⊎ IsActive t)
+  decides_kept t = Decides-at (has_job t || has_open t || has_live t) (has_job t || (has_open t || has_live t))
+      (or_assoc (has_job t) (has_open t) (has_live t)) (Decides-or (has_job t) (has_open t || has_live t)
+      (decides_any names one_name (λ _ (job : Job). true) t.jobs) (decides_active t))
 
-  tells_quotas : (name : Name) → Tells (any_row (λ _ (t : Tenant). names_quota name t.namespace) s.world.tenants)
+  decides_nodes : (p : PoolRows) → Decides (any_row (λ _ (node : Node). true) p.nodes) (Row (λ name (node : Node). true ≡ true) p.nodes)
+  decides_nodes p = decides_any names one_name (λ _ (node : Node). true) p.nodes
+
+  decides_quotas : (name : Name) → Decides (any_row (λ _ (t : Tenant). names_quota name t.namespace) s.world.tenants)
       (Row (λ ns (t : Tenant). t.namespace.quota ≡ Some name) s.world.tenants)
-  tells_quotas name = tells_rows names one_name (λ _ t. names_quota name t.namespace) (λ ns t. t.namespace.quota ≡ Some name)
-      (λ ns t. tells_quota name t.namespace) s.world.tenants
+  decides_quotas name = decides_rows names one_name (λ _ (t : Tenant). names_quota name t.namespace) (λ ns t. t.namespace.quota ≡ Some name)
+      (λ ns t. decides_quota name t.namespace) s.world.tenants
 
   abbrev TakesPool : Name → Tenant → Type 0
   TakesPool name t = ((t.namespace.default_pool ≡ name) ⊎ Has (λ (allowed : List Name). has_name allowed name ≡ true) t.namespace.allowed)
       ⊎ Passing (same_name name) (NamesPool t)
 
-  tells_takes : (name : Name) (t : Tenant) → Tells (names_pool name t.namespace || looks_to_pool (same_name name) t) (TakesPool name t)
-  tells_takes name t =
-      tells_either (names_pool name t.namespace) (looks_to_pool (same_name name) t) (tells_named name t.namespace) (tells_names (same_name name) t)
+  decides_takes : (name : Name) (t : Tenant) → Decides (names_pool name t.namespace || looks_to_pool (same_name name) t) (TakesPool name t)
+  decides_takes name t =
+      Decides-or (names_pool name t.namespace) (looks_to_pool (same_name name) t) (decides_named name t.namespace) (decides_names (same_name name) t)
 
-  tells_pool : (name : Name) → Tells (is_pool_in_use name s.world) (Row (λ ns (t : Tenant). TakesPool name t) s.world.tenants)
-  tells_pool name = tells_rows names one_name (λ _ t. names_pool name t.namespace || looks_to_pool (same_name name) t) (λ ns t. TakesPool name t)
-      (λ ns t. tells_takes name t) s.world.tenants
+  decides_pool : (name : Name) → Decides (is_pool_in_use name s.world) (Row (λ ns (t : Tenant). TakesPool name t) s.world.tenants)
+  decides_pool name = decides_rows names one_name (λ _ (t : Tenant). names_pool name t.namespace || looks_to_pool (same_name name) t) (λ ns t. TakesPool name t)
+      (λ ns t. decides_takes name t) s.world.tenants
 
   takes_pool : (name ns : Name) (t : Tenant) → get s.world.tenants ns ≡ Some t → TakesPool name t → KeepsPool s name
   takes_pool name ns t is (inl (inl same)) = KeepsPool.default_pool ns t is same
   takes_pool name ns t is (inl (inr h)) = KeepsPool.allowed_pool ns t h.thing is h.is_thing (found_in h.thing name h.holds)
   takes_pool name ns t is (inr p) = KeepsPool.named ns t is (subst (NamesPool t) (sym (same_name_is name p.pool p.passing)) p.holds)
 
-  tells_accessor : (accessor : Name) → Tells (has_accessor s.acl accessor) (Row (λ secret (token : Token). token.accessor ≡ accessor) s.acl.tokens)
-  tells_accessor accessor = tells_rows names one_name (λ _ token. same_name accessor token.accessor) (λ secret token. token.accessor ≡ accessor)
-      (λ secret token. record {
-        why = λ e. sym (same_name_is accessor token.accessor e);
-        holds = λ e. (tells_same accessor token.accessor).holds (sym e);
-      }) s.acl.tokens
+  decides_accessor : (accessor : Name) → Decides (has_accessor s.acl accessor) (Row (λ secret (token : Token). token.accessor ≡ accessor) s.acl.tokens)
+  decides_accessor accessor = decides_rows names one_name (λ _ (token : Token). same_name accessor token.accessor) (λ secret token. token.accessor ≡ accessor)
+      (λ secret token. decides_same accessor token.accessor) s.acl.tokens
 
   no_token : (accessor : Name) → secret_of s.acl accessor ≡ None → NoTokenHas accessor s
   no_token accessor none other row at same = none_there none (ap (secret_of s.acl) (sym same) ∙ (secret_is s.acl other row at).1)
@@ -310,25 +292,24 @@ module _ (s : State) where
     put_why : (name : Name) (namespace : Namespace) → Holds (ByAdmin (AdminCommand.PutNamespace name namespace)) (put_namespace name namespace s.world)
     unfolding put_namespace
     put_why name namespace = holds_unless _ (lacks_quota s.world namespace) (Refusal.BadField Member.Quota) _
-        (λ e. let h : Has (λ (q : Name). get s.world.quotas q ≡ None) namespace.quota = (tells_no_quota namespace).why e in
+        (λ e. let h : Has (λ (q : Name). get s.world.quotas q ≡ None) namespace.quota = (decides_no_quota namespace).0 e in
         HasReason.unknown (IsUnknown.quota h.thing h.is_thing h.holds))
         (λ _. holds_unless _ (lacks_pool s.world namespace.default_pool) (Refusal.BadField Member.Default) _
-        (λ e. HasReason.unknown (IsUnknown.default_pool ((tells_absent (get s.world.pools namespace.default_pool)).why e)))
+        (λ e. HasReason.unknown (IsUnknown.default_pool ((decides_absent (get s.world.pools namespace.default_pool)).0 e)))
         (λ _. holds_unless _ (lacks_allowed s.world namespace) (Refusal.BadField Member.Allowed) _
-        (λ e. let h : Has (Outside (contains_key s.world.pools)) namespace.allowed = (tells_no_pool namespace).why e in
+        (λ e. let h : Has (Outside (contains_key s.world.pools)) namespace.allowed = (decides_no_pool namespace).0 e in
         HasReason.unknown (IsUnknown.allowed_pool h.thing h.holds.name h.is_thing (found_in h.thing h.holds.name h.holds.listed)
         (absent (get s.world.pools h.holds.name) h.holds.fails)))
         (λ _. holds_unless _ (option_map_or (forbids_put namespace) (get s.world.tenants name) false) Refusal.InUse _
-        (λ e. let h : Has (NeedsOld namespace) (get s.world.tenants name) = (tells_old name namespace).why e in
+        (λ e. let h : Has (NeedsOld namespace) (get s.world.tenants name) = (decides_old name namespace).0 e in
         HasReason.in_use (IsInUse.put_namespace h.thing h.is_thing h.holds))
         (λ _. holds_unless _ (is_full s.world.tenants name) Refusal.Full _
-        (λ e. HasReason.no_room (LacksRoom.namespaces ((tells_full s.world.tenants name most_rows).why e))) (λ _. tt)))))
+        (λ e. HasReason.no_room (LacksRoom.namespaces ((decides_full s.world.tenants name most_rows).0 e))) (λ _. tt)))))
 
     keeps_namespace : (name : Name) (t : Tenant) → get s.world.tenants name ≡ Some t →
-        (any_row (λ _ (job : Job). true) t.jobs ≡ true) ⊎ ((has_open t || has_live t) ≡ true) → KeepsNamespace s name
-    keeps_namespace name t is (inl e) = let r : Row (λ id (job : Job). true ≡ true) t.jobs = (tells_job t).why e in
-        KeepsNamespace.a_job t r.key r.row is r.is_row
-    keeps_namespace name t is (inr e) = KeepsNamespace.active t is ((tells_active t).why e)
+        Row (λ id (job : Job). true ≡ true) t.jobs ⊎ IsActive t → KeepsNamespace s name
+    keeps_namespace name t is (inl r) = KeepsNamespace.a_job t r.key r.row is r.is_row
+    keeps_namespace name t is (inr active) = KeepsNamespace.active t is active
 
     delete_why : (name : Name) → Holds (ByAdmin (AdminCommand.DeleteNamespace name)) (delete_namespace name s.world)
     unfolding delete_namespace
@@ -336,22 +317,21 @@ module _ (s : State) where
         (λ t is. holds_unless _ (same_name name default_name) Refusal.InUse _
         (λ e. HasReason.in_use (IsInUse.delete_namespace (KeepsNamespace.by_default (same_name_is name default_name e))))
         (λ _. holds_unless _ (any_row (λ _ (job : Job). true) t.jobs || has_open t || has_live t) Refusal.InUse _
-        (λ e. HasReason.in_use (IsInUse.delete_namespace (keeps_namespace name t is
-        (grouped (any_row (λ _ (job : Job). true) t.jobs) (has_open t) (has_live t) e))))
+        (λ e. HasReason.in_use (IsInUse.delete_namespace (keeps_namespace name t is ((decides_kept t).0 e))))
         (λ _. tt)))
 
     delete_quota_why : (name : Name) → Holds (ByAdmin (AdminCommand.DeleteQuota name)) (delete_quota name s.world)
     unfolding delete_quota
     delete_quota_why name = holds_found _ (get s.world.quotas name) _ (missing_record (AdminCommand.DeleteQuota name))
         (λ q is. holds_unless _ (any_row (λ _ (t : Tenant). names_quota name t.namespace) s.world.tenants) Refusal.InUse _
-        (λ e. let r : Row (λ ns (t : Tenant). t.namespace.quota ≡ Some name) s.world.tenants = (tells_quotas name).why e in
+        (λ e. let r : Row (λ ns (t : Tenant). t.namespace.quota ≡ Some name) s.world.tenants = (decides_quotas name).0 e in
         HasReason.in_use (IsInUse.delete_quota r.key r.row r.is_row r.holds)) (λ _. tt))
 
     keeps_pool : (name : Name) (p : PoolRows) → get s.world.pools name ≡ Some p →
         (any_row (λ _ (node : Node). true) p.nodes ≡ true) ⊎ (is_pool_in_use name s.world ≡ true) → KeepsPool s name
-    keeps_pool name p is (inl e) = let r : Row (λ node (row : Node). true ≡ true) p.nodes = (tells_node p).why e in
+    keeps_pool name p is (inl e) = let r : Row (λ node (row : Node). true ≡ true) p.nodes = (decides_nodes p).0 e in
         KeepsPool.a_node r.key r.row (node_here name secret p is r.key (Some r.row) r.is_row)
-    keeps_pool name p is (inr e) = let r : Row (λ ns (t : Tenant). TakesPool name t) s.world.tenants = (tells_pool name).why e in
+    keeps_pool name p is (inr e) = let r : Row (λ ns (t : Tenant). TakesPool name t) s.world.tenants = (decides_pool name).0 e in
         takes_pool name r.key r.row r.is_row r.holds
 
     delete_pool_why : (name : Name) → Holds (ByAdmin (AdminCommand.DeletePool name)) (delete_pool name s.world)
@@ -361,14 +341,14 @@ module _ (s : State) where
         (λ e. HasReason.in_use (IsInUse.delete_pool (KeepsPool.by_default (same_name_is name default_name e))))
         (λ _. holds_unless _ (any_row (λ _ (node : Node). true) p.nodes || is_pool_in_use name s.world) Refusal.InUse _
         (λ e. HasReason.in_use (IsInUse.delete_pool (keeps_pool name p is
-        (either_of (any_row (λ _ (node : Node). true) p.nodes) (is_pool_in_use name s.world) e))))
+        (or_cases (any_row (λ _ (node : Node). true) p.nodes) (is_pool_in_use name s.world) e))))
         (λ _. tt)))
 
     taken : (new : NewToken) → (contains_key s.acl.tokens new.secret ≡ true) ⊎ (has_accessor s.acl new.accessor ≡ true) →
         IsConflict s (Step.Admin secret (AdminCommand.CreateToken new))
     taken new (inl e) = let h : Has (λ (token : Token). Unit {0}) (get s.acl.tokens new.secret) = present (get s.acl.tokens new.secret) e in
         IsConflict.same_secret h.thing h.is_thing
-    taken new (inr e) = let r : Row (λ other (token : Token). token.accessor ≡ new.accessor) s.acl.tokens = (tells_accessor new.accessor).why e in
+    taken new (inr e) = let r : Row (λ other (token : Token). token.accessor ≡ new.accessor) s.acl.tokens = (decides_accessor new.accessor).0 e in
         IsConflict.same_accessor r.key r.row r.is_row r.holds
 
     admin_why : (command : AdminCommand) → Holds (ByAdmin command) (administer secret command s)
@@ -381,23 +361,23 @@ module _ (s : State) where
         (holds_found _ (get s.world.quotas name) _ (missing_record (AdminCommand.ReadQuota name)) (λ q is. tt))
     admin_why (AdminCommand.PutQuota name quota) = holds_lift _ (with_world s.acl) (put_quota name quota s.world)
         (holds_unless _ (is_full s.world.quotas name) Refusal.Full _
-        (λ e. HasReason.no_room (LacksRoom.quotas ((tells_full s.world.quotas name most_rows).why e))) (λ _. tt))
+        (λ e. HasReason.no_room (LacksRoom.quotas ((decides_full s.world.quotas name most_rows).0 e))) (λ _. tt))
     admin_why (AdminCommand.DeleteQuota name) = holds_lift _ (with_world s.acl) (delete_quota name s.world) (delete_quota_why name)
     admin_why AdminCommand.ListPools = tt
     admin_why (AdminCommand.PutPool name pool) = holds_lift _ (with_world s.acl) (put_pool_record name pool s.world)
         (holds_unless _ (is_full s.world.pools name) Refusal.Full _
-        (λ e. HasReason.no_room (LacksRoom.pools ((tells_full s.world.pools name most_rows).why e))) (λ _. tt))
+        (λ e. HasReason.no_room (LacksRoom.pools ((decides_full s.world.pools name most_rows).0 e))) (λ _. tt))
     admin_why (AdminCommand.DeletePool name) = holds_lift _ (with_world s.acl) (delete_pool name s.world) (delete_pool_why name)
     admin_why (AdminCommand.ReadPolicy name) = holds_lift _ (with_acl s.world) (read_policy name s.acl)
         (holds_found _ (get s.acl.policies name) _ (missing_record (AdminCommand.ReadPolicy name)) (λ policy is. tt))
     admin_why (AdminCommand.PutPolicy name policy) = holds_lift _ (with_acl s.world) (put_policy name policy s.acl)
         (holds_unless _ (is_full s.acl.policies name) Refusal.Full _
-        (λ e. HasReason.no_room (LacksRoom.policies ((tells_full s.acl.policies name most_rows).why e))) (λ _. tt))
+        (λ e. HasReason.no_room (LacksRoom.policies ((decides_full s.acl.policies name most_rows).0 e))) (λ _. tt))
     admin_why (AdminCommand.DeletePolicy name) = holds_lift _ (with_acl s.world) (delete_policy name s.acl)
         (holds_found _ (get s.acl.policies name) _ (missing_record (AdminCommand.DeletePolicy name)) (λ policy is. tt))
     admin_why (AdminCommand.CreateToken new) = holds_lift _ (with_acl s.world) (create_token new s.acl)
         (holds_unless _ (contains_key s.acl.tokens new.secret || has_accessor s.acl new.accessor) Refusal.Conflict _
-        (λ e. HasReason.conflict (taken new (either_of (contains_key s.acl.tokens new.secret) (has_accessor s.acl new.accessor) e)))
+        (λ e. HasReason.conflict (taken new (or_cases (contains_key s.acl.tokens new.secret) (has_accessor s.acl new.accessor) e)))
         (λ _. holds_unless _ (nat_le most_rows (len s.acl.tokens)) Refusal.Full _
         (λ e. HasReason.no_room (LacksRoom.tokens (leb-true most_rows (len s.acl.tokens) e))) (λ _. tt)))
     admin_why (AdminCommand.DeleteToken accessor) = holds_lift _ (with_acl s.world) (delete_token accessor s.acl)
@@ -457,10 +437,6 @@ module _ {S : Type 0} where
   not_unless true o h = refl
   not_unless false o h = h refl
 
-not_so : {P : Type 0} (b : Bool) → Tells b P → (P → ⊥) → b ≡ false
-not_so true t none = absurd (none (t.why refl))
-not_so false t none = refl
-
 row_missing : (ns : Name) (command : AskCommand) (w : World) (t : Tenant) → MissesRow command t → asked_in ns command w t ≡ Refused Refusal.NotFound
 row_missing ns (AskCommand.ListJobs prefix) w t m = absurd m
 row_missing ns (AskCommand.Register r) w t m = absurd m
@@ -475,7 +451,7 @@ row_missing ns (AskCommand.ReadAllocation n) w t m = not_found (get t.allocation
 row_missing ns (AskCommand.StopAllocation n) w t m = not_found (get t.allocations n) _ (λ a at. none_there m at)
 row_missing ns AskCommand.ReadNamespace w t m = absurd m
 row_missing ns (AskCommand.QuotaUsage quota) w t m = ap (λ b. cond b (Done (Content.Usage quota (quota_use w quota)) w) (Refused Refusal.NotFound))
-    (not_so (names_quota quota t.namespace) (tells_quota quota t.namespace) m)
+    (false_from_ne_true (names_quota quota t.namespace) (λ named. m ((decides_quota quota t.namespace).0 named)))
 row_missing ns (AskCommand.Events index) w t m = absurd m
 
 record_missing : (secret : Option Name) (command : AdminCommand) (s : State) → MissesRecord command s → administer secret command s ≡ Refused Refusal.NotFound
@@ -550,12 +526,12 @@ module _ (s : State) where
       (λ e. not_both (is_yes (may_become b.client r.client) e) (may_not_become b.client r.client n.why))))))))
   conflict_refuses step (IsConflict.same_secret {secret = secret} {new = new} token at) = refuses_lift 4 (with_acl s.world) (create_token new s.acl)
       (refuses_unless 4 (contains_key s.acl.tokens new.secret || has_accessor s.acl new.accessor) Refusal.Conflict _ (omega arith)
-      (λ e. not_both (left_holds (contains_key s.acl.tokens new.secret) (has_accessor s.acl new.accessor) (ap is_some at)) e))
+      (λ e. not_both (or_left (contains_key s.acl.tokens new.secret) (has_accessor s.acl new.accessor) (ap is_some at)) e))
   conflict_refuses step (IsConflict.same_accessor {secret = secret} {new = new} other token at same) =
       refuses_lift 4 (with_acl s.world) (create_token new s.acl)
       (refuses_unless 4 (contains_key s.acl.tokens new.secret || has_accessor s.acl new.accessor) Refusal.Conflict _ (omega arith)
       (λ e. not_both (or_right (contains_key s.acl.tokens new.secret) (has_accessor s.acl new.accessor)
-      ((tells_accessor s new.accessor).holds (record { key = other; row = token; is_row = at; holds = same }))) e))
+      ((decides_accessor s new.accessor).1 (record { key = other; row = token; is_row = at; holds = same }))) e))
 
   -- a namespace is put: what comes before the last two refusals
   put_refuses : (n : ℕ) (name : Name) (namespace : Namespace) → 3 ≤ n
@@ -576,9 +552,9 @@ module _ (s : State) where
       by : {A : Type 0} (member : Member) → IsUnknown s namespace member → lacks_quota s.world namespace ≡ false →
           lacks_pool s.world namespace.default_pool ≡ false → lacks_allowed s.world namespace ≡ false → A
       by member (IsUnknown.quota quota is none) a b c =
-          not_both ((tells_no_quota s namespace).holds (record { thing = quota; is_thing = is; holds = none })) a
-      by member (IsUnknown.default_pool none) a b c = not_both ((tells_absent (get s.world.pools namespace.default_pool)).holds none) b
-      by member (IsUnknown.allowed_pool allowed pool is listed none) a b c = not_both ((tells_no_pool s namespace).holds (record {
+          not_both ((decides_no_quota s namespace).1 (record { thing = quota; is_thing = is; holds = none })) a
+      by member (IsUnknown.default_pool none) a b c = not_both ((decides_absent (get s.world.pools namespace.default_pool)).1 none) b
+      by member (IsUnknown.allowed_pool allowed pool is listed none) a b c = not_both ((decides_no_pool s namespace).1 (record {
         thing = allowed;
         is_thing = is;
         holds = record { name = pool; listed = has_contained allowed pool listed; fails = ap is_some none };
@@ -592,16 +568,15 @@ module _ (s : State) where
     where
       by : {A : Type 0} (t : Tenant) → get s.world.tenants name ≡ Some t → same_name name default_name ≡ false →
           (any_row (λ _ (job : Job). true) t.jobs || has_open t || has_live t) ≡ false → KeepsNamespace s name → A
-      by t is other e (KeepsNamespace.by_default same) = not_both ((tells_same name default_name).holds same) other
-      by t is other e (KeepsNamespace.a_job x id job at there) = not_both (first_holds (any_row (λ _ (job : Job). true) t.jobs) (has_open t) (has_live t)
-          ((tells_job s t).holds (record {
-            key = id;
-            row = job;
-            is_row = ap (λ (x : Tenant). get x.jobs id) (same_Some t x (sym is ∙ at)) ∙ there;
-            holds = refl;
-          }))) e
-      by t is other e (KeepsNamespace.active x at active) = not_both (rest_holds (any_row (λ _ (job : Job). true) t.jobs) (has_open t) (has_live t)
-          ((tells_active t).holds (subst IsActive (same_Some x t (sym at ∙ is)) active))) e
+      by t is other e (KeepsNamespace.by_default same) = not_both ((decides_same name default_name).1 (sym same)) other
+      by t is other e (KeepsNamespace.a_job x id job at there) = not_both ((decides_kept s t).1 (inl (record {
+        key = id;
+        row = job;
+        is_row = ap (λ (x : Tenant). get x.jobs id) (same_Some t x (sym is ∙ at)) ∙ there;
+        holds = refl;
+      }))) e
+      by t is other e (KeepsNamespace.active x at active) =
+          not_both ((decides_kept s t).1 (inr (subst IsActive (same_Some x t (sym at ∙ is)) active))) e
 
   keeps_pool_refuses : (name : Name) → KeepsPool s name → Refuses 5 (delete_pool name s.world)
   unfolding delete_pool
@@ -612,13 +587,13 @@ module _ (s : State) where
       taking : {A : Type 0} (p : PoolRows) (ns : Name) (t : Tenant) → get s.world.tenants ns ≡ Some t → TakesPool s name t →
           (any_row (λ _ (node : Node). true) p.nodes || is_pool_in_use name s.world) ≡ false → A
       taking p ns t at takes e = not_both (or_right (any_row (λ _ (node : Node). true) p.nodes) (is_pool_in_use name s.world)
-          ((tells_pool s name).holds (record { key = ns; row = t; is_row = at; holds = takes }))) e
+          ((decides_pool s name).1 (record { key = ns; row = t; is_row = at; holds = takes }))) e
 
       by : {A : Type 0} (p : PoolRows) → get s.world.pools name ≡ Some p → same_name name default_name ≡ false →
           (any_row (λ _ (node : Node). true) p.nodes || is_pool_in_use name s.world) ≡ false → KeepsPool s name → A
-      by p is other e (KeepsPool.by_default same) = not_both ((tells_same name default_name).holds same) other
-      by p is other e (KeepsPool.a_node node row at) = not_both (left_holds (any_row (λ _ (node : Node). true) p.nodes) (is_pool_in_use name s.world)
-          ((tells_node s p).holds (record {
+      by p is other e (KeepsPool.by_default same) = not_both ((decides_same name default_name).1 (sym same)) other
+      by p is other e (KeepsPool.a_node node row at) = not_both (or_left (any_row (λ _ (node : Node). true) p.nodes) (is_pool_in_use name s.world)
+          ((decides_nodes s p).1 (record {
             key = node;
             row = row;
             is_row = sym (ap (option_and_then (λ p. get p.nodes node)) is) ∙ at;
@@ -634,24 +609,24 @@ module _ (s : State) where
   in_use_refuses step (IsInUse.put_namespace {secret = secret} {name = name} {namespace = namespace} t is needs) =
       refuses_lift 5 (with_world s.acl) (put_namespace name namespace s.world) (put_refuses 5 name namespace (omega arith) (λ a b c rest.
       refuses_unless 5 (option_map_or (forbids_put namespace) (get s.world.tenants name) false) Refusal.InUse _ (omega arith) (λ e.
-      not_both ((tells_old s name namespace).holds (record { thing = t; is_thing = is; holds = needs })) e)))
+      not_both ((decides_old s name namespace).1 (record { thing = t; is_thing = is; holds = needs })) e)))
   in_use_refuses step (IsInUse.delete_namespace {secret = secret} {name = name} keeps) =
       refuses_lift 5 (with_world s.acl) (delete_namespace name s.world) (keeps_refuses name keeps)
   in_use_refuses step (IsInUse.delete_quota {secret = secret} {name = name} ns t at has) = refuses_lift 5 (with_world s.acl) (delete_quota name s.world)
       (refuses_found 5 (get s.world.quotas name) _ (omega arith) (λ q is.
       refuses_unless 5 (any_row (λ _ (t : Tenant). names_quota name t.namespace) s.world.tenants) Refusal.InUse _ (omega arith) (λ e.
-      not_both ((tells_quotas s name).holds (record { key = ns; row = t; is_row = at; holds = has })) e)))
+      not_both ((decides_quotas s name).1 (record { key = ns; row = t; is_row = at; holds = has })) e)))
   in_use_refuses step (IsInUse.delete_pool {secret = secret} {name = name} keeps) =
       refuses_lift 5 (with_world s.acl) (delete_pool name s.world) (keeps_pool_refuses name keeps)
   in_use_refuses step (IsInUse.delete_token {secret = secret} {accessor = accessor} same) = refuses_lift 5 (with_acl s.world) (delete_token accessor s.acl)
       (refuses_found 5 (secret_of s.acl accessor) _ (omega arith) (λ k is.
       refuses_unless 5 (same_name accessor bootstrap_accessor) Refusal.InUse _ (omega arith) (λ e.
-      not_both ((tells_same accessor bootstrap_accessor).holds same) e)))
+      not_both ((decides_same accessor bootstrap_accessor).1 (sym same)) e)))
   in_use_refuses step (IsInUse.put_node {pool = pool} {secret = secret} {name = name} {offer = offer} r more) =
       refuses_lift 5 (with_world s.acl) (ask_pool pool (NodeCommand.PutNode name offer) s.world)
       (refuses_found 5 (get s.world.pools pool) (asked_in_pool pool (NodeCommand.PutNode name offer) s.world) (omega arith) (λ p is.
       refuses_unless 5 (not (is_within (node_load s.world pool name) offer.capacity)) Refusal.InUse _ (omega arith) (λ e.
-      not_both ((tells_exceeds (node_load s.world pool name) offer.capacity).holds (record { resource = r; more = more })) e)))
+      not_both ((decides_exceeds (node_load s.world pool name) offer.capacity).1 (record { resource = r; more = more })) e)))
   in_use_refuses step (IsInUse.delete_node {pool = pool} {secret = secret} {name = name} node at ready) =
       refuses_lift 5 (with_world s.acl) (ask_pool pool (NodeCommand.DeleteNode name) s.world)
       (refuses_found 5 (get s.world.pools pool) (asked_in_pool pool (NodeCommand.DeleteNode name) s.world) (omega arith) (λ p is.
@@ -664,16 +639,16 @@ module _ (s : State) where
       refuses_lift 6 (with_world s.acl) (put_namespace name namespace s.world) (put_refuses 6 name namespace (omega arith) (λ a b c rest.
       refuses_unless 6 (option_map_or (forbids_put namespace) (get s.world.tenants name) false) Refusal.InUse _ (omega arith) (λ d.
       refuses_unless 6 (is_full s.world.tenants name) Refusal.Full _ (omega arith) (λ e.
-      not_both ((tells_full s.world.tenants name most_rows).holds full) e))))
+      not_both ((decides_full s.world.tenants name most_rows).1 full) e))))
   no_room_refuses step (LacksRoom.quotas {secret = secret} {name = name} {quota = quota} full) =
       refuses_lift 6 (with_world s.acl) (put_quota name quota s.world) (refuses_unless 6 (is_full s.world.quotas name) Refusal.Full _ (omega arith) (λ e.
-      not_both ((tells_full s.world.quotas name most_rows).holds full) e))
+      not_both ((decides_full s.world.quotas name most_rows).1 full) e))
   no_room_refuses step (LacksRoom.pools {secret = secret} {name = name} {pool = pool} full) =
       refuses_lift 6 (with_world s.acl) (put_pool_record name pool s.world) (refuses_unless 6 (is_full s.world.pools name) Refusal.Full _ (omega arith) (λ e.
-      not_both ((tells_full s.world.pools name most_rows).holds full) e))
+      not_both ((decides_full s.world.pools name most_rows).1 full) e))
   no_room_refuses step (LacksRoom.policies {secret = secret} {name = name} {policy = policy} full) =
       refuses_lift 6 (with_acl s.world) (put_policy name policy s.acl) (refuses_unless 6 (is_full s.acl.policies name) Refusal.Full _ (omega arith) (λ e.
-      not_both ((tells_full s.acl.policies name most_rows).holds full) e))
+      not_both ((decides_full s.acl.policies name most_rows).1 full) e))
   no_room_refuses step (LacksRoom.tokens {secret = secret} {new = new} most) = refuses_lift 6 (with_acl s.world) (create_token new s.acl)
       (refuses_unless 6 (contains_key s.acl.tokens new.secret || has_accessor s.acl new.accessor) Refusal.Conflict _ (omega arith) (λ _.
       refuses_unless 6 (nat_le most_rows (len s.acl.tokens)) Refusal.Full _ (omega arith) (λ e. not_both (le-leb most_rows (len s.acl.tokens) most) e)))
@@ -682,7 +657,7 @@ module _ (s : State) where
       (refuses_found 6 (get s.world.pools pool) (asked_in_pool pool (NodeCommand.PutNode name offer) s.world) (omega arith) (λ q at.
       refuses_unless 6 (not (is_within (node_load s.world pool name) offer.capacity)) Refusal.InUse _ (omega arith) (λ _.
       refuses_unless 6 (not (contains_key q.nodes name) && nat_le most_nodes (len q.nodes)) Refusal.Full _ (omega arith) (λ e.
-      not_both ((tells_full q.nodes name most_nodes).holds
+      not_both ((decides_full q.nodes name most_nodes).1
       (subst (λ (r : PoolRows). IsFullFor r.nodes name most_nodes) (same_Some p q (sym is ∙ at)) full)) e))))
 
 -- an answer for a reason that comes no later than the n-th

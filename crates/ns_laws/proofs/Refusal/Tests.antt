@@ -1,7 +1,8 @@
 -- What the tests of requests say of the rows, each in both directions.
-use Rattle.std.specs.Prelude.{◌≡◌, ◌≢◌, ◌<◌, ℕ, Bool, true, false, not, ◌&&◌, ◌||◌, List, [], ◌∷◌, Option, Some, None, is_some, nat_le}
+use Rattle.std.specs.Prelude.{◌≡◌, ◌≢◌, ◌≤◌, ◌<◌, ℕ, Bool, true, false, not, ◌&&◌, ◌||◌, Decides, List, [], ◌∷◌, Option, Some, None, is_some, nat_le}
 use Rattle.std.proofs.Common.{◌⊎◌, inl, inr, refl, sym, ap, ◌∙◌, Ordering}
-use Rattle.std.proofs.lemmas.Bool.{leb-true, le-leb, leb-false, lt-leb, or_right}
+use Rattle.std.proofs.lemmas.Bool.{false_from_ne_true, leb-true, le-leb, leb-false, lt-leb, not_from_false, or_left, or_right}
+use Rattle.std.proofs.lemmas.Bool.Decides.{Decides-and, Decides-like, Decides-not, Decides-or}
 use Rattle.std.specs.Cmp.{IsTotalOrder}
 use Rattle.std.specs.FinMap.{FinMap, IsAntisymmetric, get, len, contains_key, entries}
 use Rattle.std.specs.List.{list_any, list_all}
@@ -26,52 +27,21 @@ use Rattle.ns_types.specs.Working.Worker.{Worker}
 use Rattle.ns_types.proofs.Alike.{option_eq_refl}
 use Rattle.ns_types.proofs.Amounts.{true_at}
 use Rattle.ns_types.proofs.Lists.{not_both}
-use Rattle.ns_types.proofs.Named.{names, numbers, one_name, one_number, first_of_both, second_of_both, same_name_is, same_name_refl}
+use Rattle.ns_types.proofs.Named.{names, numbers, one_name, one_number, same_name_is, same_name_refl}
 use Rattle.ns_types.proofs.TableRows.{some_row}
 use Rattle.ns_types.proofs.Tables.{each_row}
-use Rattle.ns_types.proofs.Tests.{either_of, is_no, not_Some, same_Some}
+use Rattle.ns_types.proofs.Tests.{is_no, not_Some, same_Some}
 use Rattle.ns_audit.proofs.Alone.Bordering.{one_of_all}
 use Rattle.ns_laws.specs.Reasons.{IsActive, NamesPool, UsesPool, NeedsOld, IsFullFor, IsNoSuccessor}
 
--- the test holds exactly where P does
-pub record Tells (b : Bool) (P : Type 0) : Type 0 where
-  pub why : b ≡ true → P
-  pub holds : P → b ≡ true
-
--- ---- either, both, not
-
-pub left_holds : (a b : Bool) → a ≡ true → (a || b) ≡ true
-left_holds a b e = ap (λ c. c || b) e
-
-pub both_hold : (a b : Bool) → a ≡ true → b ≡ true → (a && b) ≡ true
-both_hold a b e f = λ i. e i && f i
-
-pub one_of_three : (a b c : Bool) → (a || b || c) ≡ true → (a ≡ true) ⊎ ((b ≡ true) ⊎ (c ≡ true))
-one_of_three true b c e = inl refl
-one_of_three false true c e = inr (inl refl)
-one_of_three false false c e = inr (inr e)
-
-pub first_holds : (a b c : Bool) → a ≡ true → (a || b || c) ≡ true
-first_holds true b c e = refl
-first_holds false b c e = not_both e refl
-
-pub second_holds : (a b c : Bool) → b ≡ true → (a || b || c) ≡ true
-second_holds true b c e = refl
-second_holds false true c e = refl
-second_holds false false c e = not_both e refl
-
-pub third_holds : (a b c : Bool) → c ≡ true → (a || b || c) ≡ true
-third_holds true b c e = refl
-third_holds false true c e = refl
-third_holds false false c e = e
-
 -- ---- names, rows, what may be absent
 
-pub tells_same : (a b : Name) → Tells (same_name a b) (a ≡ b)
-tells_same a b = record { why = same_name_is a b; holds = λ e. ap (same_name a) (sym e) ∙ same_name_refl a }
+pub decides_itself : (b : Bool) → Decides b (b ≡ true)
+decides_itself b = ((λ e. e), (λ e. e))
 
-pub tells_plainly : (b : Bool) → Tells b (b ≡ true)
-tells_plainly b = record { why = λ e. e; holds = λ e. e }
+-- the second name is the first
+pub decides_same : (a b : Name) → Decides (same_name a b) (b ≡ a)
+decides_same a b = ((λ e. sym (same_name_is a b e)), (λ e. ap (same_name a) e ∙ same_name_refl a))
 
 pub record Row {K X : Type 0} {R : K → K → Ordering} (P : K → X → Type 0) (m : FinMap R X) : Type 0 where
   pub key : K
@@ -79,49 +49,50 @@ pub record Row {K X : Type 0} {R : K → K → Ordering} (P : K → X → Type 0
   pub is_row : get m key ≡ Some row
   pub holds : P key row
 
-module _ {K X : Type 0} {R : K → K → Ordering} (o : IsTotalOrder R) (same : IsAntisymmetric R) (f : K → X → Bool) (P : K → X → Type 0)
-    (each : (k : K) (x : X) → Tells (f k x) (P k x)) (m : FinMap R X) where
-  among : (es : List (K × X)) → Each (λ e. get m e.0 ≡ Some e.1) es → list_any (λ e. f e.0 e.1) es ≡ true → Row P m
-  among [] h e = not_both e refl
-  among (x ∷ es) h e = by (among es h.1) (f x.0 x.1) refl e
-    where
-      by : (list_any (λ e. f e.0 e.1) es ≡ true → Row P m) → (b : Bool) → f x.0 x.1 ≡ b → (b || list_any (λ e. f e.0 e.1) es) ≡ true → Row P m
-      by later true is e = record { key = x.0; row = x.1; is_row = h.0; holds = (each x.0 x.1).why is }
-      by later false is e = later e
+module _ {K X : Type 0} {R : K → K → Ordering} (o : IsTotalOrder R) (same : IsAntisymmetric R) (f : K → X → Bool) where
+  module _ (P : K → X → Type 0) (each : (k : K) (x : X) → Decides (f k x) (P k x)) (m : FinMap R X) where
+    among : (es : List (K × X)) → Each (λ e. get m e.0 ≡ Some e.1) es → list_any (λ e. f e.0 e.1) es ≡ true → Row P m
+    among [] h e = not_both e refl
+    among (x ∷ es) h e = by (among es h.1) (f x.0 x.1) refl e
+      where
+        by : (list_any (λ e. f e.0 e.1) es ≡ true → Row P m) → (b : Bool) → f x.0 x.1 ≡ b → (b || list_any (λ e. f e.0 e.1) es) ≡ true → Row P m
+        by later true is e = record { key = x.0; row = x.1; is_row = h.0; holds = (each x.0 x.1).0 is }
+        by later false is e = later e
 
-  pub tells_rows : Tells (any_row f m) (Row P m)
-  unfolding any_row
-  tells_rows = record {
-    why = λ e. among (entries m) (each_row o same (λ k x. get m k ≡ Some x) m (λ k x is. is)) e;
-    holds = λ r. some_row o same f m r.key r.row r.is_row ((each r.key r.row).holds r.holds);
-  }
+    pub decides_rows : Decides (any_row f m) (Row P m)
+    unfolding any_row
+    decides_rows = (
+      (λ e. among (entries m) (each_row o same (λ k x. get m k ≡ Some x) m (λ k x is. is)) e),
+      (λ r. some_row o same f m r.key r.row r.is_row ((each r.key r.row).1 r.holds)),
+    )
+
+  -- some row passes the test
+  pub decides_any : (m : FinMap R X) → Decides (any_row f m) (Row (λ k x. f k x ≡ true) m)
+  decides_any m = decides_rows (λ k x. f k x ≡ true) (λ k x. decides_itself (f k x)) m
 
 pub record Has {A : Type 0} (P : A → Type 0) (o : Option A) : Type 0 where
   pub thing : A
   pub is_thing : o ≡ Some thing
   pub holds : P thing
 
-pub tells_option : {A : Type 0} (f : A → Bool) (P : A → Type 0) → ((x : A) → Tells (f x) (P x)) → (o : Option A) → Tells (option_map_or f o false) (Has P o)
-tells_option f P each None = record { why = λ e. not_both e refl; holds = λ h. absurd (not_Some h.thing h.is_thing) }
-tells_option f P each (Some x) = record {
-  why = λ e. record { thing = x; is_thing = refl; holds = (each x).why e };
-  holds = λ h. ap f (same_Some x h.thing h.is_thing) ∙ (each h.thing).holds h.holds;
-}
+pub decides_option : {A : Type 0} (f : A → Bool) (P : A → Type 0) → ((x : A) → Decides (f x) (P x)) → (o : Option A) → Decides (option_map_or f o false) (Has P o)
+decides_option f P each None = ((λ e. not_both e refl), (λ h. absurd (not_Some h.thing h.is_thing)))
+decides_option f P each (Some x) = (
+  (λ e. record { thing = x; is_thing = refl; holds = (each x).0 e }),
+  (λ h. ap f (same_Some x h.thing h.is_thing) ∙ (each h.thing).1 h.holds),
+)
 
-pub tells_absent : {A : Type 0} (o : Option A) → Tells (not (is_some o)) (o ≡ None)
-tells_absent None = record { why = λ e. refl; holds = λ e. refl }
-tells_absent (Some x) = record { why = λ e. not_both e refl; holds = λ e. absurd (not_Some x (sym e)) }
+pub decides_absent : {A : Type 0} (o : Option A) → Decides (not (is_some o)) (o ≡ None)
+decides_absent None = ((λ _. refl), (λ _. refl))
+decides_absent (Some x) = ((λ e. not_both e refl), (λ e. absurd (not_Some x (sym e))))
 
-pub tells_full : {X : Type 0} (table : ByName X) (name : Name) (most : ℕ) →
-    Tells (not (contains_key table name) && nat_le most (len table)) (IsFullFor table name most)
-tells_full table name most = record {
-  why = λ e. record {
-    is_new = (tells_absent (get table name)).why (first_of_both (not (contains_key table name)) (nat_le most (len table)) e);
-    has_most = leb-true most (len table) (second_of_both (not (contains_key table name)) (nat_le most (len table)) e);
-  };
-  holds = λ r. both_hold (not (contains_key table name)) (nat_le most (len table)) ((tells_absent (get table name)).holds r.is_new)
-      (le-leb most (len table) r.has_most);
-}
+pub decides_full : {X : Type 0} (table : ByName X) (name : Name) (most : ℕ) →
+    Decides (not (contains_key table name) && nat_le most (len table)) (IsFullFor table name most)
+decides_full table name most = ((λ e. let is = both.0 e in record { is_new = is.0; has_most = is.1 }), (λ r. both.1 (r.is_new, r.has_most)))
+  where
+    both : Decides (not (contains_key table name) && nat_le most (len table)) ((get table name ≡ None) × (most ≤ len table))
+    both = Decides-and (not (contains_key table name)) (nat_le most (len table)) (decides_absent (get table name))
+        (leb-true most (len table), le-leb most (len table))
 
 -- a name in a list that a test does not pass
 pub record Outside (f : Name → Bool) (xs : List Name) : Type 0 where
@@ -135,38 +106,34 @@ one_outside f (x ∷ xs) e = by (one_outside f xs) (f x) refl e
   where
     by : (list_all f xs ≡ false → Outside f xs) → (b : Bool) → f x ≡ b → (b && list_all f xs) ≡ false → Outside f (x ∷ xs)
     by later true is e = let r = later e in record { name = r.name; listed = or_right (same_name r.name x) (has_name xs r.name) r.listed; fails = r.fails }
-    by later false is e = record { name = x; listed = left_holds (same_name x x) (has_name xs x) (same_name_refl x); fails = is }
+    by later false is e = record { name = x; listed = or_left (same_name x x) (has_name xs x) (same_name_refl x); fails = is }
 
-pub tells_outside : (f : Name → Bool) (xs : List Name) → Tells (not (list_all f xs)) (Outside f xs)
-tells_outside f xs = record {
-  why = λ e. one_outside f xs (is_no (list_all f xs) e);
-  holds = λ r. by (list_all f xs) refl r;
-}
-  where
-    by : (b : Bool) → list_all f xs ≡ b → Outside f xs → not b ≡ true
-    by true all r = not_both (one_of_all f r.name xs all r.listed) r.fails
-    by false all r = refl
+pub decides_outside : (f : Name → Bool) (xs : List Name) → Decides (not (list_all f xs)) (Outside f xs)
+decides_outside f xs = (
+  (λ e. one_outside f xs (is_no (list_all f xs) e)),
+  (λ r. not_from_false (list_all f xs) (false_from_ne_true (list_all f xs) (λ all. not_both (one_of_all f r.name xs all r.listed) r.fails))),
+)
 
 -- ---- what a namespace uses
 
-open_rows : (t : Tenant) → Tells (has_open t) (Row (λ n (e : Evaluation). is_open e.status ≡ true) t.evaluations)
-open_rows t = tells_rows numbers one_number (λ _ e. is_open e.status) (λ n e. is_open e.status ≡ true) (λ n e. tells_plainly (is_open e.status)) t.evaluations
+abbrev OpenRow : Tenant → Type 0
+OpenRow t = Row (λ n (e : Evaluation). is_open e.status ≡ true) t.evaluations
 
-live_rows : (t : Tenant) → Tells (has_live t) (Row (λ n (a : Allocation). is_live a ≡ true) t.allocations)
-live_rows t = tells_rows numbers one_number (λ _ a. is_live a) (λ n a. is_live a ≡ true) (λ n a. tells_plainly (is_live a)) t.allocations
+abbrev LiveRow : Tenant → Type 0
+LiveRow t = Row (λ n (a : Allocation). is_live a ≡ true) t.allocations
 
-pub tells_active : (t : Tenant) → Tells (has_open t || has_live t) (IsActive t)
-tells_active t = record { why = λ e. by (either_of (has_open t) (has_live t) e); holds = holds }
+pub decides_active : (t : Tenant) → Decides (has_open t || has_live t) (IsActive t)
+decides_active t = Decides-like (has_open t || has_live t) active rows (Decides-or (has_open t) (has_live t)
+    (decides_any numbers one_number (λ _ (e : Evaluation). is_open e.status) t.evaluations)
+    (decides_any numbers one_number (λ _ (a : Allocation). is_live a) t.allocations))
   where
-    by : (has_open t ≡ true) ⊎ (has_live t ≡ true) → IsActive t
-    by (inl e) = let r = (open_rows t).why e in IsActive.open_evaluation r.key r.row r.is_row r.holds
-    by (inr e) = let r = (live_rows t).why e in IsActive.live_allocation r.key r.row r.is_row r.holds
+    active : OpenRow t ⊎ LiveRow t → IsActive t
+    active (inl r) = IsActive.open_evaluation r.key r.row r.is_row r.holds
+    active (inr r) = IsActive.live_allocation r.key r.row r.is_row r.holds
 
-    holds : IsActive t → (has_open t || has_live t) ≡ true
-    holds (IsActive.open_evaluation n e at is) = left_holds (has_open t) (has_live t)
-        ((open_rows t).holds (record { key = n; row = e; is_row = at; holds = is }))
-    holds (IsActive.live_allocation n a at is) = or_right (has_open t) (has_live t)
-        ((live_rows t).holds (record { key = n; row = a; is_row = at; holds = is }))
+    rows : IsActive t → OpenRow t ⊎ LiveRow t
+    rows (IsActive.open_evaluation n e at is) = inl (record { key = n; row = e; is_row = at; holds = is })
+    rows (IsActive.live_allocation n a at is) = inr (record { key = n; row = a; is_row = at; holds = is })
 
 -- a pool that passes, and of which P holds
 pub record Passing (passes : Name → Bool) (P : Name → Type 0) : Type 0 where
@@ -187,90 +154,80 @@ module _ (passes : Name → Bool) (t : Tenant) where
   abbrev allocations_pass : Bool
   allocations_pass = any_row (λ _ (a : Allocation). is_live a && passes a.pool) t.allocations
 
-  job_rows : Tells jobs_pass (Row (λ id (job : Job). passes job.document.pool ≡ true) t.jobs)
-  job_rows = tells_rows names one_name (λ _ job. passes job.document.pool) (λ id job. passes job.document.pool ≡ true)
-      (λ id job. tells_plainly (passes job.document.pool)) t.jobs
+  abbrev JobRow : Type 0
+  JobRow = Row (λ id (job : Job). passes job.document.pool ≡ true) t.jobs
 
-  evaluation_rows : Tells evaluations_pass
-      (Row (λ n (e : Evaluation). (is_open e.status && passes e.pool) ≡ true) t.evaluations)
-  evaluation_rows = tells_rows numbers one_number (λ _ e. is_open e.status && passes e.pool) (λ n e. (is_open e.status && passes e.pool) ≡ true)
-      (λ n e. tells_plainly (is_open e.status && passes e.pool)) t.evaluations
+  abbrev EvaluationRow : Type 0
+  EvaluationRow = Row (λ n (e : Evaluation). (is_open e.status ≡ true) × (passes e.pool ≡ true)) t.evaluations
 
   abbrev Keeps : ℕ → Worker → Type 0
   Keeps number worker = Has (λ (kept : Snapshot). passes kept.pool ≡ true) worker.kept
 
-  worker_rows : Tells workers_pass (Row Keeps t.workers)
-  worker_rows = tells_rows numbers one_number (λ _ worker. option_map_or (λ kept. passes kept.pool) worker.kept false) Keeps
-      (λ number worker. tells_option (λ kept. passes kept.pool) (λ kept. passes kept.pool ≡ true) (λ kept. tells_plainly (passes kept.pool))
-      worker.kept) t.workers
+  abbrev AllocationRow : Type 0
+  AllocationRow = Row (λ n (a : Allocation). (is_live a ≡ true) × (passes a.pool ≡ true)) t.allocations
 
-  allocation_rows : Tells allocations_pass
-      (Row (λ n (a : Allocation). (is_live a && passes a.pool) ≡ true) t.allocations)
-  allocation_rows = tells_rows numbers one_number (λ _ a. is_live a && passes a.pool) (λ n a. (is_live a && passes a.pool) ≡ true)
-      (λ n a. tells_plainly (is_live a && passes a.pool)) t.allocations
+  evaluation_rows : Decides evaluations_pass EvaluationRow
+  evaluation_rows = decides_rows numbers one_number (λ _ (e : Evaluation). is_open e.status && passes e.pool) (λ n e. (is_open e.status ≡ true) × (passes e.pool ≡ true))
+      (λ n e. Decides-and (is_open e.status) (passes e.pool) (decides_itself (is_open e.status)) (decides_itself (passes e.pool))) t.evaluations
+
+  worker_rows : Decides workers_pass (Row Keeps t.workers)
+  worker_rows = decides_rows numbers one_number (λ _ (worker : Worker). option_map_or (λ kept. passes kept.pool) worker.kept false) Keeps (λ number worker.
+      decides_option (λ kept. passes kept.pool) (λ kept. passes kept.pool ≡ true) (λ kept. decides_itself (passes kept.pool)) worker.kept) t.workers
+
+  allocation_rows : Decides allocations_pass AllocationRow
+  allocation_rows = decides_rows numbers one_number (λ _ (a : Allocation). is_live a && passes a.pool) (λ n a. (is_live a ≡ true) × (passes a.pool ≡ true))
+      (λ n a. Decides-and (is_live a) (passes a.pool) (decides_itself (is_live a)) (decides_itself (passes a.pool))) t.allocations
 
   at_pool : {pool other : Name} → other ≡ pool → passes pool ≡ true → passes other ≡ true
   at_pool e is = ap passes e ∙ is
 
-  pub tells_names : Tells (looks_to_pool passes t) (Passing passes (NamesPool t))
-  tells_names = record { why = λ e. by (one_of_three jobs_pass evaluations_pass workers_pass e); holds = λ p. holds p.pool p.passing p.holds }
+  pub decides_names : Decides (looks_to_pool passes t) (Passing passes (NamesPool t))
+  decides_names = Decides-like (looks_to_pool passes t) passing (λ p. rows p.pool p.passing p.holds)
+      (Decides-or (jobs_pass || evaluations_pass) workers_pass (Decides-or jobs_pass evaluations_pass
+      (decides_any names one_name (λ _ (job : Job). passes job.document.pool) t.jobs) evaluation_rows) worker_rows)
     where
-      by : (jobs_pass ≡ true) ⊎ ((evaluations_pass ≡ true) ⊎ (workers_pass ≡ true)) → Passing passes (NamesPool t)
-      by (inl e) = let r = job_rows.why e in
-          record { pool = r.row.document.pool; passing = r.holds; holds = NamesPool.a_job r.key r.row r.is_row refl }
-      by (inr (inl e)) = let r = evaluation_rows.why e in record {
-        pool = r.row.pool;
-        passing = second_of_both (is_open r.row.status) (passes r.row.pool) r.holds;
-        holds = NamesPool.open_evaluation r.key r.row r.is_row (first_of_both (is_open r.row.status) (passes r.row.pool) r.holds) refl;
-      }
-      by (inr (inr e)) = let r = worker_rows.why e in record {
+      passing : (JobRow ⊎ EvaluationRow) ⊎ Row Keeps t.workers → Passing passes (NamesPool t)
+      passing (inl (inl r)) = record { pool = r.row.document.pool; passing = r.holds; holds = NamesPool.a_job r.key r.row r.is_row refl }
+      passing (inl (inr r)) =
+          record { pool = r.row.pool; passing = r.holds.1; holds = NamesPool.open_evaluation r.key r.row r.is_row r.holds.0 refl }
+      passing (inr r) = record {
         pool = r.holds.thing.pool;
         passing = r.holds.holds;
         holds = NamesPool.a_snapshot r.key r.row r.holds.thing r.is_row r.holds.is_thing refl;
       }
 
-      holds : (pool : Name) → passes pool ≡ true → NamesPool t pool → looks_to_pool passes t ≡ true
-      holds pool is (NamesPool.a_job id job at same) = first_holds jobs_pass evaluations_pass workers_pass
-          (job_rows.holds (record { key = id; row = job; is_row = at; holds = at_pool same is }))
-      holds pool is (NamesPool.open_evaluation n e at opens same) = second_holds jobs_pass evaluations_pass workers_pass
-          (evaluation_rows.holds (record { key = n; row = e; is_row = at; holds = both_hold (is_open e.status) (passes e.pool) opens (at_pool same is) }))
-      holds pool is (NamesPool.a_snapshot number worker kept at has same) = third_holds jobs_pass evaluations_pass workers_pass
-          (worker_rows.holds (record { key = number; row = worker; is_row = at; holds = record { thing = kept; is_thing = has; holds = at_pool same is } }))
+      rows : (pool : Name) → passes pool ≡ true → NamesPool t pool → (JobRow ⊎ EvaluationRow) ⊎ Row Keeps t.workers
+      rows pool is (NamesPool.a_job id job at same) = inl (inl (record { key = id; row = job; is_row = at; holds = at_pool same is }))
+      rows pool is (NamesPool.open_evaluation n e at opens same) =
+          inl (inr (record { key = n; row = e; is_row = at; holds = (opens, at_pool same is) }))
+      rows pool is (NamesPool.a_snapshot number worker kept at has same) =
+          inr (record { key = number; row = worker; is_row = at; holds = record { thing = kept; is_thing = has; holds = at_pool same is } })
 
-  pub tells_uses : Tells (uses_pool passes t) (Passing passes (UsesPool t))
-  tells_uses = record { why = λ e. by (either_of (looks_to_pool passes t) allocations_pass e); holds = λ p. holds p.pool p.passing p.holds }
+  pub decides_uses : Decides (uses_pool passes t) (Passing passes (UsesPool t))
+  decides_uses = Decides-like (uses_pool passes t) passing (λ p. rows p.pool p.passing p.holds)
+      (Decides-or (looks_to_pool passes t) allocations_pass decides_names allocation_rows)
     where
-      by : (looks_to_pool passes t ≡ true) ⊎ (allocations_pass ≡ true) → Passing passes (UsesPool t)
-      by (inl e) = let p = tells_names.why e in record { pool = p.pool; passing = p.passing; holds = UsesPool.names p.holds }
-      by (inr e) = let r = allocation_rows.why e in record {
-        pool = r.row.pool;
-        passing = second_of_both (is_live r.row) (passes r.row.pool) r.holds;
-        holds = UsesPool.live_allocation r.key r.row r.is_row (first_of_both (is_live r.row) (passes r.row.pool) r.holds) refl;
-      }
+      passing : Passing passes (NamesPool t) ⊎ AllocationRow → Passing passes (UsesPool t)
+      passing (inl p) = record { pool = p.pool; passing = p.passing; holds = UsesPool.names p.holds }
+      passing (inr r) = record { pool = r.row.pool; passing = r.holds.1; holds = UsesPool.live_allocation r.key r.row r.is_row r.holds.0 refl }
 
-      holds : (pool : Name) → passes pool ≡ true → UsesPool t pool → uses_pool passes t ≡ true
-      holds pool is (UsesPool.names named) =
-          left_holds (looks_to_pool passes t) allocations_pass (tells_names.holds (record { pool = pool; passing = is; holds = named }))
-      holds pool is (UsesPool.live_allocation n a at live same) = or_right (looks_to_pool passes t) allocations_pass
-          (allocation_rows.holds (record { key = n; row = a; is_row = at; holds = both_hold (is_live a) (passes a.pool) live (at_pool same is) }))
+      rows : (pool : Name) → passes pool ≡ true → UsesPool t pool → Passing passes (NamesPool t) ⊎ AllocationRow
+      rows pool is (UsesPool.names named) = inl (record { pool = pool; passing = is; holds = named })
+      rows pool is (UsesPool.live_allocation n a at live same) = inr (record { key = n; row = a; is_row = at; holds = (live, at_pool same is) })
 
 -- ---- a namespace that is put
 
-same_options : (o p : Option Name) → option_eq same_name o p ≡ true → o ≡ p
-same_options None None e = refl
-same_options None (Some y) e = not_both e refl
-same_options (Some x) None e = not_both e refl
-same_options (Some x) (Some y) e = ap Some (same_name_is x y e)
+pub same_options : {X : Type 0} (same : X → X → Bool) → ((a b : X) → same a b ≡ true → a ≡ b) → (a b : Option X) → option_eq same a b ≡ true → a ≡ b
+same_options same is None None e = refl
+same_options same is None (Some b) e = not_both e refl
+same_options same is (Some a) None e = not_both e refl
+same_options same is (Some a) (Some b) e = ap Some (is a b e)
 
-tells_other_quota : (a b : Namespace) → Tells (not (same_quota a b)) (a.quota ≢ b.quota)
-tells_other_quota a b = record {
-  why = λ e same. not_both (ap (option_eq same_name a.quota) (sym same) ∙ option_eq_refl same_name same_name_refl a.quota) (is_no (same_quota a b) e);
-  holds = λ differs. by (same_quota a b) refl differs;
-}
-  where
-    by : (c : Bool) → same_quota a b ≡ c → a.quota ≢ b.quota → not c ≡ true
-    by true same differs = absurd (differs (same_options a.quota b.quota same))
-    by false same differs = refl
+decides_same_quota : (a b : Namespace) → Decides (same_quota a b) (a.quota ≡ b.quota)
+decides_same_quota a b = (
+  same_options same_name same_name_is a.quota b.quota,
+  (λ same. ap (option_eq same_name a.quota) (sym same) ∙ option_eq_refl same_name same_name_refl a.quota),
+)
 
 module _ (namespace : Namespace) (t : Tenant) where
   abbrev withdrawn : Name → Bool
@@ -282,45 +239,33 @@ module _ (namespace : Namespace) (t : Tenant) where
   abbrev active : Bool
   active = has_open t || has_live t
 
-  pub tells_needs : Tells (forbids_put namespace t) (NeedsOld namespace t)
-  tells_needs = record { why = λ e. by (either_of (uses_pool withdrawn t) (other && active) e); holds = holds }
+  pub decides_needs : Decides (forbids_put namespace t) (NeedsOld namespace t)
+  decides_needs = Decides-like (forbids_put namespace t) needs parts (Decides-or (uses_pool withdrawn t) (other && active) (decides_uses withdrawn t)
+      (Decides-and other active (Decides-not (same_quota t.namespace namespace) (decides_same_quota t.namespace namespace)) (decides_active t)))
     where
-      by : (uses_pool withdrawn t ≡ true) ⊎ ((other && active) ≡ true) → NeedsOld namespace t
-      by (inl e) = let p : Passing withdrawn (UsesPool t) = (tells_uses withdrawn t).why e in NeedsOld.pool p.pool
-          (first_of_both (permits t.namespace p.pool) (not (permits namespace p.pool)) p.passing)
-          (is_no (permits namespace p.pool) (second_of_both (permits t.namespace p.pool) (not (permits namespace p.pool)) p.passing)) p.holds
-      by (inr e) = NeedsOld.quota ((tells_other_quota t.namespace namespace).why (first_of_both other active e))
-          ((tells_active t).why (second_of_both other active e))
+      is_withdrawn_pool : (pool : Name) → Decides (withdrawn pool) ((permits t.namespace pool ≡ true) × (permits namespace pool ≡ false))
+      is_withdrawn_pool pool = Decides-and (permits t.namespace pool) (not (permits namespace pool)) (decides_itself (permits t.namespace pool))
+          (is_no (permits namespace pool), not_from_false (permits namespace pool))
 
-      holds : NeedsOld namespace t → forbids_put namespace t ≡ true
-      holds (NeedsOld.pool pool old new uses) = left_holds (uses_pool withdrawn t) (other && active) ((tells_uses withdrawn t).holds
-          (record { pool = pool; passing = both_hold (permits t.namespace pool) (not (permits namespace pool)) old (ap not new); holds = uses }))
-      holds (NeedsOld.quota differs is_active) = or_right (uses_pool withdrawn t) (other && active)
-          (both_hold other active ((tells_other_quota t.namespace namespace).holds differs) ((tells_active t).holds is_active))
+      needs : Passing withdrawn (UsesPool t) ⊎ ((t.namespace.quota ≢ namespace.quota) × IsActive t) → NeedsOld namespace t
+      needs (inl p) = let is = (is_withdrawn_pool p.pool).0 p.passing in NeedsOld.pool p.pool is.0 is.1 p.holds
+      needs (inr (differs, is_active)) = NeedsOld.quota differs is_active
+
+      parts : NeedsOld namespace t → Passing withdrawn (UsesPool t) ⊎ ((t.namespace.quota ≢ namespace.quota) × IsActive t)
+      parts (NeedsOld.pool pool old new uses) = inl (record { pool = pool; passing = (is_withdrawn_pool pool).1 (old, new); holds = uses })
+      parts (NeedsOld.quota differs is_active) = inr (differs, is_active)
 
 -- ---- a pool
 
 module _ (pool : Name) (namespace : Namespace) where
-  abbrev lists : Bool
-  lists = option_map_or (λ allowed. has_name allowed pool) namespace.allowed false
-
   abbrev Lists : Type 0
   Lists = Has (λ (allowed : List Name). has_name allowed pool ≡ true) namespace.allowed
 
-  listed : Tells lists Lists
-  listed = tells_option (λ allowed. has_name allowed pool) (λ allowed. has_name allowed pool ≡ true)
-      (λ allowed. tells_plainly (has_name allowed pool)) namespace.allowed
-
-  pub tells_named : Tells (names_pool pool namespace) ((namespace.default_pool ≡ pool) ⊎ Lists)
-  tells_named = record { why = λ e. by (either_of (same_name pool namespace.default_pool) lists e); holds = holds }
-    where
-      by : (same_name pool namespace.default_pool ≡ true) ⊎ (lists ≡ true) → (namespace.default_pool ≡ pool) ⊎ Lists
-      by (inl e) = inl (sym (same_name_is pool namespace.default_pool e))
-      by (inr e) = inr (listed.why e)
-
-      holds : (namespace.default_pool ≡ pool) ⊎ Lists → names_pool pool namespace ≡ true
-      holds (inl e) = left_holds (same_name pool namespace.default_pool) lists ((tells_same pool namespace.default_pool).holds (sym e))
-      holds (inr h) = or_right (same_name pool namespace.default_pool) lists (listed.holds h)
+  pub decides_named : Decides (names_pool pool namespace) ((namespace.default_pool ≡ pool) ⊎ Lists)
+  decides_named =
+      Decides-or (same_name pool namespace.default_pool) (option_map_or (λ allowed. has_name allowed pool) namespace.allowed false)
+      (decides_same pool namespace.default_pool) (decides_option (λ allowed. has_name allowed pool) (λ allowed. has_name allowed pool ≡ true)
+      (λ allowed. decides_itself (has_name allowed pool)) namespace.allowed)
 
 -- ---- resources, and statuses
 
@@ -329,8 +274,12 @@ pub record Exceeds (used capacity : Resources) : Type 0 where
   pub resource : Resource
   pub more : quantity resource capacity < quantity resource used
 
-pub tells_exceeds : (used capacity : Resources) → Tells (not (is_within used capacity)) (Exceeds used capacity)
-tells_exceeds used capacity = record { why = λ e. search_in (test Cpu) refl (test Memory) refl (is_no _ e); holds = λ x. by (is_within used capacity) refl x }
+pub decides_exceeds : (used capacity : Resources) → Decides (not (is_within used capacity)) (Exceeds used capacity)
+decides_exceeds used capacity = (
+  (λ e. search_in (test Cpu) refl (test Memory) refl (is_no (is_within used capacity) e)),
+  (λ x. not_from_false (is_within used capacity) (false_from_ne_true (is_within used capacity) (λ all.
+      not_both (true_at test all x.resource) (lt-leb (quantity x.resource used) (quantity x.resource capacity) x.more)))),
+)
   where
     test : Resource → Bool
     test r = nat_le (quantity r used) (quantity r capacity)
@@ -342,10 +291,6 @@ tells_exceeds used capacity = record { why = λ e. search_in (test Cpu) refl (te
     search_in false e b f none = at Cpu e
     search_in true e false f none = at Memory f
     search_in true e true f none = at Disk none
-
-    by : (b : Bool) → is_within used capacity ≡ b → Exceeds used capacity → not b ≡ true
-    by true all x = not_both (true_at test all x.resource) (lt-leb (quantity x.resource used) (quantity x.resource capacity) x.more)
-    by false all x = refl
 
 pub same_client_is : (old new : ClientStatus) → old ≢ new → same_client old new ≡ false
 same_client_is ClientStatus.Pending ClientStatus.Pending h = absurd (h refl)

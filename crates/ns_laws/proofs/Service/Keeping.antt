@@ -1,7 +1,7 @@
 -- Changes after which every pending evaluation has one of its job that is ready or with a worker, if it was so before.
 use Rattle.std.specs.Prelude.{◌≡◌, ◌⊎◌, ◌≤◌, ℕ, ◌+◌, Bool, true, false, cond, ◌||◌, List, [], ◌∷◌, ◌++◌, Option, Some, None, fold}
 use Rattle.std.proofs.Common.{inl, inr, refl, sym, ap, subst, ◌∙◌}
-use Rattle.std.proofs.lemmas.Bool.{or_right}
+use Rattle.std.proofs.lemmas.Bool.{or_left, or_right}
 use Rattle.std.proofs.lemmas.List.Folds.{list_any-append}
 use Rattle.std.specs.FinMap.{get}
 use Rattle.std.specs.List.{list_any}
@@ -27,7 +27,7 @@ use Rattle.ns_audit.proofs.ValidWorkers.Busy.{IsQueued}
 use Rattle.ns_audit.proofs.ValidWorkers.Quiet.{Grows, grows_none, grows_then, Quiet, quiet_same, quiet_then, quiet_put, quiet_map, quiet_make_in, quiet_pool}
 use Rattle.ns_laws.specs.Serving.{IsUnderWay, is_ready, is_with_worker, HasOneUnderWay}
 use Rattle.ns_laws.proofs.OrderedLemmas.{first_waiting_is_least, none_waits_of_none}
-use Rattle.ns_laws.proofs.Refusal.Tests.{Row, left_holds, tells_plainly, tells_rows}
+use Rattle.ns_laws.proofs.Refusal.Tests.{Row, decides_any}
 use Rattle.ns_laws.proofs.Service.Lists.{evaluation_in, evaluation_is, worker_in}
 use Rattle.ns_laws.proofs.Wakes.Reasons.{some_key, queued_behind}
 
@@ -63,9 +63,7 @@ busy_one w ns job busy = by (either_of (list_any (is_of_job w ns job) w.ready) _
     of_worker None is e = not_both e refl
     of_worker (Some t) is e =
         let r : Row (λ number (worker : Worker). is_of_job w ns job (ns, worker.evaluation) ≡ true) t.workers =
-        (tells_rows numbers one_number (λ _ worker. is_of_job w ns job (ns, worker.evaluation))
-        (λ number worker. is_of_job w ns job (ns, worker.evaluation) ≡ true)
-        (λ number worker. tells_plainly (is_of_job w ns job (ns, worker.evaluation))) t.workers).why e in
+        (decides_any numbers one_number (λ _ (worker : Worker). is_of_job w ns job (ns, worker.evaluation)) t.workers).0 e in
         of_row t is r.key r.row r.is_row (evaluation_at w (ns, r.row.evaluation)) refl (second_of_both (same_name ns ns) _ r.holds)
 
     by : (list_any (is_of_job w ns job) w.ready ≡ true)
@@ -78,11 +76,11 @@ busy_one w ns job busy = by (either_of (list_any (is_of_job w ns job) w.ready) _
 -- ---- the list of ready evaluations grows
 
 pub longer : (keys more : List Key) (key : Key) → has_key keys key ≡ true → has_key (keys ++ more) key ≡ true
-longer keys more key has = list_any-append (same_key key) keys more ∙ left_holds (has_key keys key) (has_key more key) has
+longer keys more key has = list_any-append (same_key key) keys more ∙ or_left (has_key keys key) (has_key more key) has
 
 pub last_one : (keys : List Key) (key : Key) → has_key (keys ++ key ∷ []) key ≡ true
 last_one keys key = list_any-append (same_key key) keys (key ∷ []) ∙ or_right (has_key keys key) (same_key key key || false)
-    (left_holds (same_key key key) false (same_key_refl key))
+    (or_left (same_key key key) false (same_key_refl key))
 
 pub ready_queue : (w : World) (k key : Key) → has_key w.ready key ≡ true → has_key (queue w k).ready key ≡ true
 unfolding queue

@@ -1,7 +1,7 @@
 -- Why an evaluation wakes, and what becomes of it.
-use Rattle.std.specs.Prelude.{◌≡◌, ◌≢◌, ℕ, ◌+◌, Bool, true, false, cond, not, ◌&&◌, ◌||◌, List, [], ◌∷◌, ◌++◌, Option, Some, None, filter, fold, option_map}
+use Rattle.std.specs.Prelude.{◌≡◌, ◌≢◌, ℕ, ◌+◌, Bool, true, false, cond, not, ◌&&◌, ◌||◌, Decides, List, [], ◌∷◌, ◌++◌, Option, Some, None, filter, fold, option_map}
 use Rattle.std.proofs.Common.{◌⊎◌, inl, inr, refl, sym, ap, subst, ◌∙◌}
-use Rattle.std.proofs.lemmas.Bool.{or_right}
+use Rattle.std.proofs.lemmas.Bool.{or_left, or_right}
 use Rattle.std.proofs.lemmas.List.Folds.{list_any-append}
 use Rattle.std.specs.Cmp.{tied_itself}
 use Rattle.std.specs.FinMap.{get, entries}
@@ -40,8 +40,8 @@ use Rattle.ns_laws.specs.Waking.{MayUse, StillLives}
 use Rattle.ns_laws.specs.Woken as law
 use Rattle.ns_laws.specs.Woken.{GotQuota, GotRoom, HasRoom, IsTaken, Wakes}
 use Rattle.ns_laws.proofs.Effect.Rows.{Does, redated_evaluation}
-use Rattle.ns_laws.proofs.Refusal.Reasons.{tells_quota}
-use Rattle.ns_laws.proofs.Refusal.Tests.{Row, Tells, left_holds, tells_plainly, tells_rows}
+use Rattle.ns_laws.proofs.Refusal.Reasons.{decides_quota}
+use Rattle.ns_laws.proofs.Refusal.Tests.{Row, decides_any, decides_rows}
 use Rattle.ns_laws.proofs.Wakes.Queue.{woken_are_called}
 use Rattle.ns_audit.proofs.StepLemmas.{IsMade, made}
 use Rattle.ns_laws.proofs.Wakes.Steps.{own_blocked}
@@ -128,16 +128,14 @@ module _ (w x : World) where
     abbrev InTenant : Name → Tenant → Type 0
     InTenant ns t = Row (λ n (a : Allocation). ends_at ns t n a ≡ true) t.allocations
 
-    tells_ends : Tells (any_row (λ ns (t : Tenant). any_row (λ n a. ends_at ns t n a) t.allocations) w.tenants) (Row InTenant w.tenants)
-    tells_ends = tells_rows names one_name (λ ns t. any_row (λ n a. ends_at ns t n a) t.allocations) InTenant
-        (λ ns t. tells_rows numbers one_number (λ n a. ends_at ns t n a) (λ n a. ends_at ns t n a ≡ true)
-        (λ n a. tells_plainly (ends_at ns t n a)) t.allocations)
-        w.tenants
+    decides_ends : Decides (any_row (λ ns (t : Tenant). any_row (λ n a. ends_at ns t n a) t.allocations) w.tenants) (Row InTenant w.tenants)
+    decides_ends = decides_rows names one_name (λ ns (t : Tenant). any_row (λ n a. ends_at ns t n a) t.allocations) InTenant
+        (λ ns t. decides_any numbers one_number (λ n a. ends_at ns t n a) t.allocations) w.tenants
 
     one_ended : ends w x passes ≡ true → Ended passes
     unfolding ends
     one_ended e =
-        let r : Row InTenant w.tenants = tells_ends.why e in
+        let r : Row InTenant w.tenants = decides_ends.0 e in
         let a : Row (λ n (a : Allocation). ends_at r.key r.row n a ≡ true) r.row.allocations = r.holds in
         let all = three (is_live a.row) (passes r.row.namespace a.row) _ a.holds in record {
           ns = r.key;
@@ -201,8 +199,7 @@ module _ (w x : World) (pool : Name) where
   -- one of the nodes of released classes that it can use
   one_gives : (e : Evaluation) (p : PoolRows) → list_any (can_use e) (released_classes w x pool p) ≡ true → Row (Gives e) p.nodes
   unfolding released_classes any_row
-  one_gives e p any = (tells_rows names one_name (λ name row. gives_room w x pool name row && can_use e (class_of row)) (Gives e)
-      (λ name row. tells_plainly (gives_room w x pool name row && can_use e (class_of row))) p.nodes).why
+  one_gives e p any = (decides_any names one_name (λ name row. gives_room w x pool name row && can_use e (class_of row)) p.nodes).0
       (sym (any_map (can_use e) (λ n. class_of n.1) (filter (λ n. gives_room w x pool n.0 n.1) (entries p.nodes))
       ∙ any_filtered (λ n. can_use e (class_of n.1)) (λ n. gives_room w x pool n.0 n.1) (entries p.nodes)) ∙ any)
 
@@ -250,7 +247,7 @@ quota_in w x e quota awake limited = by (get x.quotas quota) refl (ap (wakes_by 
     by_test rows is (inl e) = was rows is (get w.quotas quota) refl e
     by_test rows is (inr e) =
         let a : Ended w x (counts_in quota) = one_ended w x (counts_in quota) e in
-        GotQuota.freed a.ns a.tenant a.number a.row a.is_tenant ((tells_quota quota a.tenant.namespace).why a.passing) a.is_row a.live a.over
+        GotQuota.freed a.ns a.tenant a.number a.row a.is_tenant ((decides_quota quota a.tenant.namespace).0 a.passing) a.is_row a.live a.over
 
     by : (o : Option QuotaRows) → get x.quotas quota ≡ o → option_map_or (releases_quota w x quota) o false ≡ true → GotQuota w (settle w x) quota
     by None is e = not_both e refl
@@ -268,14 +265,14 @@ module _ (key : Key) (job : Name) where
 
   still_behind : (y : World) (more : List Key) → Behind y key job → Behind (record y { ready = y.ready ++ more }) key job
   still_behind y more (inl has) =
-      inl (list_any-append (same_key key) y.ready more ∙ left_holds (has_key y.ready key) (has_key more key) has)
+      inl (list_any-append (same_key key) y.ready more ∙ or_left (has_key y.ready key) (has_key more key) has)
   still_behind y more (inr busy) = inr (by (either_of (list_any (is_of_job y key.0 job) y.ready) (workers_busy y) busy))
     where
       by : (list_any (is_of_job y key.0 job) y.ready ≡ true) ⊎ (workers_busy y ≡ true) →
           (list_any (is_of_job y key.0 job) (y.ready ++ more) || workers_busy y) ≡ true
-      by (inl e) = left_holds (list_any (is_of_job y key.0 job) (y.ready ++ more)) (workers_busy y)
+      by (inl e) = or_left (list_any (is_of_job y key.0 job) (y.ready ++ more)) (workers_busy y)
           (list_any-append (is_of_job y key.0 job) y.ready more
-          ∙ left_holds (list_any (is_of_job y key.0 job) y.ready) (list_any (is_of_job y key.0 job) more) e)
+          ∙ or_left (list_any (is_of_job y key.0 job) y.ready) (list_any (is_of_job y key.0 job) more) e)
       by (inr e) = or_right (list_any (is_of_job y key.0 job) (y.ready ++ more)) (workers_busy y) e
 
   behind_queue : (y : World) (k : Key) → Behind y key job → Behind (queue y k) key job
@@ -302,7 +299,7 @@ queued_behind y key d at = subst (λ o. Behind (option_map_or (λ e. cond (is_bu
     by : (b : Bool) → is_busy y key.0 d.job ≡ b → Behind (cond b y (record y { ready = y.ready ++ key ∷ [] })) key d.job
     by true busy = inr busy
     by false idle = inl (list_any-append (same_key key) y.ready (key ∷ []) ∙ or_right (has_key y.ready key) (same_key key key || false)
-        (left_holds (same_key key key) false (same_key_refl key)))
+        (or_left (same_key key key) false (same_key_refl key)))
 
 pub all_behind : (key : Key) (d : Evaluation) (keys : List Key) (y : World) → has_key keys key ≡ true → evaluation_at y key ≡ Some d →
     Behind (fold queue y keys) key d.job
@@ -366,7 +363,7 @@ some_key f (k ∷ keys) e = by (some_key f keys) (either_of (f k) (list_any f ke
   where
     by : (list_any f keys ≡ true → (key : Key) × (has_key keys key ≡ true) × (f key ≡ true)) → (f k ≡ true) ⊎ (list_any f keys ≡ true) →
         (key : Key) × (has_key (k ∷ keys) key ≡ true) × (f key ≡ true)
-    by rest (inl here) = (k, left_holds (same_key k k) (has_key keys k) (same_key_refl k), here)
+    by rest (inl here) = (k, or_left (same_key k k) (has_key keys k) (same_key_refl k), here)
     by rest (inr later) = let r = rest later in (r.0, or_right (same_key r.0 k) (has_key keys r.0) r.1, r.2)
 
 module _ (w x : World) where
@@ -445,9 +442,7 @@ module _ (w x : World) where
       of_worker None is e = not_both e refl
       of_worker (Some t) is e =
           let r : Row (λ number (worker : Worker). is_of_job waked ns job (ns, worker.evaluation) ≡ true) t.workers =
-          (tells_rows numbers one_number (λ _ worker. is_of_job waked ns job (ns, worker.evaluation))
-          (λ number worker. is_of_job waked ns job (ns, worker.evaluation) ≡ true)
-          (λ number worker. tells_plainly (is_of_job waked ns job (ns, worker.evaluation))) t.workers).why e in
+          (decides_any numbers one_number (λ _ (worker : Worker). is_of_job waked ns job (ns, worker.evaluation)) t.workers).0 e in
           of_row t is r.key r.row r.is_row (get t.evaluations r.row.evaluation) refl
           (sym (ap (λ o. option_map_or (λ e. same_name job e.job) (option_and_then (λ (t : Tenant). get t.evaluations r.row.evaluation) o) false) is)
           ∙ second_of_both (same_name ns ns) _ r.holds)

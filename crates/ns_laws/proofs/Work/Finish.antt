@@ -38,7 +38,7 @@ use Rattle.ns_types.proofs.Classes.{by_class, one_class}
 use Rattle.ns_laws.specs.Workers as law
 use Rattle.ns_laws.specs.Workers.{MissedRelease, of_class, of_quota}
 use Rattle.ns_laws.proofs.QueueLemmas.{promote_part}
-use Rattle.ns_laws.proofs.Refusal.Tests.{Row, tells_plainly, tells_rows}
+use Rattle.ns_laws.proofs.Refusal.Tests.{Row, decides_any}
 use Rattle.ns_laws.proofs.Wakes.Reasons.{may_use}
 use Rattle.ns_laws.specs.Workers.{Cancels, none_there, one_there, EndsAs, is_failed, is_complete, FollowerLeads, none_needed, follower_blocked}
 use Rattle.ns_laws.specs.Workers.{follower_pending, HasEvaluation, IsFinished, IsFollower, MayEnd, nothing_to_do, all_done, no_try_left, NeedsFollower}
@@ -132,9 +132,7 @@ missed_release w kept e status m = by e.quota refl m
     in_pool unlimited None is m = not_both m refl
     in_pool unlimited (Some pool) is m =
         let r : Row (λ class number. (nat_lt kept.release number && can_use e class) ≡ true) pool.classes =
-        (tells_rows by_class one_class (λ class number. nat_lt kept.release number && can_use e class)
-        (λ class number. (nat_lt kept.release number && can_use e class) ≡ true)
-        (λ class number. tells_plainly (nat_lt kept.release number && can_use e class)) pool.classes).why m in
+        (decides_any by_class one_class (λ class number. nat_lt kept.release number && can_use e class) pool.classes).0 m in
         of_class unlimited pool r.key r.row is r.is_row (less kept.release r.row (first_of_both (nat_lt kept.release r.row) _ r.holds))
         (may_use e r.key (second_of_both (nat_lt kept.release r.row) _ r.holds))
 
