@@ -1,13 +1,14 @@
--- Laws of names: how long they are, and which characters they have; and of ids.
+-- Laws of names: how long they are, and which characters they have; of the order of classes; and of ids.
 use Rattle.std.specs.Prelude.{◌≡◌, ◌≢◌, ◌↔◌, ◌⊎◌, ℕ, ◌+◌, ◌*◌, ◌^◌, ◌<◌, ◌≤◌, List, ◌∷◌, ◌++◌, Some, All, Contains}
-use Rattle.std.specs.Prelude.{IsTrue, codes, length}
-use Rattle.std.specs.Ordering.{is_lt}
+use Rattle.std.specs.Prelude.{IsFalse, IsTrue, codes, length}
+use Rattle.std.specs.declared.cmp.Ordering.{Ordering}
+use Rattle.std.specs.Ordering.{eq_by_cmp, is_lt}
 use Rattle.ns_types.specs.declared.id.IdKind.{IdKind}
-use Rattle.ns_types.specs.declared.name.NameKind.TheVariants as NameKind
+use Rattle.ns_types.specs.declared.name.NameKind.{NameKind}
 use Rattle.ns_types.specs.State.Id.{IsNoId, id_text, uuid_number}
 use Rattle.ns_types.specs.State.Limits.{is_pool_name}
-use Rattle.ns_types.specs.State.Name.{is_name}
-use Rattle.ns_types.specs.State.Names.{Name, name_cmp, same_name}
+use Rattle.ns_types.specs.State.Name.{is_name, name_of}
+use Rattle.ns_types.specs.State.Names.{Name, attribute_cmp, class_cmp, name_cmp, same_name}
 
 -- ---- names
 
@@ -61,6 +62,11 @@ NamesOfJobs = (text : Name) → (IsTrue (is_name NameKind.Job text) ↔ IsMadeOf
 abbrev pub TextsOfSecrets : Type 0
 TextsOfSecrets = (text : Name) → IsTrue (is_name NameKind.Secret text) ↔ IsMadeOf printable 64 text
 
+-- A text is read as a name of a kind exactly if it has the length and the characters of one, and it stays as it is.
+abbrev pub NamesAreRead : Type 0
+NamesAreRead = (kind : NameKind) (text name : Name) →
+    (name_of kind text ≡ Some name) ↔ (IsTrue (is_name kind text) × (name ≡ text))
+
 -- Two names are the same exactly if they are the same text: a letter in upper case is another than in lower case.
 abbrev pub SameNames : Type 0
 SameNames = (a b : Name) → IsTrue (same_name a b) ↔ (a ≡ b)
@@ -86,6 +92,25 @@ pub record IsLessAt (a b : Name) : Type 0 where
 -- where they first differ.
 abbrev pub NameOrder : Type 0
 NameOrder = (a b : Name) → IsTrue (is_lt (name_cmp a b)) ↔ GoesOn a b ⊎ IsLessAt a b
+
+-- ---- attributes and classes
+
+-- Only what is the same ties. Of two others one comes before the other, not both; and what comes before another comes
+-- before all that come after that one.
+pub record IsOrder {A : Type 0} (compare : A → A → Ordering) : Type 0 where
+  pub same : (a b : A) → IsTrue (eq_by_cmp compare a b) ↔ (a ≡ b)
+  pub either : (a b : A) → a ≢ b → IsTrue (is_lt (compare a b)) ⊎ IsTrue (is_lt (compare b a))
+  pub one_way : (a b : A) → IsTrue (is_lt (compare a b)) → IsFalse (is_lt (compare b a))
+  pub onward : (a b c : A) → IsTrue (is_lt (compare a b)) → IsTrue (is_lt (compare b c)) →
+      IsTrue (is_lt (compare a c))
+
+-- Attributes have an order: two are the same exactly if their keys are and their values are.
+abbrev pub AttributesAreOrdered : Type 0
+AttributesAreOrdered = IsOrder attribute_cmp
+
+-- Classes have an order: two are the same exactly if their names are and their attributes are, one by one.
+abbrev pub ClassesAreOrdered : Type 0
+ClassesAreOrdered = IsOrder class_cmp
 
 -- ---- ids
 

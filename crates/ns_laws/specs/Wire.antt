@@ -7,6 +7,9 @@ use Rattle.std.specs.Str.Parse.{digits_value}
 use Rattle.ns_types.specs.declared.refusal.Member.{Member}
 use Rattle.ns_types.specs.declared.refusal.Refusal.{Refusal}
 use Rattle.ns_types.specs.declared.reply.HeadFault.{HeadFault}
+use Rattle.ns_types.specs.declared.step.Step.{Step}
+use Rattle.ns_types.specs.State.Rows.{State}
+use Rattle.ns_types.specs.Steps.{after, said}
 use Rattle.ns_types.specs.Wire.Http.{Header, IsMessage, Message, Whole, Refused, asks_close, body_len}
 use Rattle.ns_types.specs.Wire.Http.{eq_ignore_case, is_last, lists_close, print_message, token_of}
 use Rattle.ns_types.specs.Wire.Member.{member_name}
@@ -151,6 +154,11 @@ pub record RefusalsOnWire : Type 0 where
       ≡ text_response (codes "503 Service Unavailable") (codes "13") [] (codes "out of memory")
   pub log_full : wire (refused Refusal.LogFull) false
       ≡ text_response (codes "503 Service Unavailable") (codes "8") [] (codes "log full")
+
+-- A step that is refused is answered with a status of the client's errors, from 400 to 499.
+abbrev pub RefusedStepsOnWire : Type 0
+RefusedStepsOnWire = (step : Step) (s t : State) (refusal : Refusal) → after step s ≡ said (Err refusal) t
+    → (400 ≤ (refused refusal).status) × ((refused refusal).status ≤ 499)
 
 -- A bad field is sent with its name.
 abbrev pub FieldsOnWire : Type 0

@@ -1,4 +1,4 @@
-//! Laws of names: how long they are, and which characters they have; and of ids.
+//! Laws of names: how long they are, and which characters they have; of the order of classes; and of ids.
 
 ghost use Rattle.ns_laws.specs.Names.{
   NamesOfNamespaces,
@@ -6,8 +6,11 @@ ghost use Rattle.ns_laws.specs.Names.{
   NamesOfPools,
   NamesOfJobs,
   TextsOfSecrets,
+  NamesAreRead,
   SameNames,
   NameOrder,
+  AttributesAreOrdered,
+  ClassesAreOrdered,
   IdsDiffer,
   IdsReadBack,
   IdsHaveKinds,
@@ -42,6 +45,11 @@ pub fn texts_of_secrets()
     ensures { TextsOfSecrets }
 {}
 
+/// A text is read as a name of a kind exactly if it has the length and the characters of one, and it stays as it is.
+pub fn names_are_read()
+    ensures { NamesAreRead }
+{}
+
 /// Two names are the same exactly if they are the same text: a letter in upper case is another than in lower case.
 pub fn same_names()
     ensures { SameNames }
@@ -51,6 +59,17 @@ pub fn same_names()
 /// where they first differ.
 pub fn name_order()
     ensures { NameOrder }
+{}
+
+/// Attributes have an order. Two are the same exactly if their keys are and their values are; of two others one comes
+/// before the other, not both; and what comes before another comes before all that come after that one.
+pub fn attributes_are_ordered()
+    ensures { AttributesAreOrdered }
+{}
+
+/// Classes have such an order too. Two are the same exactly if their names are and their attributes are, one by one.
+pub fn classes_are_ordered()
+    ensures { ClassesAreOrdered }
 {}
 
 /// No two evaluations of a namespace have the same id, no two allocations have the same, and no allocation has the id of

@@ -14,6 +14,7 @@ ghost use Rattle.ns_laws.specs.Wire.{
   CommasSeparate,
   LastRequests,
   RefusalsOnWire,
+  RefusedStepsOnWire,
   FieldsOnWire,
   HeadFaultsOnWire,
   DoneOnWire,
@@ -87,6 +88,11 @@ pub fn last_requests()
 /// Each refusal is sent with its status, its phrase, its text and the length of that, as a text without an index.
 pub fn refusals_on_wire()
     ensures { RefusalsOnWire }
+{}
+
+/// A step that is refused is answered with a status of the client's errors, from 400 to 499.
+pub fn refused_steps_on_wire()
+    ensures { RefusedStepsOnWire }
 {}
 
 /// A bad field is sent with status 400 and with its name, as in `bad field: Priority`.

@@ -1,10 +1,15 @@
 -- The bytes of responses.
-use Rattle.std.specs.Prelude.{◌≡◌, ℕ, true, false, List, [], ◌∷◌, ◌++◌, Some, None, codes, decimal, length}
+use Rattle.std.specs.Prelude.{◌≡◌, ◌≤◌, ℕ, true, false, List, [], ◌∷◌, ◌++◌, Some, None, codes, decimal, length}
 use Rattle.std.specs.Fmt.{digits}
-use Rattle.std.proofs.Common.{refl, sym, ap, ◌∙◌, append_assoc, append-nil}
+use Rattle.std.proofs.Common.{refl, sym, ap, ◌∙◌, append_assoc, append-nil, arith}
 use Rattle.ns_types.specs.declared.refusal.Member.{Member}
+use Rattle.ns_types.specs.declared.refusal.Refusal.{Refusal}
 use Rattle.ns_types.specs.Wire.Http.{is_last}
+use Rattle.ns_types.specs.Wire.Refused.{refusal_status}
 use Rattle.ns_types.specs.Wire.Responses.{response_head, wire, wires}
+use Rattle.ns_types.proofs.Lists.{not_both}
+use Rattle.ns_audit.specs.Refusals.{is_of_steps}
+use Rattle.ns_audit.proofs.RefusalLemmas.{steps_refuse_so}
 use Rattle.ns_laws.specs.Wire as law
 
 pub refusals_on_wire : law.RefusalsOnWire
@@ -22,6 +27,19 @@ refusals_on_wire = record {
   memory = refl;
   log_full = refl;
 }
+
+of_request : (refusal : Refusal) → is_of_steps refusal ≡ true → (400 ≤ refusal_status refusal) × (refusal_status refusal ≤ 499)
+of_request Refusal.Denied e = (omega arith, omega arith)
+of_request Refusal.NotFound e = (omega arith, omega arith)
+of_request Refusal.PoolNotPermitted e = (omega arith, omega arith)
+of_request (Refusal.BadField member) e = (omega arith, omega arith)
+of_request Refusal.Conflict e = (omega arith, omega arith)
+of_request Refusal.InUse e = (omega arith, omega arith)
+of_request Refusal.Full e = (omega arith, omega arith)
+of_request _ e = not_both e refl
+
+pub refused_steps_on_wire : law.RefusedStepsOnWire
+refused_steps_on_wire step s t refusal e = of_request refusal (steps_refuse_so step s t refusal e)
 
 pub fields_on_wire : law.FieldsOnWire
 unfolding response_head digits

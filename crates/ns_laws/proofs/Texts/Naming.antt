@@ -1,6 +1,6 @@
 -- Which texts are names, by their characters.
 use Rattle.std.specs.Prelude.{◌≡◌, ◌↔◌, ℕ, ◌≤◌, Bool, true, false, ◌&&◌, ◌||◌, ◌==◌, List, [], ◌∷◌, All, Contains, Decides}
-use Rattle.std.specs.Prelude.{IsTrue, bytes_eq, codes, length, nat_le, nat_lt, not}
+use Rattle.std.specs.Prelude.{IsTrue, None, Some, bytes_eq, codes, if◌then◌else◌, length, nat_le, nat_lt, not}
 use Rattle.std.specs.Cmp.Lexicographic.{bytes_decides}
 use Rattle.std.specs.List.{list_all, list_any}
 use Rattle.std.proofs.Common.{inl, inr, refl, sym, ap, subst, ◌∙◌, arith}
@@ -13,6 +13,7 @@ use Rattle.ns_types.specs.State.Name.{is_name, is_name_byte, longest}
 use Rattle.ns_types.specs.State.Names.{Name, same_name}
 use Rattle.ns_types.proofs.Lists.{not_both}
 use Rattle.ns_types.proofs.Named.{same_name_is, same_name_refl}
+use Rattle.ns_types.proofs.Tests.{not_Some, same_Some}
 use Rattle.ns_laws.specs.Names as law
 use Rattle.ns_laws.specs.Names.{IsMadeOf, IsOfPool, plain, plain_or_underscore, printable}
 
@@ -139,6 +140,13 @@ names_of_jobs text = (job_name text, group_name text, task_name text)
 
 pub texts_of_secrets : law.TextsOfSecrets
 texts_of_secrets text = named NameKind.Secret printable printable_is text
+
+read : (b : Bool) (text name : Name) → ((if b then Some text else None) ≡ Some name) ↔ ((b ≡ true) × (name ≡ text))
+read true text name = ((λ e. (refl, same_Some name text (sym e))), (λ is. ap Some (sym is.1)))
+read false text name = ((λ e. absurd (not_Some name e)), (λ is. not_both is.0 refl))
+
+pub names_are_read : law.NamesAreRead
+names_are_read kind text name = read (is_name kind text) text name
 
 pub same_names : law.SameNames
 same_names a b = (same_name_is a b, λ e. subst (λ c. same_name a c ≡ true) e (same_name_refl a))
