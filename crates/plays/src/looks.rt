@@ -9,26 +9,27 @@ use ns_types::step::Step;
 use ns_types::text::Text;
 use std::alloc::{AllocError, Global};
 use std::io::{self, Write};
+use std::slice;
 
 /// What the calls are about: what a secret may do, whether a namespace has a pool and the quota `qa` to itself, and whether
 /// there is room for a step.
 #[derive(Drop)]
-pub struct LookTargets {
+struct LookTargets {
     secret: Text,
     namespace: Text,
-    pools: [Text; 1],
-    quotas: [Text; 1],
+    pool: Text,
+    quota: Text,
     step: Step,
 }
 
 impl LookTargets {
-    pub fn new(alloc: Global, namespace: &str, pool: &str) -> Result<LookTargets, AllocError> {
+    fn new(alloc: Global, namespace: &str, pool: &str) -> Result<LookTargets, AllocError> {
         let step = Step::Snap(0, Text::from_str(alloc, namespace)?);
         Ok(LookTargets {
             secret: Text::from_str(alloc, ROOT)?,
             namespace: Text::from_str(alloc, namespace)?,
-            pools: [Text::from_str(alloc, pool)?],
-            quotas: [Text::from_str(alloc, "qa")?],
+            pool: Text::from_str(alloc, pool)?,
+            quota: Text::from_str(alloc, "qa")?,
             step,
         })
     }
@@ -70,14 +71,18 @@ fn write_number<W: Write>(out: &mut W, name: &str, number: u64) -> io::Result<()
     write_words(out, &[name, Buffer::new().format(number)])
 }
 
+fn truth(is_so: bool) -> &'static str {
+    if is_so { "true" } else { "false" }
+}
+
 impl Looked {
     /// Makes each call once.
     fn at(core: &Core, asked: &LookTargets) -> Looked {
         let LookTargets {
             secret,
             namespace,
-            pools,
-            quotas,
+            pool,
+            quota,
             step,
         } = asked;
         Looked {
@@ -86,38 +91,64 @@ impl Looked {
             planned: number(core.first_plan()),
             busy: busy_with(core, 0, namespace),
             rights: core.rights(Some(secret), namespace),
-            pool_rights: core.pool_rights(Some(secret), &pools[0]),
+            pool_rights: core.pool_rights(Some(secret), pool),
             is_there: core.namespace_at(namespace).is_some(),
-            permits: core.permits(namespace, &pools[0]),
+            permits: core.permits(namespace, pool),
             shares: core.shares(namespace),
-            apart: core.apart(namespace, pools, quotas),
+            apart: core.apart(namespace, slice::from_ref(pool), slice::from_ref(quota)),
             lacks_room: core.lacks_room(step),
         }
     }
 
-    fn write<W: Write>(self, out: &mut W) -> io::Result<()> {
+    fn write_numbers<W: Write>(self, out: &mut W) -> io::Result<()> {
         write_number(out, "served ", self.served)?;
         write_number(out, ", planned ", self.planned)?;
-        write_number(out, ", busy ", self.busy)?;
-        let flags = [
-            (", list-jobs ", self.rights.list_jobs),
-            (", pool read ", self.pool_rights.read),
-            (", there ", self.is_there),
-            (", permits ", self.permits),
-            (", shares ", self.shares),
-            (", apart ", self.apart),
-            (", has served ", self.has_served),
-            (", lacks room ", self.lacks_room),
-        ];
-        for (name, is_so) in flags {
-            write_words(out, &[name, if is_so { "true" } else { "false" }])?;
-        }
-        write_line(out, &[])
+        write_number(out, ", busy ", self.busy)
+    }
+
+    /// Writes what the secret may do.
+    fn write_rights<W: Write>(self, out: &mut W) -> io::Result<()> {
+        write_words(
+            out,
+            &[
+                ", list-jobs ",
+                truth(self.rights.list_jobs),
+                ", pool read ",
+                truth(self.pool_rights.read),
+            ],
+        )
+    }
+
+    /// Writes the rest of the line.
+    fn write_others<W: Write>(self, out: &mut W) -> io::Result<()> {
+        write_line(
+            out,
+            &[
+                ", there ",
+                truth(self.is_there),
+                ", permits ",
+                truth(self.permits),
+                ", shares ",
+                truth(self.shares),
+                ", apart ",
+                truth(self.apart),
+                ", has served ",
+                truth(self.has_served),
+                ", lacks room ",
+                truth(self.lacks_room),
+            ],
+        )
+    }
+
+    fn write<W: Write>(self, out: &mut W) -> io::Result<()> {
+        self.write_numbers(out)?;
+        self.write_rights(out)?;
+        self.write_others(out)
     }
 }
 
 /// Makes each call `times` times, and writes what they return, which has to be the same each time.
-pub fn write_looks<W: Write>(
+fn write_asked<W: Write>(
     out: &mut W,
     core: &Core,
     asked: &LookTargets,
@@ -128,4 +159,19 @@ pub fn write_looks<W: Write>(
         anyhow::ensure!(Looked::at(core, asked) == first, "a look changes something");
     }
     Ok(first.write(out)?)
+}
+
+/// Makes each call `times` times about the namespace and the pool, and writes what they return.
+pub fn write_looks<W: Write>(
+    out: &mut W,
+    core: &Core,
+    alloc: Global,
+    times: u64,
+    namespace: &str,
+    pool: &str,
+) -> anyhow::Result<()> {
+    let asked = LookTargets::new(alloc, namespace, pool)?;
+    let written = write_asked(out, core, &asked, times);
+    drop(asked);
+    written
 }

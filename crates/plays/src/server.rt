@@ -3,7 +3,7 @@
 use crate::answers::{write_key, write_phase, write_refusal, write_response, write_snapped};
 use crate::lent::answered;
 use crate::line::{Call, Line, ScriptWork};
-use crate::looks::{LookTargets, write_looks};
+use crate::looks::write_looks;
 use crate::steps::ScriptStep;
 use crate::taken::Snapshots;
 use crate::watch::CopyWatch;
@@ -132,37 +132,38 @@ impl<'a> ScriptServer<'a> {
         match work {
             ScriptWork::Dequeue(number) => {
                 let step = ScriptStep::Dequeue(number);
-                step.tell(&mut self.core, &self.watch, alloc, worker, namespace, out)
+                step.make_and_write(&mut self.core, &self.watch, alloc, worker, namespace, out)
             }
             ScriptWork::Snap => self.snap(worker, namespace, out),
             ScriptWork::Submit(place) => {
                 let step = ScriptStep::Submit(self.seen.find(worker, place)?);
-                step.tell(&mut self.core, &self.watch, alloc, worker, namespace, out)
+                step.make_and_write(&mut self.core, &self.watch, alloc, worker, namespace, out)
             }
             ScriptWork::Apply => {
-                ScriptStep::Apply.tell(&mut self.core, &self.watch, alloc, worker, namespace, out)
+                ScriptStep::Apply.make_and_write(
+                    &mut self.core,
+                    &self.watch,
+                    alloc,
+                    worker,
+                    namespace,
+                    out,
+                )
             }
             ScriptWork::Finish(place) => {
                 let step = ScriptStep::Finish(self.seen.find(worker, place)?);
-                step.tell(&mut self.core, &self.watch, alloc, worker, namespace, out)
+                step.make_and_write(&mut self.core, &self.watch, alloc, worker, namespace, out)
             }
             ScriptWork::Nack => {
-                ScriptStep::Nack.tell(&mut self.core, &self.watch, alloc, worker, namespace, out)
+                ScriptStep::Nack.make_and_write(
+                    &mut self.core,
+                    &self.watch,
+                    alloc,
+                    worker,
+                    namespace,
+                    out,
+                )
             }
         }
-    }
-
-    fn looks<W: Write>(
-        &self,
-        times: u64,
-        namespace: &str,
-        pool: &str,
-        out: &mut W,
-    ) -> anyhow::Result<()> {
-        let asked = LookTargets::new(self.alloc, namespace, pool)?;
-        let written = write_looks(out, &self.core, &asked, times);
-        drop(asked);
-        written
     }
 
     fn call<W: Write>(&mut self, call: Call<'_>, out: &mut W) -> anyhow::Result<()> {
@@ -174,7 +175,9 @@ impl<'a> ScriptServer<'a> {
             Call::Served => write_key(out, self.core.served()),
             Call::Planned => write_key(out, self.core.first_plan()),
             Call::Phase(worker) => write_phase(out, &self.core, worker),
-            Call::Looks(times, namespace, pool) => return self.looks(times, namespace, pool, out),
+            Call::Looks(times, namespace, pool) => {
+                return write_looks(out, &self.core, self.alloc, times, namespace, pool);
+            }
         };
         Ok(written?)
     }

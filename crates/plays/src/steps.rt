@@ -56,7 +56,7 @@ impl ScriptStep<'_> {
     }
 
     /// Makes the step, and writes the reply. A step that was refused for want of memory is made once more.
-    pub fn tell<W: Write>(
+    pub fn make_and_write<W: Write>(
         self,
         core: &mut Core,
         watch: &CopyWatch<'_>,

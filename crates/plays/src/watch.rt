@@ -17,8 +17,8 @@ use std::io::Write;
 /// The number after that of the last worker.
 const WORKERS_END: u64 = 64;
 
-/// An allocation of `BEGINS` bytes tells `bench/refusing.py`, which refuses allocations, not to refuse those that follow, since
-/// the comparison makes them. One of `ENDS` bytes says that the comparison is over.
+/// After an allocation of `BEGINS` bytes, `bench/refusing.py`, which refuses allocations, refuses none of those that follow,
+/// since the comparison makes them. One of `ENDS` bytes says that the comparison is over.
 const BEGINS: usize = 40_009;
 
 const ENDS: usize = 40_013;
