@@ -6,7 +6,7 @@ mod serve;
 mod value;
 
 ghost use Rattle.std.specs.Prelude.{◌≡◌, ◌≢◌, ◌⊎◌, ℕ, List, IfOk, IfErr};
-ghost use Rattle.clap.specs.Words.{HasKind, fault_of, kind_of, subcommand_of, subcommand_rows_of};
+ghost use Rattle.clap.specs.Words.{HasKind, app_of, fault_of, kind_of, subcommand_of, subcommand_rows_of};
 ghost use Rattle.clap.specs.Walk.{texts};
 ghost use Rattle.ns_api.specs.declared.following.Driven.{Driven};
 ghost use Rattle.ns_pipe.specs.Asking.{IsHelp, IsMistake};
@@ -47,6 +47,29 @@ fn wanted(alloc: Global, command: &mut Command, matches: &ArgMatches) -> Result<
     Ok(Invocation::Run(WordsRead::Pipe(secret, driven, printed)))
 }
 
+/// What the words ask for of the program with this command, or the fault in them.
+fn asked_of<'a>(
+    alloc: Global,
+    command: &mut Command<'a>,
+    words: &'a [&str],
+) -> Result<Invocation, Error>
+    requires program { app_of command.old ≡ program_words }
+    ensures taken { IfOk result (λ _. AreTaken (texts words.entry.now)) }
+    ensures gives { IfOk result (IsWanted (subcommand_of program_words (texts words.entry.now))) }
+    ensures good { (wanted : Invocation) → AreTaken (texts words.entry.now)
+        → IsWanted (subcommand_of program_words (texts words.entry.now)) wanted
+        → IfOk result (λ w. w ≡ wanted)
+        × IfErr result (λ error. kind_of error ≡ ErrorKind.OutOfMemory) }
+    ensures bad { AreTaken (texts words.entry.now) → IfErr result IsRefusal }
+    ensures faulty { (AreTaken (texts words.entry.now) → ⊥)
+        → IfErr result (HasKind (fault_of program_words (texts words.entry.now))) }
+{
+    let matches = command.try_get_matches_from_mut(words)?;
+    let wanted = wanted(alloc, command, &matches);
+    drop(matches);
+    wanted
+}
+
 /// What the words ask to be done, or the fault in them. The first word is the program's own name.
 fn asked(alloc: Global, words: &[&str]) -> Result<Invocation, Error>
     ensures taken { IfOk result (λ _. AreTaken (texts words.entry.now)) }
@@ -60,8 +83,9 @@ fn asked(alloc: Global, words: &[&str]) -> Result<Invocation, Error>
         → IfErr result (HasKind (fault_of program_words (texts words.entry.now))) }
 {
     let mut command = command(alloc)?;
-    let matches = command.try_get_matches_from_mut(words)?;
-    wanted(alloc, &mut command, &matches)
+    let asked = asked_of(alloc, &mut command, words);
+    drop(command);
+    asked
 }
 
 /// What is written for words that are not carried out: help if they ask for it, or else what is

@@ -6,7 +6,7 @@ use Rattle.clap.specs.declared.error.kind.ErrorKind.{ErrorKind}
 use Rattle.clap.specs.declared.parser.matches.ArgMatches.{ArgMatches}
 use Rattle.ns_command_line.specs.Words.{IsRefusal, IsWanted, program_words}
 use Rattle.ns_command_line.proofs.Errors.{any_ok, err_is, no_fault, none_is_ok, of_fault, only_memory}
-use Rattle.ns_command_line.proofs.words.asked.Goals as goal
+use Rattle.ns_command_line.proofs.words.asked_of.Goals as goal
 
 -- the matches name a subcommand as the words do
 same_named : (app : App) (words : List Text) (matches : ArgMatches) → app ≡ program_words → HasMatchesOf app words matches →
@@ -16,38 +16,38 @@ same_named app words matches is fits = (subst (λ a. HasMatchesOf a words matche
 pub returns-in_err-matches-clause-good : goal.returns-in_err-matches-clause-good
 returns-in_err-matches-clause-good c = λ wanted taken is.
     let words = texts c.args.words.now in
-    let same = c.from_residual-in_err-matches.ensures.1 in (
-      none_is_ok _ c.from_residual-in_err-matches.result _ same,
-      err_is (λ error. kind_of error ≡ ErrorKind.OutOfMemory) c.from_residual-in_err-matches.result _ same
-          (only_memory words _ taken (of_fault _ words _ c.in_ok-command.ensures c.in_err-matches.ensures.kinds)),
+    let same = c.from_residual.ensures.1 in (
+      none_is_ok _ c.from_residual.result _ same,
+      err_is (λ error. kind_of error ≡ ErrorKind.OutOfMemory) c.from_residual.result _ same
+          (only_memory words _ taken (of_fault _ words _ c.requires.program c.in_err-matches.ensures.kinds)),
     )
 
 pub returns-in_err-matches-clause-bad : goal.returns-in_err-matches-clause-bad
 returns-in_err-matches-clause-bad c = λ taken.
     let words = texts c.args.words.now in
-    err_is IsRefusal c.from_residual-in_err-matches.result _ c.from_residual-in_err-matches.ensures.1
-    (inr (only_memory words _ taken (of_fault _ words _ c.in_ok-command.ensures c.in_err-matches.ensures.kinds)))
+    err_is IsRefusal c.from_residual.result _ c.from_residual.ensures.1
+    (inr (only_memory words _ taken (of_fault _ words _ c.requires.program c.in_err-matches.ensures.kinds)))
 
 pub returns-in_err-matches-clause-faulty : goal.returns-in_err-matches-clause-faulty
 returns-in_err-matches-clause-faulty c = λ refused.
     let words = texts c.args.words.now in
-    err_is (HasKind (fault_of program_words words)) c.from_residual-in_err-matches.result _ c.from_residual-in_err-matches.ensures.1
-    (of_fault _ words _ c.in_ok-command.ensures c.in_err-matches.ensures.kinds)
+    err_is (HasKind (fault_of program_words words)) c.from_residual.result _ c.from_residual.ensures.1
+    (of_fault _ words _ c.requires.program c.in_err-matches.ensures.kinds)
 
 pub returns-clause-taken : goal.returns-clause-taken
 returns-clause-taken c =
-    any_ok _ c.wanted.result (no_fault _ (texts c.args.words.now) c.in_ok-command.ensures c.in_ok-matches.ensures.kinds)
+    any_ok _ c.wanted-wanted.result (no_fault _ (texts c.args.words.now) c.requires.program c.in_ok-matches.ensures.kinds)
 
 pub returns-clause-gives : goal.returns-clause-gives
 returns-clause-gives c =
-    let named = same_named _ (texts c.args.words.now) c.in_ok-matches.matches c.in_ok-command.ensures c.in_ok-matches.ensures.ok.2 in
-    subst (λ n. IfOk c.wanted.result (IsWanted n)) named c.wanted.ensures.gives
+    let named = same_named _ (texts c.args.words.now) c.in_ok-matches.matches c.requires.program c.in_ok-matches.ensures.ok.2 in
+    subst (λ n. IfOk c.wanted-wanted.result (IsWanted n)) named c.wanted-wanted.ensures.gives
 
 pub returns-clause-good : goal.returns-clause-good
 returns-clause-good c = λ wanted taken is.
-    let named = same_named _ (texts c.args.words.now) c.in_ok-matches.matches c.in_ok-command.ensures c.in_ok-matches.ensures.ok.2 in
-    c.wanted.ensures.good wanted (subst (λ n. IsWanted n wanted) (sym named) is)
+    let named = same_named _ (texts c.args.words.now) c.in_ok-matches.matches c.requires.program c.in_ok-matches.ensures.ok.2 in
+    c.wanted-wanted.ensures.good wanted (subst (λ n. IsWanted n wanted) (sym named) is)
 
 pub returns-clause-faulty : goal.returns-clause-faulty
 returns-clause-faulty c = λ refused.
-    absurd (refused (no_fault _ (texts c.args.words.now) c.in_ok-command.ensures c.in_ok-matches.ensures.kinds))
+    absurd (refused (no_fault _ (texts c.args.words.now) c.requires.program c.in_ok-matches.ensures.kinds))
