@@ -1,14 +1,16 @@
 //! The words that the program takes, for `clap`.
 
+mod options;
 mod serve;
 
-ghost use Rattle.std.specs.Prelude.{◌≡◌, IfOk, codes, false};
-ghost use Rattle.clap.specs.Words.{app_of, new_app, rule_of};
+ghost use Rattle.std.specs.Prelude.{◌≡◌, IfOk, false};
+ghost use Rattle.clap.specs.Words.{app_of, rule_of};
 ghost use Rattle.clap.specs.declared.builder.command.Command.TheViews.{out-Command};
-ghost use Rattle.ns_command_line.specs.Words.{alone_words, bare_words, pipe_words, program_words};
-ghost use Rattle.ns_command_line.specs.Words.{bootstrap_rule, drive_rule, from_rule, namespace_rule};
-ghost use Rattle.ns_command_line.specs.Words.{pool_rule, print_rule, quota_rule};
+ghost use Rattle.ns_command_line.specs.Serve.{serve_words};
+ghost use Rattle.ns_command_line.specs.Words.{alone_words, bare_words, drive_rule, namespace_rule};
+ghost use Rattle.ns_command_line.specs.Words.{pipe_words, program_words, with_app};
 
+use crate::command::options::{OptionWords, option, repeated, required};
 use clap::{Arg, ArgAction, Command};
 use std::alloc::{AllocError, Global};
 
@@ -56,16 +58,37 @@ Exit statuses:
   4  the output failed
   5  out of memory";
 
-fn bootstrap<'a>(alloc: Global) -> Arg<'a>
-    ensures rule { rule_of result ≡ bootstrap_rule }
-    ensures local { result.global ≡ false }
-{
-    Arg::new(alloc, "bootstrap")
-        .long("bootstrap")
-        .value_name("SECRET")
-        .required(true)
-        .help("The secret of the first management token: 1 to 64 printable bytes without a space")
-}
+const BOOTSTRAP: OptionWords = (
+    "bootstrap",
+    "SECRET",
+    "The secret of the first management token: 1 to 64 printable bytes without a space",
+);
+
+const PRINT: OptionWords = (
+    "print",
+    "WHAT",
+    "What standard output gets: `replies` or `log` (default: replies)",
+);
+
+const FROM: OptionWords = (
+    "from",
+    "COUNT",
+    "Number of entries of the log that set up the server first (default: 0)",
+);
+
+const POOL: OptionWords = (
+    "pool",
+    "NAME",
+    "A pool that the namespace has to itself; repeat it for each (default without --quota: \
+     the pools that it may use after COUNT entries)",
+);
+
+const QUOTA: OptionWords = (
+    "quota",
+    "NAME",
+    "A quota that it has to itself; repeat it for each (default without --pool: the one that \
+     it names after COUNT entries)",
+);
 
 fn drive<'a>(alloc: Global) -> Arg<'a>
     ensures rule { rule_of result ≡ drive_rule }
@@ -79,16 +102,6 @@ fn drive<'a>(alloc: Global) -> Arg<'a>
         )
 }
 
-fn print<'a>(alloc: Global) -> Arg<'a>
-    ensures rule { rule_of result ≡ print_rule }
-    ensures local { result.global ≡ false }
-{
-    Arg::new(alloc, "print")
-        .long("print")
-        .value_name("WHAT")
-        .help("What standard output gets: `replies` or `log` (default: replies)")
-}
-
 fn namespace<'a>(alloc: Global) -> Arg<'a>
     ensures rule { rule_of result ≡ namespace_rule }
     ensures local { result.global ≡ false }
@@ -99,98 +112,87 @@ fn namespace<'a>(alloc: Global) -> Arg<'a>
         .help("The namespace: 1 to 128 letters, digits and hyphens")
 }
 
-fn from<'a>(alloc: Global) -> Arg<'a>
-    ensures rule { rule_of result ≡ from_rule }
-    ensures local { result.global ≡ false }
-{
-    Arg::new(alloc, "from")
-        .long("from")
-        .value_name("COUNT")
-        .help("Number of entries of the log that set up the server first (default: 0)")
-}
-
-fn pool<'a>(alloc: Global) -> Arg<'a>
-    ensures rule { rule_of result ≡ pool_rule }
-    ensures local { result.global ≡ false }
-{
-    Arg::new(alloc, "pool")
-        .long("pool")
-        .value_name("NAME")
-        .action(ArgAction::Append)
-        .help(
-            "A pool that the namespace has to itself; repeat it for each (default without --quota: \
-             the pools that it may use after COUNT entries)",
-        )
-}
-
-fn quota<'a>(alloc: Global) -> Arg<'a>
-    ensures rule { rule_of result ≡ quota_rule }
-    ensures local { result.global ≡ false }
-{
-    Arg::new(alloc, "quota")
-        .long("quota")
-        .value_name("NAME")
-        .action(ArgAction::Append)
-        .help(
-            "A quota that it has to itself; repeat it for each (default without --pool: the one that \
-             it names after COUNT entries)",
-        )
-}
-
-/// `pipe` without its arguments.
-fn bare_pipe<'a>(alloc: Global) -> Command<'a>
-    ensures shape { app_of result ≡ new_app (codes "pipe") }
-    ensures local { (out-Command result).has_globals ≡ false }
-{
-    Command::new(alloc, "pipe")
-        .about(
-            "Answers standard input as one HTTP/1.1 connection, with the replies on standard output",
-        )
-        .after_help(EXAMPLE)
-}
-
 fn pipe<'a>(alloc: Global) -> Result<Command<'a>, AllocError>
     ensures shape { IfOk result (λ command. app_of command ≡ pipe_words) }
     ensures local { IfOk result (λ command. (out-Command command).has_globals ≡ false) }
 {
-    let args = vec![in alloc; bootstrap(alloc), drive(alloc), print(alloc)]?;
-    bare_pipe(alloc).args(args)
-}
-
-/// `alone` without its arguments.
-fn bare_alone<'a>(alloc: Global) -> Command<'a>
-    ensures shape { app_of result ≡ new_app (codes "alone") }
-    ensures local { (out-Command result).has_globals ≡ false }
-{
-    Command::new(alloc, "alone")
-        .about(
-            "Replays a namespace's own steps of a log alone, and says whether each reply is the same",
-        )
-        .after_help(ALONE)
+    let about =
+        "Answers standard input as one HTTP/1.1 connection, with the replies on standard output";
+    let args = vec![in alloc;
+        required(alloc, BOOTSTRAP),
+        drive(alloc),
+        option(alloc, PRINT),
+    ]?;
+    options::bare(alloc, "pipe", about, EXAMPLE).args(args)
 }
 
 fn alone<'a>(alloc: Global) -> Result<Command<'a>, AllocError>
     ensures shape { IfOk result (λ command. app_of command ≡ alone_words) }
     ensures local { IfOk result (λ command. (out-Command command).has_globals ≡ false) }
 {
-    let args = vec![in alloc; namespace(alloc), from(alloc), pool(alloc), quota(alloc)]?;
-    bare_alone(alloc).args(args)
+    let about =
+        "Replays a namespace's own steps of a log alone, and says whether each reply is the same";
+    let args = vec![in alloc;
+        namespace(alloc),
+        option(alloc, FROM),
+        repeated(alloc, POOL),
+        repeated(alloc, QUOTA),
+    ]?;
+    options::bare(alloc, "alone", about, ALONE).args(args)
 }
 
 /// The program without its subcommands.
 fn bare<'a>(alloc: Global) -> Command<'a>
     ensures { app_of result ≡ bare_words }
 {
-    Command::new(alloc, "nsd")
-        .about("A scheduling server for many tenants")
-        .after_help(STATUSES)
-        .subcommand_required(true)
+    options::bare(
+        alloc,
+        "nsd",
+        "A scheduling server for many tenants",
+        STATUSES,
+    )
+    .subcommand_required(true)
+}
+
+/// The program with `pipe`.
+fn with_pipe<'a>(alloc: Global) -> Result<Command<'a>, AllocError>
+    ensures { IfOk result (λ program. app_of program ≡ with_app bare_words pipe_words) }
+{
+    let pipe = pipe(alloc)?;
+    bare(alloc).subcommand(pipe)
+}
+
+/// This program with `serve` as well.
+fn with_serve<'a>(alloc: Global, program: Command<'a>) -> Result<Command<'a>, AllocError>
+    ensures { IfOk result (λ more. app_of more ≡ with_app (app_of program.entry) serve_words) }
+{
+    match serve::serve(alloc) {
+        Ok(serve) => program.subcommand(serve),
+        Err(error) => {
+            drop(program);
+            Err(error)
+        }
+    }
+}
+
+/// This program with `alone` as well.
+fn with_alone<'a>(alloc: Global, program: Command<'a>) -> Result<Command<'a>, AllocError>
+    ensures { IfOk result (λ more. app_of more ≡ with_app (app_of program.entry) alone_words) }
+{
+    match alone(alloc) {
+        Ok(alone) => program.subcommand(alone),
+        Err(error) => {
+            drop(program);
+            Err(error)
+        }
+    }
 }
 
 /// The words that the program takes.
 pub fn command<'a>(alloc: Global) -> Result<Command<'a>, AllocError>
     ensures { IfOk result (λ command. app_of command ≡ program_words) }
 {
-    let commands = vec![in alloc; pipe(alloc)?, serve::serve(alloc)?, alone(alloc)?]?;
-    bare(alloc).subcommands(commands)
+    let program = with_pipe(alloc)?;
+    let program = with_serve(alloc, program)?;
+    with_alone(alloc, program)
 }

@@ -1,11 +1,12 @@
 //! The words of `serve`.
 
 ghost use Rattle.std.specs.Prelude.{◌≡◌, IfOk, codes, false};
-ghost use Rattle.clap.specs.Words.{app_of, new_app, rule_of};
+ghost use Rattle.clap.specs.Words.{app_of, new_app, with_rule};
 ghost use Rattle.clap.specs.declared.builder.command.Command.TheViews.{out-Command};
-ghost use Rattle.ns_command_line.specs.Serve.{listen_rule, option_rule, serve_words};
+ghost use Rattle.ns_command_line.specs.Serve.{listen_rule, serve_words};
 
-use clap::{Arg, Command};
+use crate::command::options::{OptionWords, bare, required, with_options};
+use clap::Command;
 use std::alloc::{AllocError, Global};
 
 const SERVE: &str = "\
@@ -40,100 +41,84 @@ Exit statuses:
   4  the output failed
   5  out of memory, or a thread could not be started";
 
-/// The name of an option, what stands for its value in the help, and the help.
-type ServeOption<'a> = (&'a str, &'a str, &'a str);
+const LISTEN: OptionWords = (
+    "listen",
+    "ADDR",
+    "Address to listen on: an IP address and a port, as 127.0.0.1:4646 or [::1]:0",
+);
 
-const BOOTSTRAP: ServeOption = (
+const BOOTSTRAP: OptionWords = (
     "bootstrap",
     "SECRET",
     "Secret of the first management token (default: drawn at random and printed)",
 );
 
-const WORKERS: ServeOption = ("workers", "N", "Number of workers, 1 to 63 (default: 2)");
+const WORKERS: OptionWords = ("workers", "N", "Number of workers, 1 to 63 (default: 2)");
 
-const CONNECTIONS: ServeOption = (
+const CONNECTIONS: OptionWords = (
     "connections",
     "N",
     "Number of connections served at once, 1 to 64 (default: 4)",
 );
 
-const ACCEPT: ServeOption = (
+const ACCEPT: OptionWords = (
     "accept",
     "N",
     "Number of connections after which the server ends (default: none, it runs on)",
 );
 
-const IDLE: ServeOption = (
+const IDLE: OptionWords = (
     "idle",
     "SECONDS",
     "Number of seconds after which an idle connection is closed, 1 to 86400 (default: never)",
 );
 
-const LOG_LIMIT: ServeOption = (
+const LOG_LIMIT: OptionWords = (
     "log-limit",
     "N",
     "Number of entries that the log may have (default: 1000000)",
 );
 
-const ROTATE: ServeOption = (
+const ROTATE: OptionWords = (
     "rotate",
     "N",
     "Number of entries at which the log is written out, below its limit (default: never)",
 );
 
-const ROTATE_BYTES: ServeOption = (
+const ROTATE_BYTES: OptionWords = (
     "rotate-bytes",
     "B",
     "Number of bytes of text past which it is written out as well, with --rotate only",
 );
 
-fn listen<'a>(alloc: Global) -> Arg<'a>
-    ensures rule { rule_of result ≡ listen_rule }
-    ensures local { result.global ≡ false }
+/// `serve` with the address alone.
+fn listening<'a>(alloc: Global) -> Result<Command<'a>, AllocError>
+    ensures shape { IfOk result (λ command.
+        app_of command ≡ with_rule (new_app (codes "serve")) listen_rule) }
+    ensures local { IfOk result (λ command. (out-Command command).has_globals ≡ false) }
 {
-    Arg::new(alloc, "listen")
-        .long("listen")
-        .value_name("ADDR")
-        .required(true)
-        .help("Address to listen on: an IP address and a port, as 127.0.0.1:4646 or [::1]:0")
+    let about = "Runs the server on a TCP port: HTTP/1.1, many connections and workers at once";
+    bare(alloc, "serve", about, SERVE).arg(required(alloc, LISTEN))
 }
 
-/// An option, which may be left out.
-fn option<'a>(alloc: Global, option: ServeOption<'a>) -> Arg<'a>
-    ensures rule { rule_of result ≡ option_rule option.entry.0.now }
-    ensures local { result.global ≡ false }
-{
-    let (name, value, help) = option;
-    Arg::new(alloc, name)
-        .long(name)
-        .value_name(value)
-        .help(help)
-}
-
-/// `serve` without its arguments.
-fn bare<'a>(alloc: Global) -> Command<'a>
-    ensures shape { app_of result ≡ new_app (codes "serve") }
-    ensures local { (out-Command result).has_globals ≡ false }
-{
-    Command::new(alloc, "serve")
-        .about("Runs the server on a TCP port: HTTP/1.1, many connections and workers at once")
-        .after_help(SERVE)
-}
-
+/// `serve` with all its arguments.
 pub fn serve<'a>(alloc: Global) -> Result<Command<'a>, AllocError>
     ensures shape { IfOk result (λ command. app_of command ≡ serve_words) }
     ensures local { IfOk result (λ command. (out-Command command).has_globals ≡ false) }
 {
-    let args = vec![in alloc;
-        listen(alloc),
-        option(alloc, BOOTSTRAP),
-        option(alloc, WORKERS),
-        option(alloc, CONNECTIONS),
-        option(alloc, ACCEPT),
-        option(alloc, IDLE),
-        option(alloc, LOG_LIMIT),
-        option(alloc, ROTATE),
-        option(alloc, ROTATE_BYTES),
-    ]?;
-    bare(alloc).args(args)
+    let command = listening(alloc)?;
+    with_options(
+        alloc,
+        command,
+        &[
+            BOOTSTRAP,
+            WORKERS,
+            CONNECTIONS,
+            ACCEPT,
+            IDLE,
+            LOG_LIMIT,
+            ROTATE,
+            ROTATE_BYTES,
+        ],
+    )
 }

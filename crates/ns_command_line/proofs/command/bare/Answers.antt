@@ -8,5 +8,4 @@ abbrev required : App → App
 required a = on_top (λ top. record top { subcommand_required = true }) a
 
 pub returns : goal.returns
-returns c = ap app_of_fields c.subcommand_required.ensures
-    ∙ ap required (ap app_of_fields c.after_help.ensures ∙ (ap app_of_fields c.about.ensures ∙ c.new.ensures.app))
+returns c = ap app_of_fields c.subcommand_required.ensures ∙ ap required c.bare.ensures.shape
