@@ -1,9 +1,10 @@
 -- A command that takes arguments, or subcommands, one after the other.
-use Rattle.std.proofs.Common.{◌≡◌, ◌∙◌, ◌||◌, ◌+◌, ◌<◌, ℕ, Bool, List, [], ◌∷◌, ap, ap₂, false, fold, length, map, refl, sym, take, true}
+use Rattle.std.proofs.Common.{◌≡◌, ◌∙◌, ◌||◌, ◌+◌, ◌<◌, ℕ, Bool, List, [], ◌∷◌, ap, ap₂, false, fold, length, map, refl, sym, take, true, Result, Ok, Err}
 use Rattle.std.proofs.Math.ListN.{get_or}
 use Rattle.std.proofs.lemmas.List.Sums.{fold_more}
 use Rattle.std.proofs.lemmas.List.{get_or-map, length-map}
 use Rattle.std.specs.Borrow.{Bor}
+use Rattle.std.specs.Prelude.{IfOk}
 use Rattle.clap.specs.Built.{AddsArg, AddsInTurn, AddsSubcommand}
 use Rattle.clap.specs.Words.{App, Rule, app_of, rule_of, with_rule}
 use Rattle.clap.specs.declared.builder.arg.Arg.{Arg}
@@ -88,3 +89,9 @@ IsApp command app = (app_of command ≡ app) × ((out-Command command).has_globa
 pub subcommand_added : (command : Command) (app : App) (old new : Command) → AddsSubcommand old command new → IsApp command app →
     app_of new ≡ with_app (app_of old) app
 subcommand_added command app old new adds is = adds.shape is.1 ∙ ap (with_app (app_of old)) is.0
+
+-- the same of a subcommand that was made if there was memory
+pub both : {E : Type 0} (app : App) (made : Result Command E) → IfOk made (λ command. app_of command ≡ app) →
+    IfOk made (λ command. (out-Command command).has_globals ≡ false) → IfOk made (λ command. IsApp command app)
+both app (Ok command) is local = (is, local)
+both app (Err e) is local = tt

@@ -4,9 +4,8 @@ mod options;
 mod serve;
 
 ghost use Rattle.std.specs.Prelude.{◌≡◌, IfOk, false};
-ghost use Rattle.clap.specs.Words.{app_of, rule_of};
+ghost use Rattle.clap.specs.Words.{App, app_of, rule_of};
 ghost use Rattle.clap.specs.declared.builder.command.Command.TheViews.{out-Command};
-ghost use Rattle.ns_command_line.specs.Serve.{serve_words};
 ghost use Rattle.ns_command_line.specs.Words.{alone_words, bare_words, drive_rule, namespace_rule};
 ghost use Rattle.ns_command_line.specs.Words.{pipe_words, program_words, with_app};
 
@@ -154,33 +153,17 @@ fn bare<'a>(alloc: Global) -> Command<'a>
     .subcommand_required(true)
 }
 
-/// The program with `pipe`.
-fn with_pipe<'a>(alloc: Global) -> Result<Command<'a>, AllocError>
-    ensures { IfOk result (λ program. app_of program ≡ with_app bare_words pipe_words) }
+/// This program with this subcommand, if there was memory for it.
+fn added<'a>(
+    program: Command<'a>,
+    subcommand: Result<Command<'a>, AllocError>,
+) -> Result<Command<'a>, AllocError>
+    ensures { IfOk result (λ more. (app : App)
+        → IfOk subcommand.entry (λ s. (app_of s ≡ app) × ((out-Command s).has_globals ≡ false))
+        → app_of more ≡ with_app (app_of program.entry) app) }
 {
-    let pipe = pipe(alloc)?;
-    bare(alloc).subcommand(pipe)
-}
-
-/// This program with `serve` as well.
-fn with_serve<'a>(alloc: Global, program: Command<'a>) -> Result<Command<'a>, AllocError>
-    ensures { IfOk result (λ more. app_of more ≡ with_app (app_of program.entry) serve_words) }
-{
-    match serve::serve(alloc) {
-        Ok(serve) => program.subcommand(serve),
-        Err(error) => {
-            drop(program);
-            Err(error)
-        }
-    }
-}
-
-/// This program with `alone` as well.
-fn with_alone<'a>(alloc: Global, program: Command<'a>) -> Result<Command<'a>, AllocError>
-    ensures { IfOk result (λ more. app_of more ≡ with_app (app_of program.entry) alone_words) }
-{
-    match alone(alloc) {
-        Ok(alone) => program.subcommand(alone),
+    match subcommand {
+        Ok(subcommand) => program.subcommand(subcommand),
         Err(error) => {
             drop(program);
             Err(error)
@@ -192,7 +175,7 @@ fn with_alone<'a>(alloc: Global, program: Command<'a>) -> Result<Command<'a>, Al
 pub fn command<'a>(alloc: Global) -> Result<Command<'a>, AllocError>
     ensures { IfOk result (λ command. app_of command ≡ program_words) }
 {
-    let program = with_pipe(alloc)?;
-    let program = with_serve(alloc, program)?;
-    with_alone(alloc, program)
+    let program = added(bare(alloc), pipe(alloc))?;
+    let program = added(program, serve::serve(alloc))?;
+    added(program, alone(alloc))
 }
