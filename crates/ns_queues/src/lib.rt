@@ -1,8 +1,9 @@
 //! Looks up the namespace for which a worker is busy, the next evaluation to dequeue, and the blocked evaluations that wait
 //! for what a step releases.
 //!
-//! A search of the tables finds the same. So an index that is no longer known to be right is given up, and the tables are
-//! searched instead. Room is made before a step, and following the step takes no memory here.
+//! A search of the tables finds the same. So an index that is no longer known to be right is given up. Then the tables are
+//! searched, and a list of the blocked evaluations is made from them. Room is made before a step, and following the step takes
+//! no memory here.
 #![tactic(auto)]
 
 mod after;

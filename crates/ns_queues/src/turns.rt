@@ -20,7 +20,7 @@ use ns_types::text::Text;
 use std::alloc::{AllocError, Global};
 
 /// The namespaces for which workers are busy, the ready evaluations by priority, and the blocked evaluations by what they wait
-/// for. While these are not known to be right, callers search the tables instead.
+/// for. While these are not known to be right, callers search the tables instead, and make a list of the blocked ones from them.
 pub struct Turns {
     alloc: Global,
     is_known: bool,
