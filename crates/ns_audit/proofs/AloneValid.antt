@@ -65,7 +65,8 @@ once_kept f keys once = distinct_of_pairs same_key (filter f keys)
 
 -- ---- a namespace whose pools and quotas are kept
 
-module _ (ns : Name) (pools quotas : List Name) (w : World) (apart : IsApart (part_of ns pools quotas) w) (t : Tenant) (is : get w.tenants ns ≡ Some t) (r : IsSoundTenant w ns t)
+module _ (ns : Name) (pools quotas : List Name) (w : World) (apart : IsApart (part_of ns pools quotas) w) (t : Tenant)
+    (is : get w.tenants ns ≡ Some t) (r : IsSoundTenant w ns t)
     (confined : (allowed : List Name) × (t.namespace.allowed ≡ Some allowed)) where
   abbrev rest : World
   rest = alone_in (part_of ns pools quotas) w

@@ -179,7 +179,8 @@ module _ (ns : Name) (pools quotas : List Name) (s s' : State) (steady : IsStead
     was = record_of ns x at
 
     is_within : names_within (has_name pools) (has_name quotas) x.namespace ≡ true
-    is_within = ap (names_within (has_name pools) (has_name quotas)) (sym was.same) ∙ within s.world ns pools quotas apart ns was.tenant was.is_row (same_name_refl ns)
+    is_within = ap (names_within (has_name pools) (has_name quotas)) (sym was.same) ∙
+        within s.world ns pools quotas apart ns was.tenant was.is_row (same_name_refl ns)
 
     is_confined_there : is_confined x.namespace ≡ true
     is_confined_there = ap is_confined (sym was.same) ∙ confined s.world ns pools quotas apart ns was.tenant was.is_row (same_name_refl ns)

@@ -242,7 +242,14 @@ longest_star_counts target rules none =
     subst (Each (λ rule. IsTrue (is_match target rule) × Each (λ other. IsTrue (is_match target other) → length other.pattern.text ≤ length rule.pattern.text)
     rules))
     (sym (star_counts target rules none))
-    (each_map (λ rule h. (h.0, each_map (λ other f match. omega (arith, f match, tied one_number (length rule.pattern.text) (longest matching) h.1)) rules most))
+    (each_map (λ rule h. (
+      h.0,
+      each_map (λ other f match. omega (
+        arith,
+        f match,
+        tied one_number (length rule.pattern.text) (longest matching) h.1,
+      )) rules most,
+    ))
     (longest_match target rules)
     (each_kept (λ rule. is_match target rule ≡ true) (λ rule. same_number (length rule.pattern.text) (longest matching)) matching
     (each_map (λ rule h. h.1) matching (each_kept (λ _. Unit {0}) (is_match target) rules (each_true rules)))))
@@ -281,7 +288,8 @@ one_pattern_counts target rules = by (list_any (is_exact target) rules) refl
         let matches = each_map (λ rule h. h.1) matching (each_kept (λ _. Unit {0}) (is_match target) rules (each_true rules)) in
         subst AllAlike (sym (star_counts target rules e))
         (all_alike (take (longest matching) target) true (longest_match target rules)
-        (each_map (λ rule h. star_text target rule (longest matching) h.0 (tied one_number (length rule.pattern.text) (longest matching) h.1)) (longest_match target rules)
+        (each_map (λ rule h. star_text target rule (longest matching) h.0
+        (tied one_number (length rule.pattern.text) (longest matching) h.1)) (longest_match target rules)
         (each_kept (λ rule. is_match target rule ≡ true) (λ rule. same_number (length rule.pattern.text) (longest matching)) matching matches)))
 
 pub unknown_has_no_right : law.UnknownHasNoRight

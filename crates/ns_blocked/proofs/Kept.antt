@@ -72,7 +72,8 @@ module _ (w : World) where
 
   rest_keys : (passes : BlockedEvaluation → Bool) (xs : List BlockedEvaluation) → Each IsEntryOf xs →
       map (λ e. e.key) (without_passing passes xs) ≡ filter (λ key. not (has_key (keys_of_passing passes xs) key)) (map (λ e. e.key) xs)
-  rest_keys passes xs h = ap (map (λ (e : BlockedEvaluation). e.key)) (same_filter (λ e. not (passes e)) (λ e. not (has_key (keys_of_passing passes xs) e.key)) xs
+  rest_keys passes xs h = ap (map (λ (e : BlockedEvaluation). e.key)) (same_filter (λ e. not (passes e))
+      (λ e. not (has_key (keys_of_passing passes xs) e.key)) xs
       (elements.each_of (λ e. IsEntryOf e × (has_key (map (λ e. e.key) xs) e.key ≡ true))
       (λ e. not (passes e) ≡ not (has_key (keys_of_passing passes xs) e.key))
       (λ e is. ap not (sym (among_passing passes e is.0 xs h ∙ ap (λ b. b && passes e) is.1))) xs

@@ -58,7 +58,8 @@ resources_good d =
 disk_good : (d : Data) → Post (disk_in d) (λ n. IsTrue (is_quantity n))
 unfolding disk_in
 disk_good d = post_any (an_object Member.EphemeralDisk d) _ _ (λ e.
-    post_else 300 (a_number Member.SizeMb 1 max_quantity) (λ n. IsTrue (is_quantity n)) (present Member.SizeMb e) refl (number_good Member.SizeMb 1 max_quantity))
+    post_else 300 (a_number Member.SizeMb 1 max_quantity) (λ n. IsTrue (is_quantity n)) (present Member.SizeMb e) refl
+    (number_good Member.SizeMb 1 max_quantity))
 
 abbrev AreTasks : List Task → Type 0
 AreTasks xs = IsTrue (list_all is_good_task xs) × Distinct (map (λ t. t.name) xs)
@@ -90,7 +91,8 @@ abbrev AreGroups : List Group → Type 0
 AreGroups xs = IsTrue (list_all is_good_group xs) × Distinct (map (λ g. g.name) xs)
 
 group_from : (before : List Group) (name : Name) (count disk : ℕ) (tasks : List Task) → AreGroups before → IsTrue (is_name NameKind.Group name) →
-    has_name (λ x. x.name) before name ≡ false → IsTrue (is_between 0 1000 count) → IsTrue (is_quantity disk) → AreTasks tasks × IsTrue (is_between 1 16 (length tasks)) →
+    has_name (λ x. x.name) before name ≡ false → IsTrue (is_between 0 1000 count) → IsTrue (is_quantity disk) →
+    AreTasks tasks × IsTrue (is_between 1 16 (length tasks)) →
     AreGroups (before ++ record { name = name; count = count; disk = disk; tasks = tasks } ∷ [])
 group_from before name count disk tasks h k new l q m =
     let group : Group = record { name = name; count = count; disk = disk; tasks = tasks } in

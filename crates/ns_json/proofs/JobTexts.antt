@@ -64,12 +64,14 @@ all_items f a b c x xs p q = more a b c (f x) (flat_map (λ y. 44 ∷ f y) xs) p
 -- the items of a list after others, with the bracket behind them
 later : {X : Type 0} (json : X → Data) (xs : List X) → items_text true (items_of (map json xs)) ≡ flat_map (λ y. 44 ∷ compact_text (json y)) xs ++ 93 ∷ []
 later json [] = refl
-later json (x ∷ xs) = ap (λ t. 44 ∷ (compact_text (json x) ++ t)) (later json xs) ∙ sym (append_assoc (44 ∷ compact_text (json x)) (flat_map (λ y. 44 ∷ compact_text (json y)) xs) (93 ∷ []))
+later json (x ∷ xs) = ap (λ t. 44 ∷ (compact_text (json x) ++ t)) (later json xs) ∙
+    sym (append_assoc (44 ∷ compact_text (json x)) (flat_map (λ y. 44 ∷ compact_text (json y)) xs) (93 ∷ []))
 
 -- the items of a list, with the bracket behind them
 pub items_joined : {X : Type 0} (json : X → Data) (xs : List X) → items_text false (items_of (map json xs)) ≡ joined (λ x. compact_text (json x)) xs ++ 93 ∷ []
 items_joined json [] = refl
-items_joined json (x ∷ xs) = ap (λ t. compact_text (json x) ++ t) (later json xs) ∙ sym (append_assoc (compact_text (json x)) (flat_map (λ y. 44 ∷ compact_text (json y)) xs) (93 ∷ []))
+items_joined json (x ∷ xs) = ap (λ t. compact_text (json x) ++ t) (later json xs) ∙
+    sym (append_assoc (compact_text (json x)) (flat_map (λ y. 44 ∷ compact_text (json y)) xs) (93 ∷ []))
 
 -- what a writer wrote of one text into an empty buffer
 pub written_alone : (text items : List ℕ) (old new : Written) → items ≡ new.before ++ print new.tokens →
@@ -82,7 +84,8 @@ written_alone text items old new is added before none empty =
 -- a list, its bracket and what comes after
 list_then : {X : Type 0} (json : X → Data) (xs : List X) (rest : List ℕ) → joined (λ x. compact_text (json x)) xs ++ 93 ∷ rest ≡
     items_text false (items_of (map json xs)) ++ rest
-list_then json xs rest = sym (append_assoc (joined (λ x. compact_text (json x)) xs) (93 ∷ []) rest) ∙ ap (λ (t : List ℕ). t ++ rest) (sym (items_joined json xs))
+list_then json xs rest = sym (append_assoc (joined (λ x. compact_text (json x)) xs) (93 ∷ []) rest) ∙
+    ap (λ (t : List ℕ). t ++ rest) (sym (items_joined json xs))
 
 regroup4 : (a b c d : List ℕ) → ((a ++ b) ++ c) ++ d ≡ a ++ (b ++ (c ++ d))
 regroup4 a b c d = simp append_assoc
@@ -112,7 +115,8 @@ two_numbers : (x lit y : List ℕ) → x ++ (lit ++ (y ++ 125 ∷ 125 ∷ [])) �
 two_numbers x lit y = simp append_assoc
 
 pub task_is : (t : Task) (name : List ℕ) → name ≡ t.name →
-    ((spelled (codes "{\"Name\":\"") name ++ numbered (codes "\",\"Resources\":{\"CPU\":") t.resources.cpu) ++ numbered (codes ",\"MemoryMB\":") t.resources.memory) ++
+    ((spelled (codes "{\"Name\":\"") name ++ numbered (codes "\",\"Resources\":{\"CPU\":") t.resources.cpu) ++
+    numbered (codes ",\"MemoryMB\":") t.resources.memory) ++
     codes "}}" ≡ compact_text (task_json t)
 unfolding task_json escape_byte
 task_is t name e = rw e
@@ -187,7 +191,8 @@ members_then j rest =
 -- the members, with the texts that were written
 pub members_are : (j : JobShown) (d : Document) (id namespace pool status stop : List ℕ) → d ≡ j.row.document → id ≡ j.id →
     namespace ≡ j.namespace → pool ≡ d.pool → status ≡ texted (codes ",\"Status\":") (job_status_text j.status) → stop ≡ stop_text j.row.stop →
-    ((((((numbered (codes "],\"CreateIndex\":") j.row.create_index ++ spelled (codes ",\"ID\":\"") id) ++ numbered (codes "\",\"JobModifyIndex\":") j.row.modify_index) ++
+    ((((((numbered (codes "],\"CreateIndex\":") j.row.create_index ++ spelled (codes ",\"ID\":\"") id) ++
+    numbered (codes "\",\"JobModifyIndex\":") j.row.modify_index) ++
     spelled (codes ",\"Namespace\":\"") namespace) ++ spelled (codes "\",\"NodePool\":\"") pool) ++ numbered (codes "\",\"Priority\":") d.priority) ++
     status) ++ stop ≡ member_text j
 unfolding member_text

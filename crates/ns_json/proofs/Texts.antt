@@ -1,5 +1,31 @@
 -- Bodies that are JSON, and texts without what they begin or end with.
-use Rattle.std.proofs.Common.{◌≡◌, ℕ, ◌≤◌, Bool, true, false, eqb, List, [], ◌∷◌, ◌++◌, length, Option, Some, None, option_map, Ok, Err, Bor, refl, sym, ap, ◌∙◌, arith, true≢false}
+use Rattle.std.proofs.Common.{
+  ◌≡◌,
+  ℕ,
+  ◌≤◌,
+  Bool,
+  true,
+  false,
+  eqb,
+  List,
+  [],
+  ◌∷◌,
+  ◌++◌,
+  length,
+  Option,
+  Some,
+  None,
+  option_map,
+  Ok,
+  Err,
+  Bor,
+  refl,
+  sym,
+  ap,
+  ◌∙◌,
+  arith,
+  true≢false,
+}
 use Rattle.std.specs.Prelude.{MatchOption, IsTrue, IsUtf8, ◌≢◌, unwrap_or}
 use Rattle.std.specs.List.{starts_with, ends_with}
 use Rattle.std.specs.Str.{is_utf8}
@@ -43,12 +69,14 @@ not_true true e h = true≢false e
 not_true false e h = true≢false (sym h)
 
 -- what is left behind a quote in front, and before one at the end
-behind_quote : (text rest : List ℕ) (o : Option (Bor (List ℕ))) (other r : Bor (List ℕ)) → MatchOption o ((x : List ℕ) → text ≢ 34 ∷ x) (λ x. text ≡ 34 ∷ x.now) →
+behind_quote : (text rest : List ℕ) (o : Option (Bor (List ℕ))) (other r : Bor (List ℕ)) →
+    MatchOption o ((x : List ℕ) → text ≢ 34 ∷ x) (λ x. text ≡ 34 ∷ x.now) →
     text ≡ 34 ∷ rest → r ≡ unwrap_or o other → r.now ≡ rest
 behind_quote text rest None other r none is e = absurd (none rest is)
 behind_quote text rest (Some x) other r some is e = let same : x.now ≡ rest = cc in ap (λ (b : Bor (List ℕ)). b.now) e ∙ same
 
-before_quote : (text rest : List ℕ) (o : Option (Bor (List ℕ))) (other r : Bor (List ℕ)) → MatchOption o ((x : List ℕ) → text ≢ x ++ 34 ∷ []) (λ x. text ≡ x.now ++ 34 ∷ []) →
+before_quote : (text rest : List ℕ) (o : Option (Bor (List ℕ))) (other r : Bor (List ℕ)) →
+    MatchOption o ((x : List ℕ) → text ≢ x ++ 34 ∷ []) (λ x. text ≡ x.now ++ 34 ∷ []) →
     text ≡ rest ++ 34 ∷ [] → r ≡ unwrap_or o other → r.now ≡ rest
 before_quote text rest None other r none is e = absurd (none rest is)
 before_quote text rest (Some x) other r some is e =

@@ -34,7 +34,8 @@ module _ {X : Type 0} (size : X → Resources) (xs : List X) (i : ℕ) where
   pub total_moved_below : (l s : Resources) → IsCounted (plus l (total size xs))
       → IsCounted (plus (minus (plus l (total size (take i xs))) s) (total size (drop i xs)))
   total_moved_below l s h =
-      every (λ r. ((quantity r l + sum_by (λ x. quantity r (size x)) (take i xs)) - quantity r s) + sum_by (λ x. quantity r (size x)) (drop i xs) < 2 ^ 64) (λ r.
+      every (λ r. ((quantity r l + sum_by (λ x. quantity r (size x)) (take i xs)) - quantity r s) + sum_by (λ x. quantity r (size x))
+      (drop i xs) < 2 ^ 64) (λ r.
       let parts = sum_by-take-drop (λ x. quantity r (size x)) xs i in
       let all = at (λ r. quantity r l + sum_by (λ x. quantity r (size x)) xs < 2 ^ 64) h r in
       omega (arith, parts, all))

@@ -230,7 +230,8 @@ back_before s ItemRole.Policy n (string w) ts = λ l narrow. first (text w) n s.
 back_before s ItemRole.Other n (string w) ts = λ l narrow. first (text w) n s.depth ts (l narrow)
 back_before s role n number ts = in_list_back s role (Place.After role (suc n)) _ ts (λ l narrow. first digits n s.depth ts (l narrow))
 back_before s ItemRole.Capabilities n begin_list ts = tt
-back_before s (ItemRole.Block kind) n begin_list ts = post_if (nat_lt (suc n) max_lists) _ _ _ (λ l narrow. more_open (ItemRole.Block kind) n s.depth ts tt l) tt
+back_before s (ItemRole.Block kind) n begin_list ts = post_if (nat_lt (suc n) max_lists) _ _ _
+    (λ l narrow. more_open (ItemRole.Block kind) n s.depth ts tt l) tt
 back_before s ItemRole.Policy n begin_list ts = post_if (nat_lt (suc n) max_lists) _ _ _ (λ l narrow. more_open ItemRole.Policy n s.depth ts tt l) tt
 back_before s ItemRole.Other n begin_list ts = post_if (nat_lt (suc n) max_lists) _ _ _ (λ l narrow. more_open ItemRole.Other n s.depth ts tt l) tt
 back_before s role n (word w) ts = post_if_is (is_flag w) _ _ _

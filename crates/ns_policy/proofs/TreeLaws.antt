@@ -132,7 +132,8 @@ capability_placed s (list vs trailing) = tt
 one_capability : (v : Tree) (vs : Trees) (trailing : Bool) (s : State) (p : Place) (ts : List RulesToken)
     → ((a : State) → run (at a (Place.After ItemRole.Capabilities 1)) (more_tokens vs trailing ++ ts) ≡
     (capabilities_in (at a (Place.After ItemRole.Capabilities 1)) vs >>= λ b. run b ts))
-    → run (at s (Place.Before ItemRole.Capabilities 1)) ((tree_tokens v ++ more_tokens vs trailing) ++ ts) ≡ (capabilities_in (at s p) (one v vs) >>= λ a. run a ts)
+    → run (at s (Place.Before ItemRole.Capabilities 1)) ((tree_tokens v ++ more_tokens vs trailing) ++ ts) ≡
+    (capabilities_in (at s p) (one v vs) >>= λ a. run a ts)
 one_capability v vs trailing s p ts rest =
     ap (run (at s (Place.Before ItemRole.Capabilities 1))) (append_assoc (tree_tokens v) (more_tokens vs trailing) ts)
     ∙ a_capability v s p (more_tokens vs trailing ++ ts)

@@ -30,7 +30,8 @@ module _ (ns : Name) (pools quotas : List Name) (base : State) (log : List Entry
   same_states s t x y r q = (
     (run_once base s x (steps_of log) r.answers q.answers (run_of ns pools quotas base s (steps_of log) r.answers r.isolated)
         (run_of ns pools quotas base x (steps_of log) q.answers q.isolated)).1,
-    (run_once (alone (part_of ns pools quotas) base) t y (struck (part_of ns pools quotas) (steps_of log)) (struck_answers (part_of ns pools quotas) (steps_of log) r.answers)
+    (run_once (alone (part_of ns pools quotas) base) t y (struck (part_of ns pools quotas) (steps_of log))
+        (struck_answers (part_of ns pools quotas) (steps_of log) r.answers)
         (struck_answers (part_of ns pools quotas) (steps_of log) q.answers) r.run q.run).1,
   )
 
@@ -123,7 +124,8 @@ module _ (ns : Name) (pools quotas : List Name) (base : State) (valid : IsValid 
 
       by : (fault : ReplayFault) → IsFaultAt ns pools quotas entry s t place fault → fault ≢ Memory → ⊥
       by (Premise i) at known = unbroken ns pools quotas entry s goes at.1
-      by (Differs i) at known = at.1.unlike (own_fits ns pools quotas base s t (take place log) entry valid reached.before at.1.premises at.1.own (goes.next, goes.fits))
+      by (Differs i) at known = at.1.unlike (own_fits ns pools quotas base s t (take place log) entry valid reached.before at.1.premises
+          at.1.own (goes.next, goes.fits))
       by (NotARun i) at known = at.1.unfit (goes.next, goes.fits)
       by Memory at known = known refl
 

@@ -54,9 +54,11 @@ module _ (ns : Name) (pools quotas : List Name) where
     struck_then s s1 [] [] step answer i = refl
     struck_then s s1 (first ∷ steps) (told ∷ answers) step answer i =
         let rest = struck_then i.0 s1 steps answers step answer i.4 in
-        elim (is_own (part_of ns pools quotas) first) as (λ b. cond b (told ∷ struck_answers (part_of ns pools quotas) (steps ++ step ∷ []) (answers ++ answer ∷ []))
+        elim (is_own (part_of ns pools quotas) first) as (λ b. cond b (told ∷
+        struck_answers (part_of ns pools quotas) (steps ++ step ∷ []) (answers ++ answer ∷ []))
         (struck_answers (part_of ns pools quotas) (steps ++ step ∷ []) (answers ++ answer ∷ [])) ≡
-        cond b (told ∷ struck_answers (part_of ns pools quotas) steps answers) (struck_answers (part_of ns pools quotas) steps answers) ++ cond (is_own (part_of ns pools quotas) step) (answer ∷ []) []) [
+        cond b (told ∷ struck_answers (part_of ns pools quotas) steps answers) (struck_answers (part_of ns pools quotas) steps answers) ++
+        cond (is_own (part_of ns pools quotas) step) (answer ∷ []) []) [
           | true ↦ ap (λ r. told ∷ r) rest
           | false ↦ rest
         ]
@@ -73,7 +75,8 @@ module _ (ns : Name) (pools quotas : List Name) where
         let later : map rendered answers ≡ replies_of log = cc in
         let rest = struck_logged log answers later in
         elim (is_own (part_of ns pools quotas) entry.0) as (λ b. map rendered (cond b (answer ∷ struck_answers (part_of ns pools quotas) (steps_of log) answers)
-        (struck_answers (part_of ns pools quotas) (steps_of log) answers)) ≡ replies_of (cond b (entry ∷ own_entries (part_of ns pools quotas) log) (own_entries (part_of ns pools quotas) log))) [
+        (struck_answers (part_of ns pools quotas) (steps_of log) answers)) ≡
+        replies_of (cond b (entry ∷ own_entries (part_of ns pools quotas) log) (own_entries (part_of ns pools quotas) log))) [
           | true ↦ λ i. here i ∷ rest i
           | false ↦ rest
         ]
@@ -94,7 +97,8 @@ module _ (ns : Name) (pools quotas : List Name) (base : State) where
       StandsBeside ns pools quotas s t →
       Strikes (is_own (part_of ns pools quotas) entry.0) entry t t' reply →
       Run t (cond (is_own (part_of ns pools quotas) entry.0) (entry.0 ∷ []) []) (cond (is_own (part_of ns pools quotas) entry.0) (f.answer ∷ []) []) t'
-  strikes_run entry s t s' t' reply f uncrowded a strikes = elim (is_own (part_of ns pools quotas) entry.0) as (λ b. is_own (part_of ns pools quotas) entry.0 ≡ b → Strikes b entry t t' reply →
+  strikes_run entry s t s' t' reply f uncrowded a strikes = elim (is_own (part_of ns pools quotas) entry.0) as
+      (λ b. is_own (part_of ns pools quotas) entry.0 ≡ b → Strikes b entry t t' reply →
       Run t (cond b (entry.0 ∷ []) []) (cond b (f.answer ∷ []) []) t') [
         | true ↦ λ own strikes.
             let next = own_alike ns pools quotas s t a entry.0 f.answer s' f.made uncrowded own in
@@ -115,7 +119,8 @@ module _ (ns : Name) (pools quotas : List Name) (base : State) where
     replayed_then s t s' t' reply valid r a =
         let steps = steps_of log in
         let answers = r.answers ++ a.fits.answer ∷ [] in
-        let joined = runs_join (alone (part_of ns pools quotas) base) t t' (struck (part_of ns pools quotas) steps) (cond (is_own (part_of ns pools quotas) entry.0) (entry.0 ∷ []) [])
+        let joined = runs_join (alone (part_of ns pools quotas) base) t t' (struck (part_of ns pools quotas) steps)
+        (cond (is_own (part_of ns pools quotas) entry.0) (entry.0 ∷ []) [])
         (struck_answers (part_of ns pools quotas) steps r.answers) (cond (is_own (part_of ns pools quotas) entry.0) (a.fits.answer ∷ []) []) r.run
         (strikes_run entry s t s' t' reply a.fits a.uncrowded (beside log s t valid r) a.strikes) in
         record {
@@ -123,10 +128,12 @@ module _ (ns : Name) (pools quotas : List Name) (base : State) where
           isolated = subst (λ xs. IsIsolated ns pools quotas base xs answers s') (sym steps_then)
               (isolated_then ns pools quotas base s s' steps r.answers entry.0 a.fits.answer r.isolated a.fits.made a.uncrowded a.apart);
           logged = map_push rendered r.answers a.fits.answer ∙ (λ i. r.logged i ++ a.fits.logged i ∷ []) ∙ sym replies_then;
-          run = subst (λ xs. Run (alone (part_of ns pools quotas) base) (struck (part_of ns pools quotas) xs) (struck_answers (part_of ns pools quotas) xs answers) t') (sym steps_then)
+          run = subst (λ xs. Run (alone (part_of ns pools quotas) base) (struck (part_of ns pools quotas) xs)
+              (struck_answers (part_of ns pools quotas) xs answers) t') (sym steps_then)
               (subst (λ xs. Run (alone (part_of ns pools quotas) base) xs (struck_answers (part_of ns pools quotas) (steps ++ entry.0 ∷ []) answers) t')
               (sym (filter-append (is_own (part_of ns pools quotas)) steps (entry.0 ∷ [])))
-              (subst (λ xs. Run (alone (part_of ns pools quotas) base) (struck (part_of ns pools quotas) steps ++ cond (is_own (part_of ns pools quotas) entry.0) (entry.0 ∷ []) []) xs t')
+              (subst (λ xs. Run (alone (part_of ns pools quotas) base) (struck (part_of ns pools quotas) steps ++
+              cond (is_own (part_of ns pools quotas) entry.0) (entry.0 ∷ []) []) xs t')
               (sym (struck_then ns pools quotas base base s steps r.answers entry.0 a.fits.answer r.isolated)) joined));
         }
 
@@ -135,7 +142,8 @@ module _ (ns : Name) (pools quotas : List Name) (base : State) where
 module _ (ns : Name) (pools quotas : List Name) (base : State) (log : List Entry) where
   pub reply_then : (entry : Entry) (t t' : State) (reply : Option Rendered) (replies : List Rendered) →
       replies ≡ replies_of (own_entries (part_of ns pools quotas) log) →
-      Strikes (is_own (part_of ns pools quotas) entry.0) entry t t' reply → with_reply replies reply ≡ replies_of (own_entries (part_of ns pools quotas) (log ++ entry ∷ []))
+      Strikes (is_own (part_of ns pools quotas) entry.0) entry t t' reply → with_reply replies reply ≡
+      replies_of (own_entries (part_of ns pools quotas) (log ++ entry ∷ []))
   reply_then entry t t' reply replies told strikes =
       elim (is_own (part_of ns pools quotas) entry.0) as (λ b. Strikes b entry t t' reply →
       with_reply replies reply ≡ replies_of (own_entries (part_of ns pools quotas) log) ++ replies_of (cond b (entry ∷ []) [])) [

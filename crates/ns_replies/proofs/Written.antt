@@ -65,7 +65,8 @@ pub node_tokens : (n : NodeShown) (eligibility name class pool status : List ℕ
     eligibility ≡ eligibility_text n.row.eligible → name ≡ n.name
     → class ≡ n.row.offer.class → pool ≡ n.pool → status ≡ node_status_text n.row.status
     → begin_object ∷ key (codes "Attributes") ∷ (((tokens_of (attributes_json attributes)
-    ++ key (codes "CPU") ∷ number (decimal n.row.offer.capacity.cpu) ∷ key (codes "DiskMB") ∷ number (decimal n.row.offer.capacity.disk) ∷ key (codes "Eligibility") ∷ string eligibility ∷ key (codes "MemoryMB") ∷ number
+    ++ key (codes "CPU") ∷ number (decimal n.row.offer.capacity.cpu) ∷ key (codes "DiskMB") ∷ number (decimal n.row.offer.capacity.disk) ∷
+    key (codes "Eligibility") ∷ string eligibility ∷ key (codes "MemoryMB") ∷ number
     (decimal n.row.offer.capacity.memory) ∷ key (codes "Name") ∷ string name
     ∷ key (codes "NodeClass") ∷ string class ∷ key (codes "NodePool") ∷ string pool ∷ key (codes "Status") ∷ string status ∷ key (codes "Used") ∷ [])
     ++ tokens_of (resources_json n.used)) ++ end_object ∷ [])

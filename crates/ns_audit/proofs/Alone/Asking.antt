@@ -10,7 +10,17 @@ use Rattle.ns_types.specs.declared.job.Registration.{Registration}
 use Rattle.ns_types.specs.declared.refusal.Refusal.TheVariants as Refusal
 use Rattle.ns_types.specs.declared.reply.Content.TheVariants as Content
 use Rattle.ns_types.specs.declared.step.AskCommand.{AskCommand}
-use Rattle.ns_types.specs.Asking.Asks.{first_refusal, pool_of, document_of, registered_job, registered_with, register, deregistered, deregistered_index, deregister}
+use Rattle.ns_types.specs.Asking.Asks.{
+  first_refusal,
+  pool_of,
+  document_of,
+  registered_job,
+  registered_with,
+  register,
+  deregistered,
+  deregistered_index,
+  deregister,
+}
 use Rattle.ns_types.specs.Asking.Asks.{stop_allocation, asked_in, ask}
 use Rattle.ns_types.specs.Isolation.{Part, alone_in}
 use Rattle.ns_types.specs.Settling.Making.{put_tenant, with_job, with_desired, evaluation_of, evaluation_for, with_evaluation, make_in, make}

@@ -95,7 +95,8 @@ module _ (w : World) (ns : Name) (pools quotas : List Name) (apart : is_apart w 
   pub foreign : (k : Name) (x : Tenant) → get w.tenants k ≡ Some x → same_name ns k ≡ false → intrudes pools quotas x.namespace ≡ false
   unfolding is_apart
   foreign k x at differs = by (same_name k ns) (turned_name ns k differs)
-      (none_of_any one_name (λ name other. not (same_name name ns) && intrudes pools quotas other.namespace) w.tenants k x (is_no _ (first_of_both _ _ apart)) at)
+      (none_of_any one_name (λ name other. not (same_name name ns) && intrudes pools quotas other.namespace) w.tenants k x
+      (is_no _ (first_of_both _ _ apart)) at)
     where
       by : (b : Bool) → b ≡ false → (not b && intrudes pools quotas x.namespace) ≡ false → intrudes pools quotas x.namespace ≡ false
       by true e none = not_both refl e

@@ -54,7 +54,8 @@ module _ (part : Part) (s s' : State) (secret : Option Name) (command : AdminCom
     where
       -- nothing is released or stamped
       whole : (w : World) → is_past_bound w ≡ false → (x : State) →
-          cond (is_past_bound (settle w w)) (said (Err Refusal.Full) x) (said (Ok (reply_of step content (settle w w))) (record { acl = acl; world = settle w w })) ≡
+          cond (is_past_bound (settle w w)) (said (Err Refusal.Full) x)
+          (said (Ok (reply_of step content (settle w w))) (record { acl = acl; world = settle w w })) ≡
           said (Ok (reply_of step content w)) (record { acl = acl; world = w })
       whole w within x = (λ i. cond (is_past_bound (settle_same w i)) (said (Err Refusal.Full) x)
           (said (Ok (reply_of step content (settle_same w i))) (record { acl = acl; world = settle_same w i }))) ∙
@@ -93,7 +94,8 @@ module _ (part : Part) (s s' : State) (secret : Option Name) (answer : Answer) (
       let mine = first_of_both _ _ own in
       world_alike part s s' (Step.Admin secret (AdminCommand.PutNamespace name namespace)) answer fit own _ _
       (own_put_namespace part s.world name namespace mine (second_of_both (part.spaces name) _ own)
-      (spared (AdminCommand.PutNamespace name namespace) (part.spaces name && names_within part.pools part.quotas namespace) (is_full s.world.tenants name) _ uncrowded own e))
+      (spared (AdminCommand.PutNamespace name namespace) (part.spaces name && names_within part.pools part.quotas namespace)
+      (is_full s.world.tenants name) _ uncrowded own e))
       (other_put_namespace (rest part) s.world name namespace (ap not mine)) e
   own_allowed (AdminCommand.DeleteNamespace name) own uncrowded e =
       world_alike part s s' (Step.Admin secret (AdminCommand.DeleteNamespace name)) answer fit own _ _ (own_delete_namespace part s.world name own)

@@ -95,7 +95,8 @@ pub missed_alone : (part : Part) (w : World) (ns : Name) (e : Evaluation) (worke
 unfolding missed
 missed_alone part w ns e worker kept own side = by (follower_of e worker kept).quota refl
   where
-    by : (q : Option Name) → (follower_of e worker kept).quota ≡ q → wakes_by (released_since (alone_in part w) kept) (follower_of e worker kept) q ≡ wakes_by (released_since w kept)
+    by : (q : Option Name) → (follower_of e worker kept).quota ≡ q → wakes_by (released_since (alone_in part w) kept)
+        (follower_of e worker kept) q ≡ wakes_by (released_since w kept)
         (follower_of e worker kept) q
     by None at = ap (λ p. option_map_or (λ pool. any_row (λ class number. nat_lt kept.release number && can_use (follower_of e worker kept) class) pool.classes)
         p false) (pool_alone part w kept.pool (side.with.pool_with ∙ own))

@@ -80,7 +80,8 @@ module _ (j : Job) (own : List OwnAllocation) (running : j.stop ≡ false) where
     where
       with_tasks : (is_name NameKind.Group g.name && nat_le g.count 1000 && is_quantity g.disk && is_between 1 16
           (length g.tasks) && list_all is_good_task g.tasks) ≡ true
-      with_tasks = first_of_both (is_name NameKind.Group g.name && nat_le g.count 1000 && is_quantity g.disk && is_between 1 16 (length g.tasks) && list_all is_good_task g.tasks)
+      with_tasks = first_of_both (is_name NameKind.Group g.name && nat_le g.count 1000 && is_quantity g.disk && is_between 1 16
+          (length g.tasks) && list_all is_good_task g.tasks)
           _ good
 
       bounded : (is_name NameKind.Group g.name && nat_le g.count 1000 && is_quantity g.disk && is_between 1 16 (length g.tasks)) ≡ true

@@ -42,7 +42,8 @@ use Rattle.ns_audit.proofs.ValidAllocations.Work.{Continues, continues_allocates
 
 pub plus_within : (a b c d most : Resources) → IsBelow a b → IsBelow c d → IsTrue (is_within (plus b d) most) → IsTrue (is_within (plus a c) most)
 plus_within a b c d most h k = within_less (plus a c) (plus b d) most (every (λ r. quantity r a + quantity r c ≤ quantity r b + quantity r d) (λ r.
-    both_le (quantity r a) (quantity r b) (quantity r c) (quantity r d) (at (λ r. quantity r a ≤ quantity r b) h r) (at (λ r. quantity r c ≤ quantity r d) k r)))
+    both_le (quantity r a) (quantity r b) (quantity r c) (quantity r d) (at (λ r. quantity r a ≤ quantity r b) h r)
+    (at (λ r. quantity r c ≤ quantity r d) k r)))
 
 -- ---- sums over parts of a list
 

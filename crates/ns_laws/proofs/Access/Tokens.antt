@@ -228,7 +228,8 @@ policy_is_as_put s t secret name policy reply e =
     let is = sym (same_done _ _ _ _ room.1).1 in
     let policies : t.acl.policies ≡ insert old.policies name policy = ap (λ (acl : Acl). acl.policies) is in (
       ap (λ m. get m name) policies ∙ get_put names one_name old.policies name policy,
-      (λ other differ. ap (λ m. get m other) policies ∙ get_other names one_name old.policies name policy other (other_name other name (λ same. differ (sym same)))),
+      (λ other differ. ap (λ m. get m other) policies ∙ get_other names one_name old.policies name policy other
+          (other_name other name (λ same. differ (sym same)))),
       ap (λ (acl : Acl). acl.tokens) is,
     )
 

@@ -221,7 +221,8 @@ stopped_allocation ns secret n s s' reply e = asked_does s ns secret (AskCommand
     leaves : (t : Tenant) → get s.world.tenants ns ≡ Some t → Does (Leaves s ns secret (AskCommand.StopAllocation n) (IsStopped n) t)
         (asked_in ns (AskCommand.StopAllocation n) s.world t)
     leaves t is = does_found _ (get t.allocations n) _ (λ old there.
-        does_unless _ (not (is_live old)) Refusal.Conflict _ (λ lives. subst (λ t'. Result old t') (sym (stops_it old there)) (result old there (is_yes (is_live old) lives))))
+        does_unless _ (not (is_live old)) Refusal.Conflict _ (λ lives. subst (λ t'. Result old t') (sym (stops_it old there))
+        (result old there (is_yes (is_live old) lives))))
       where
         to_stop : Allocation → Allocation
         to_stop old = record old { desired = DesiredStatus.Stop }
@@ -230,7 +231,10 @@ stopped_allocation ns secret n s s' reply e = asked_does s ns secret (AskCommand
         after_stop old = record t { allocations = insert t.allocations n (to_stop old) }
 
         stops_it : (old : Allocation) → get t.allocations n ≡ Some old → with_desired n DesiredStatus.Stop t ≡ after_stop old
-        stops_it old there = ap (λ o. option_map_or (λ a. record t { allocations = insert t.allocations n (record a { desired = DesiredStatus.Stop }) }) o t) there
+        stops_it old there = ap (λ o. option_map_or (λ a. record t {
+          allocations =
+              insert t.allocations n (record a { desired = DesiredStatus.Stop });
+        }) o t) there
 
         reason : Allocation → Evaluation
         reason old = evaluation_for t old Trigger.AllocStop
@@ -290,7 +294,8 @@ module _ (s : State) (ns : Name) (secret : Option Name) (number index : ℕ) (st
   module _ (t : Tenant) (is : get s.world.tenants ns ≡ Some t) where
     -- the rows t' get an evaluation with the next number
     dated : (x : World) (t' : Tenant) (e : Evaluation) → t'.evaluation_number ≡ t.evaluation_number
-        → ◌≡◌ {A = Option (ℕ × ℕ)} (Some (t.evaluation_number + 1, t.index + 1)) (Some (number, index)) → IsDated number index t (settled_rows s.world x ns (with_evaluation e t'))
+        → ◌≡◌ {A = Option (ℕ × ℕ)} (Some (t.evaluation_number + 1, t.index + 1)) (Some (number, index)) →
+        IsDated number index t (settled_rows s.world x ns (with_evaluation e t'))
     dated x t' e same told =
         let both = same_Some (t.evaluation_number + 1, t.index + 1) (number, index) told in
         subst (λ (k : ℕ × ℕ). IsDated k.0 k.1 t (settled_rows s.world x ns (with_evaluation e t'))) both

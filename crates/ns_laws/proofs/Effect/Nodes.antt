@@ -226,7 +226,8 @@ down_is_lost pool secret name s s' reply e = pool_does s pool secret (NodeComman
     let h = down_loses pool name w' key.0 key.1 was.0 a was.1 was.2 lives in
     let r = settled_allocated s.world x key.0 h.rows key.1 (record a { client = ClientStatus.Lost }) h.is_row in record {
       row = r.row;
-      is_row = row_allocation (settle s.world x) key.0 key.1 (settled_rows s.world x key.0 h.rows) r.row (settled_there s.world x key.0 h.rows h.is_there) r.is_row;
+      is_row = row_allocation (settle s.world x) key.0 key.1 (settled_rows s.world x key.0 h.rows) r.row
+          (settled_there s.world x key.0 h.rows h.is_there) r.is_row;
       client = r.client;
       desired = r.desired;
     })) s' reply e

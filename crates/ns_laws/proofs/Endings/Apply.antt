@@ -112,7 +112,8 @@ stops_count (n ∷ ns_) t = counts_then t (with_desired n DesiredStatus.Stop t)
 
 evicted_count : (vs : List Eviction) (w : World) → Onward Counts w (evict_all w vs)
 evicted_count vs w = onward_each Counts counts_still counts_then evict
-    (λ x v. onward_change Counts counts_still x v.namespace (with_desired v.number DesiredStatus.Evict) (λ t _. counts_desired v.number DesiredStatus.Evict t)) vs w
+    (λ x v. onward_change Counts counts_still x v.namespace (with_desired v.number DesiredStatus.Evict)
+    (λ t _. counts_desired v.number DesiredStatus.Evict t)) vs w
 
 pub decided_count : (w : World) (kept : Snapshot) (ps : List Placement) (ks : List ℕ) (c : Commit) → Onward Counts w c.world →
     Onward Counts w (fold (decide kept ps) c ks).world
@@ -249,7 +250,8 @@ module _ (w : World) (step : Step) (kept : Snapshot) (applies : AppliesPlan w st
   ready_is NodeStatus.Ready e = refl
   ready_is NodeStatus.Down e = absurd (subst T (sym e) tt)
 
-  accepted_free : (x : World) (k : ℕ) (part : List Placement) (taken : Resources) → node_at x kept.pool (node_name kept k) ≡ node_at w kept.pool (node_name kept k) →
+  accepted_free : (x : World) (k : ℕ) (part : List Placement) (taken : Resources) → node_at x kept.pool (node_name kept k) ≡
+      node_at w kept.pool (node_name kept k) →
       accepts_at kept x (node_name kept k) part taken ≡ true → IsFreeAt k
   accepted_free x k part taken same accepted = by (node_at x kept.pool (node_name kept k)) refl accepted
     where
@@ -433,7 +435,8 @@ module _ (w : World) (step : Step) (kept : Snapshot) (applies : AppliesPlan w st
             counted_counts x y n (onward_change Counts counts_still x kept.namespace (with_allocation (new_allocation kept j p n))
             (λ u _. counts_new (new_allocation kept j p n) u)) (get y.pools kept.pool)
 
-        job : (o : Option Job) → Onward Counts x (option_map_or (λ job. option_map_or (place_with kept p x job) (node_at x kept.pool (node_name kept p.node)) x) o x)
+        job : (o : Option Job) → Onward Counts x (option_map_or (λ job. option_map_or (place_with kept p x job)
+            (node_at x kept.pool (node_name kept p.node)) x) o x)
         job None = onward_same Counts counts_still x x refl
         job (Some j) = node j (node_at x kept.pool (node_name kept p.node))
 
@@ -538,7 +541,8 @@ stands_current (Some a) present h = by a.stop refl h
     now (Some b) e h = runs a b refl refl e (is_no b.stop (first_of_both (not b.stop) _ h))
         (tied one_number a.modify_index b.modify_index (second_of_both (not b.stop) _ h))
 
-    by : (b : Bool) → a.stop ≡ b → cond b (has_ended present) (not (has_ended present) && same_version (Some a) present) ≡ true → IsUnchangedJob (Some a) present
+    by : (b : Bool) → a.stop ≡ b → cond b (has_ended present) (not (has_ended present) && same_version (Some a) present) ≡ true →
+        IsUnchangedJob (Some a) present
     by true e h = ended (λ job is. ap (λ (j : Job). j.stop) (sym (same_Some a job is)) ∙ e) (ended_is present h)
     by false e h = now present e h
 
@@ -564,7 +568,8 @@ stale_leaves kept w t stale = ap (λ b. (cond b (done kept (plan kept) w t) (ref
 pub apply_moves : (w : World) → IsSound w → (ns : Name) (number : ℕ) → Leads (Moves w (Step.Apply number ns)) (apply number ns w)
 unfolding apply
 apply_moves w sound ns number = leads_keeping (Moves w step) number ns w (apply_for number ns w) (λ t worker e kept is has _ keeps.
-    leads_if (Moves w step) (is_submitted worker.phase && is_served w w.plans (ns, worker.evaluation)) (applied number ns worker e (commit kept (plan kept) w t))
+    leads_if (Moves w step) (is_submitted worker.phase && is_served w w.plans (ns, worker.evaluation))
+    (applied number ns worker e (commit kept (plan kept) w t))
     NotEnabled (λ _. by worker e (commit kept (plan kept) w t) (committed t worker kept is has keeps)) (λ _. tt))
   where
     step : Step

@@ -212,7 +212,8 @@ module _ (ns : Name) (t : Tenant) where
           at true e =
               let same : h.rows ≡ u = same_Some h.rows u (sym h.is_there ∙ ap (get x.tenants) (same_name_is ns k e) ∙ is) in record {
                 rows = with_worker number worker u;
-                is_there = ap (get (insert x.tenants k (with_worker number worker u))) (same_name_is ns k e) ∙ get_put names one_name x.tenants k (with_worker number worker u);
+                is_there = ap (get (insert x.tenants k (with_worker number worker u))) (same_name_is ns k e) ∙
+                    get_put names one_name x.tenants k (with_worker number worker u);
                 number = h.number;
                 is_new = h.is_new;
                 is_given = subst (λ (u : Tenant). h.number ≤ u.evaluation_number) same h.is_given;
@@ -327,7 +328,8 @@ module _ (w : World) (step : Step) (kept : Snapshot) (applies : AppliesPlan w st
               on = any_last (same_number p.0.node) c.committed k part.1;
               eviction = r.0;
               is_one = q.0;
-              counted = counts_as c.world stopped kept.pool (node_name kept p.0.node) r.0 (ap (allocation_at c.world) (sym r.2) ∙ same ∙ ap (allocation_at stopped) r.2) q.1;
+              counted = counts_as c.world stopped kept.pool (node_name kept p.0.node) r.0 (ap (allocation_at c.world) (sym r.2) ∙ same ∙
+                  ap (allocation_at stopped) r.2) q.1;
               of_it = r.2;
             })
 
@@ -438,7 +440,8 @@ module _ (w : World) (step : Step) (kept : Snapshot) (applies : AppliesPlan w st
     Evaluated x = (u : Tenant) × (get w.tenants key.0 ≡ Some u) × HasOne key.0 u a.job a.pool Trigger.Preemption x
 
     grown : (u : Tenant) → get w.tenants key.0 ≡ Some u → Grows key.0 u y
-    grown u there = all_grow key.0 u kept placed decided.world (decided_world (Grows key.0 u) (λ vs x g. evicted_grows key.0 u vs x g) kept ps (nodes_in ps) (begun stopped)
+    grown u there = all_grow key.0 u kept placed decided.world (decided_world (Grows key.0 u) (λ vs x g. evicted_grows key.0 u vs x g) kept
+        ps (nodes_in ps) (begun stopped)
         (grows_change key.0 u kept.namespace (λ u. fold (λ x n. with_desired n DesiredStatus.Stop x) u live) (stops_keep key.0 u live) w
         (record { rows = u; is_there = there; number = omega arith; jobs = refl })))
 
@@ -547,7 +550,8 @@ apply_evaluates w sound ns number = leads_keeping (Evaluates w) number ns w (app
             (ap (get w.tenants) its ∙ is) (λ k u at n a row. ((sound.tenant k u at).allocation n a row).below)
         which false stale = subst (Evaluates w) (sym (stale_leaves kept w t stale)) (none_evicted w)
 
-does_leads : {S : Type 0} (P : S → Type 0) (Q : Content → S → Type 0) → ((content : Content) (x : S) → P x → Q content x) → (o : Outcome S) → Leads P o → Does Q o
+does_leads : {S : Type 0} (P : S → Type 0) (Q : Content → S → Type 0) → ((content : Content) (x : S) → P x → Q content x) →
+    (o : Outcome S) → Leads P o → Does Q o
 does_leads P Q f NotEnabled h = tt
 does_leads P Q f (Refused refusal) h = tt
 does_leads P Q f (Done content x) h = f content x h

@@ -177,7 +177,8 @@ module _ (w : World) (step : Step) (key : Key) where
   abbrev KeepsRow : Allocation → Allocation → Type 0
   KeepsRow a b = b ≡ record a { desired = b.desired; client = b.client }
 
-  keeps_row : (a b d : Allocation) (desired : DesiredStatus) (client : ClientStatus) → d ≡ a → record d { desired = desired; client = client } ≡ b → KeepsRow a b
+  keeps_row : (a b d : Allocation) (desired : DesiredStatus) (client : ClientStatus) → d ≡ a →
+      record d { desired = desired; client = client } ≡ b → KeepsRow a b
   keeps_row a b d desired client same new = sym new ∙ (λ i. record (same i) { desired = (new i).desired; client = (new i).client })
 
   keeps : (o own : Option Allocation) (a b : Allocation) → o ≡ Some a → own ≡ Some b → Change w step key o own → KeepsRow a b

@@ -163,7 +163,10 @@ module _ (w : World) (pool : Name) (secret : Option Name) where
 
       changed_is : change_tenant r.namespace (with_client r.number r.client) w ≡ put_tenant r.namespace u w
       changed_is = ap (λ o. option_map_or (λ t. put_tenant r.namespace (with_client r.number r.client t) w) o w) is
-          ∙ ap (λ o. put_tenant r.namespace (option_map_or (λ a. record t { allocations = insert t.allocations r.number (record a { client = r.client }) }) o t) w) at
+          ∙ ap (λ o. put_tenant r.namespace (option_map_or (λ a. record t {
+            allocations =
+                insert t.allocations r.number (record a { client = r.client });
+          }) o t) w) at
 
       put_moves : Moves w tells (put_tenant r.namespace u w)
       put_moves = moves_put (Change w tells) (λ key o. rests refl) w r.namespace t u is

@@ -221,7 +221,8 @@ abbrev IsStampedAllocation : Tenant → Tenant → ℕ → Allocation → Type 0
 IsStampedAllocation old now n a =
     IsStamped old now (option_map (λ (x : Allocation). x.create_index) (get old.allocations n)) a.create_index a.modify_index
 
-created_so : {X : Type 0} (create_index : X → ℕ) (index : ℕ) (o : Option X) → law.KeepsCreation (option_map create_index o) index (created_at index o create_index)
+created_so : {X : Type 0} (create_index : X → ℕ) (index : ℕ) (o : Option X) →
+    law.KeepsCreation (option_map create_index o) index (created_at index o create_index)
 created_so create_index index None = refl
 created_so create_index index (Some x) = refl
 
@@ -437,7 +438,8 @@ module _ (old t : Tenant) (begun : Begun old t) where
 
       by : (b : Bool) → changes_job old t id ≡ b → (get old.jobs id ≡ Some job) ⊎ law.HasEvent ended their_events (law.topic_of job.stop id)
       by true changed = let x = there (get old.jobs id) refl in
-          inr (subst (law.HasEvent ended their_events) (topic_is id job.stop (ap (λ o. option_map_or (λ (job : Job). job.stop) o true) at)) (tells_job id x.0 x.1 changed))
+          inr (subst (law.HasEvent ended their_events) (topic_is id job.stop (ap (λ o. option_map_or (λ (job : Job). job.stop) o true) at))
+          (tells_job id x.0 x.1 changed))
       by false same = inl (job_same old t begun id job at same)
 
   gone_told : (id : Name) (job : Job) → get old.jobs id ≡ Some job → get t.jobs id ≡ None → law.HasEvent ended their_events (Topic.JobDeregistered id)
@@ -445,12 +447,14 @@ module _ (old t : Tenant) (begun : Begun old t) where
       (tells_job id job (get_joined names old.jobs t.jobs id ∙ ap (λ o. option_or o (get t.jobs id)) was)
       (ap (λ o. option_map_or (is_changed same_job (get old.jobs id)) o (contains_key old.jobs id)) gone ∙ ap is_some was))
 
-  evaluation_told : (n : ℕ) (e : Evaluation) → get ended.evaluations n ≡ Some e → WasEvaluation old n e ⊎ law.HasEvent ended their_events (Topic.EvaluationUpdated n)
+  evaluation_told : (n : ℕ) (e : Evaluation) → get ended.evaluations n ≡ Some e →
+      WasEvaluation old n e ⊎ law.HasEvent ended their_events (Topic.EvaluationUpdated n)
   evaluation_told n e at = row_changed same_evaluation (λ e. e.create_index) dated_evaluation (old.index + 1) old.evaluations t.evaluations
       (λ e. WasEvaluation old n e ⊎ law.HasEvent ended their_events (Topic.EvaluationUpdated n)) n
       (λ x has changed. inr (tells_evaluation n x has changed)) (λ x has same. inl (evaluation_was old n x same)) e at
 
-  allocation_told : (n : ℕ) (a : Allocation) → get ended.allocations n ≡ Some a → WasAllocation old n a ⊎ law.HasEvent ended their_events (Topic.AllocationUpdated n)
+  allocation_told : (n : ℕ) (a : Allocation) → get ended.allocations n ≡ Some a →
+      WasAllocation old n a ⊎ law.HasEvent ended their_events (Topic.AllocationUpdated n)
   allocation_told n a at = row_changed same_allocation (λ a. a.create_index) dated_allocation (old.index + 1) old.allocations t.allocations
       (λ a. WasAllocation old n a ⊎ law.HasEvent ended their_events (Topic.AllocationUpdated n)) n
       (λ x has changed. inr (tells_allocation n x has changed)) (λ x has same. inl (allocation_was old n x same)) a at
@@ -615,7 +619,8 @@ step_ascends step s s' answer valid e all ns now at = by (get s.world.tenants ns
     by None none = subst Ascends (sym (begins_empty step s s' ns none answer now e at).events) tt
     by (Some old) was = events_stay_in_order step s s' ns old now valid (record { answer = answer; leads = e; was_there = was; is_there = at }) (all ns old was)
 
-run_ascends : (s s' : State) (steps : List Step) (answers : List Answer) → IsValid s → Each IsGoodStep steps → Run s steps answers s' → AllAscend s → AllAscend s'
+run_ascends : (s s' : State) (steps : List Step) (answers : List Answer) → IsValid s → Each IsGoodStep steps → Run s steps answers s' →
+    AllAscend s → AllAscend s'
 run_ascends s s' [] [] valid good run all = subst AllAscend (sym run) all
 run_ascends s s' [] (answer ∷ answers) valid good run all = absurd run
 run_ascends s s' (step ∷ steps) [] valid good run all = absurd run

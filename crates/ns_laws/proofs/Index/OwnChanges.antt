@@ -174,7 +174,8 @@ module _ {Y : Type 0} (of : Tenant → Y)
     own_pool pool (NodeCommand.SetEligible name eligible) p = leads_found (SameIn of w) (get p.nodes name) _ (λ node _ k. refl)
     own_pool pool (NodeCommand.Report name r) p =
         leads_found (SameIn of w) (get p.nodes name) _
-        (λ node _. leads_found (SameIn of w) (allocation_at w (r.namespace, r.number)) (λ x. unless (not (is_on pool name x)) Refusal.NotFound (report_of r w x))
+        (λ node _. leads_found (SameIn of w) (allocation_at w (r.namespace, r.number))
+        (λ x. unless (not (is_on pool name x)) Refusal.NotFound (report_of r w x))
         (λ a _. own_unless (not (is_on pool name a)) Refusal.NotFound (report_of r w a)
         (own_either (same_client a.client r.client) (Done Content.Written w)
         (unless (not (may_become a.client r.client)) Refusal.Conflict (Done Content.Written (reported r a w))) (λ k. refl)
@@ -206,7 +207,8 @@ module _ {Y : Type 0} (of : Tenant → Y)
             ended_same number worker e (end_of worker) t) k ∙ same_before t e k
         by t worker e kept is false k = own_put ns t (with_follower worker.evaluation (follower_of e worker kept) (ended number worker e (end_of worker) t))
             (without_blocked ns e.job t w) (tenants_same t e is)
-            (follower_same worker.evaluation (follower_of e worker kept) (ended number worker e (end_of worker) t) ∙ ended_same number worker e (end_of worker) t)
+            (follower_same worker.evaluation (follower_of e worker kept) (ended number worker e (end_of worker) t) ∙
+            ended_same number worker e (end_of worker) t)
             k ∙ same_before t e k
 
         either : (t : Tenant) (worker : Worker) (e : Evaluation) (kept : Snapshot) → get w.tenants ns ≡ Some t → (b : Bool)
@@ -245,7 +247,8 @@ module _ {Y : Type 0} (of : Tenant → Y)
   own_apply w number ns = own_keeping w number ns (apply_for number ns w)
       (λ t worker e kept is. own_either w (is_submitted worker.phase && is_served w w.plans (ns, worker.evaluation))
       (applied number ns worker e (commit kept (plan kept) w t)) NotEnabled
-      (λ k. own_change ns (with_worker number (applied_worker (commit kept (plan kept) w t) worker e)) (λ x. same_workers x _) (commit kept (plan kept) w t).world k ∙
+      (λ k. own_change ns (with_worker number (applied_worker (commit kept (plan kept) w t) worker e)) (λ x. same_workers x _)
+      (commit kept (plan kept) w t).world k ∙
       own_commit kept (plan kept) w t k) tt)
 
   -- ---- all steps but requests in namespaces

@@ -97,7 +97,8 @@ unfolding stamp_tenant
 stamped_spends None t = spends_still t
 stamped_spends (Some o) t = by (is_touched o t)
   where
-    row : (amount : Resources → ℕ) (n : ℕ) (a : Allocation) → cond (is_live (stamped_allocation (o.index + 1) o n a)) (amount (stamped_allocation (o.index + 1) o n a).size) 0
+    row : (amount : Resources → ℕ) (n : ℕ) (a : Allocation) → cond (is_live (stamped_allocation (o.index + 1) o n a))
+        (amount (stamped_allocation (o.index + 1) o n a).size) 0
         ≤ cond (is_live a) (amount a.size) 0
     row amount n a = same (changes_allocation o n a)
       where
@@ -160,7 +161,8 @@ more_of_sum x o s c a h k = omega arith
 
 module _ (q : Name) (amount : Resources → ℕ) where
   -- a new allocation adds its size at most
-  change_adds : (ns : Name) (new : Allocation) (w : World) → quota_sum (change_tenant ns (with_allocation new) w) q amount ≤ quota_sum w q amount + amount new.size
+  change_adds : (ns : Name) (new : Allocation) (w : World) → quota_sum (change_tenant ns (with_allocation new) w) q amount ≤ quota_sum w q
+      amount + amount new.size
   unfolding quota_sum
   change_adds ns new w = by (get w.tenants ns) refl
     where
@@ -184,7 +186,8 @@ module _ (q : Name) (amount : Resources → ℕ) where
       by None is = omega arith
       by (Some t) is = more_of_sum _ (cond (names_quota q t.namespace) (tenant_sum is_live amount t) 0) _
           (cond (names_quota q t.namespace) (tenant_sum is_live amount (with_allocation new t)) 0) _
-          (subst (λ o. sum_by (λ e. cond (names_quota q e.1.namespace) (tenant_sum is_live amount e.1) 0) (entries (insert w.tenants ns (with_allocation new t)))
+          (subst (λ o. sum_by (λ e. cond (names_quota q e.1.namespace) (tenant_sum is_live amount e.1) 0)
+          (entries (insert w.tenants ns (with_allocation new t)))
           + option_map_or (λ (t : Tenant). cond (names_quota q t.namespace) (tenant_sum is_live amount t) 0) o 0
           ≤ sum_by (λ e. cond (names_quota q e.1.namespace) (tenant_sum is_live amount e.1) 0) (entries w.tenants)
           + cond (names_quota q t.namespace) (tenant_sum is_live amount (with_allocation new t)) 0) is
@@ -226,7 +229,10 @@ module _ (q : Name) (amount : Resources → ℕ) where
 desired_same : (n : ℕ) (t : Tenant) → (with_desired n DesiredStatus.Evict t).namespace ≡ t.namespace
 desired_same n t = by (get t.allocations n)
   where
-    by : (o : Option Allocation) → (option_map_or (λ a. record t { allocations = insert t.allocations n (record a { desired = DesiredStatus.Evict }) }) o t).namespace
+    by : (o : Option Allocation) → (option_map_or (λ a. record t {
+      allocations =
+          insert t.allocations n (record a { desired = DesiredStatus.Evict });
+    }) o t).namespace
         ≡ t.namespace
     by None = refl
     by (Some a) = refl
@@ -241,7 +247,8 @@ change_quotas ns f w = by (get w.tenants ns)
 named_is : (w : World) (ns : Name) → quota_named w ns ≡ option_and_then (λ (n : Namespace). n.quota) (namespace_at w ns)
 named_is w ns = by (get w.tenants ns)
   where
-    by : (o : Option Tenant) → option_and_then (λ (t : Tenant). t.namespace.quota) o ≡ option_and_then (λ (n : Namespace). n.quota) (option_map (λ t. t.namespace) o)
+    by : (o : Option Tenant) → option_and_then (λ (t : Tenant). t.namespace.quota) o ≡
+        option_and_then (λ (n : Namespace). n.quota) (option_map (λ t. t.namespace) o)
     by None = refl
     by (Some t) = refl
 
@@ -280,7 +287,8 @@ module _ (kept : Snapshot) (q : Name) (rows : QuotaRows) where
       within : (c.committed ≡ []) ⊎ (limits_allow (limits_in rows.quota.limits) (plus (quota_use c.world q) c.placed) ≡ true)
       covered : (r : Resource) → taken (quantity r) c.committed ≤ quantity r c.placed
 
-    one_more : (amount : Resources → ℕ) (ks : List ℕ) (k : ℕ) (xs : List Placement) → sum_by (λ p. amount p.size) (filter (λ p. has_number (ks ++ k ∷ []) p.node) xs)
+    one_more : (amount : Resources → ℕ) (ks : List ℕ) (k : ℕ) (xs : List Placement) →
+        sum_by (λ p. amount p.size) (filter (λ p. has_number (ks ++ k ∷ []) p.node) xs)
         ≤ sum_by (λ p. amount p.size) (filter (λ p. has_number ks p.node) xs) + sum_by (λ p. amount p.size) (part_of k xs)
     one_more amount ks k [] = omega arith
     one_more amount ks k (x ∷ xs) =
@@ -300,7 +308,8 @@ module _ (kept : Snapshot) (q : Name) (rows : QuotaRows) where
         other true e n c = omega arith
         other false e n c = not_both e refl
 
-        either : (has_number ks x.node ≡ true) ⊎ (x.node ≡ k) → amount x.size ≤ cond (has_number ks x.node) (amount x.size) 0 + cond (same_number x.node k) (amount x.size) 0
+        either : (has_number ks x.node ≡ true) ⊎ (x.node ≡ k) → amount x.size ≤ cond (has_number ks x.node) (amount x.size) 0 + cond
+            (same_number x.node k) (amount x.size) 0
         either (inl e) = one (has_number ks x.node) e _ _
         either (inr e) = other (same_number x.node k) (ap (λ n. same_number n k) e ∙ same_number_refl k) _ _
 
@@ -404,13 +413,15 @@ module _ (s : State) (valid : IsValid s) (ns : Name) (owner : Tenant) (is_owner 
           (true_at (λ r. limit_allows (limit_on r (limits_in rows.quota.limits)) (quantity r (plus (quota_use decided.world q) decided.placed))) e r))
 
     commits : (made : List ℕ) → (commit kept (plan kept) s.world t).made ≡ made → made ≢ [] → (r : Resource) →
-        law.Allows (limit_on r (limits_in rows.quota.limits)) (quantity r (quota_use (settle s.world (marked number ns worker e (commit kept (plan kept) s.world t))) q))
+        law.Allows (limit_on r (limits_in rows.quota.limits)) (quantity r
+        (quota_use (settle s.world (marked number ns worker e (commit kept (plan kept) s.world t))) q))
     unfolding commit
     commits made same some r = by (still_stands kept.job (get t.jobs kept.evaluation.job)) same
       where
         by : (b : Bool) → (cond b (done kept (plan kept) s.world t) (refused_whole kept (plan kept) s.world)).made ≡ made
             → law.Allows (limit_on r (limits_in rows.quota.limits))
-            (quantity r (quota_use (settle s.world (marked number ns worker e (cond b (done kept (plan kept) s.world t) (refused_whole kept (plan kept) s.world)))) q))
+            (quantity r (quota_use (settle s.world (marked number ns worker e
+            (cond b (done kept (plan kept) s.world t) (refused_whole kept (plan kept) s.world)))) q))
         by true same = allowed r kept_quota.within (λ none. some (sym same ∙ none))
         by false same = absurd (some (sym same))
 

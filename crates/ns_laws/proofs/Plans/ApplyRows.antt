@@ -131,7 +131,8 @@ Numbers t u = u.allocation_number ≡ t.allocation_number
 desired_numbers : (n : ℕ) (desired : DesiredStatus) (t : Tenant) → Numbers t (with_desired n desired t)
 desired_numbers n desired t = by (get t.allocations n)
   where
-    by : (o : Option Allocation) → (option_map_or (λ a. record t { allocations = insert t.allocations n (record a { desired = desired }) }) o t).allocation_number
+    by : (o : Option Allocation) → (option_map_or (λ a. record t { allocations = insert t.allocations n (record a { desired = desired }) })
+        o t).allocation_number
         ≡ t.allocation_number
     by None = refl
     by (Some a) = refl
@@ -190,7 +191,8 @@ module _ (kept : Snapshot) where
   node_of : (w : World) (k : ℕ) → HasNode w k → (node : Node) × (node_at w kept.pool (node_name kept k) ≡ Some node)
   node_of w k h = by (node_at w kept.pool (node_name kept k)) refl h
     where
-      by : (o : Option Node) → node_at w kept.pool (node_name kept k) ≡ o → is_some o ≡ true → (node : Node) × (node_at w kept.pool (node_name kept k) ≡ Some node)
+      by : (o : Option Node) → node_at w kept.pool (node_name kept k) ≡ o → is_some o ≡ true →
+          (node : Node) × (node_at w kept.pool (node_name kept k) ≡ Some node)
       by None is e = not_both e refl
       by (Some node) is e = (node, is)
 
@@ -204,13 +206,15 @@ module _ (kept : Snapshot) where
   counted_nodes : (name : Name) (node : Node) (w : World) (k : ℕ) → HasNode w k → HasNode (counted kept.pool name node w) k
   counted_nodes name node w k h = by (get w.pools kept.pool) refl
     where
-      now : (p : PoolRows) (b : Bool) → is_some (get p.nodes (node_name kept k)) ≡ true → is_some (cond b (Some (record node { places = node.places + 1 })) (get p.nodes (node_name kept k))) ≡ true
+      now : (p : PoolRows) (b : Bool) → is_some (get p.nodes (node_name kept k)) ≡ true →
+          is_some (cond b (Some (record node { places = node.places + 1 })) (get p.nodes (node_name kept k))) ≡ true
       now p true e = refl
       now p false e = e
 
       by : (o : Option PoolRows) → get w.pools kept.pool ≡ o → HasNode (option_map_or (λ p. put_pool kept.pool (with_place name node p) w) o w) k
       by None is = h
-      by (Some p) is = ap (λ o. is_some (option_and_then (λ (p : PoolRows). get p.nodes (node_name kept k)) o)) (put_there w.pools kept.pool (with_place name node p))
+      by (Some p) is = ap (λ o. is_some (option_and_then (λ (p : PoolRows). get p.nodes (node_name kept k)) o))
+          (put_there w.pools kept.pool (with_place name node p))
           ∙ ap (λ (o : Option Node). is_some o) (get-insert names p.nodes name (record node { places = node.places + 1 }) (node_name kept k))
           ∙ now p (same_name (node_name kept k) name) (sym (ap (λ o. is_some (option_and_then (λ (p : PoolRows). get p.nodes (node_name kept k)) o)) is) ∙ h)
 
@@ -222,7 +226,8 @@ module _ (kept : Snapshot) where
           (get v.allocations (u.allocation_number + (i + 1)) ≡ Some (new_allocation kept j p node))
       former : (m : ℕ) → m ≤ u.allocation_number → get v.allocations m ≡ get u.allocations m
 
-    place_is : (p : Placement) (w : World) (node : Node) → node_at w kept.pool (node_name kept p.node) ≡ Some node → place_one kept w p ≡ place_with kept p w j node
+    place_is : (p : Placement) (w : World) (node : Node) → node_at w kept.pool (node_name kept p.node) ≡ Some node → place_one kept w p ≡
+        place_with kept p w j node
     unfolding place_one
     place_is p w node at = ap (λ o. option_map_or (λ job. option_map_or (place_with kept p w job) (node_at w kept.pool (node_name kept p.node)) w) o w) has_job
         ∙ ap (λ o. option_map_or (place_with kept p w j) o w) at
@@ -239,7 +244,8 @@ module _ (kept : Snapshot) where
         (ap (λ m. is_some (option_and_then (λ (p : PoolRows). get p.nodes (node_name kept k)) (get m kept.pool)))
         (change_pools kept.namespace (with_allocation (new_allocation kept j p node)) w) ∙ h)
 
-    first_adds : (p : Placement) (ps : List Placement) (node : Node) (u v : Tenant) → Adds ps (with_allocation (new_allocation kept j p node) u) v → Adds (p ∷ ps) u v
+    first_adds : (p : Placement) (ps : List Placement) (node : Node) (u v : Tenant) →
+        Adds ps (with_allocation (new_allocation kept j p node) u) v → Adds (p ∷ ps) u v
     first_adds p ps node u v h = record {
       number = let n = h.number in omega (arith, n);
       each_new = each_new;
@@ -255,7 +261,8 @@ module _ (kept : Snapshot) where
         each_new zero x e = (
           node,
           ap (get v.allocations) (first_number u.allocation_number) ∙ h.former (u.allocation_number + 1) (le_next u.allocation_number)
-              ∙ get_put numbers one_number u.allocations (u.allocation_number + 1) (new_allocation kept j p node) ∙ ap (λ x. Some (new_allocation kept j x node)) (same_Some p x e),
+              ∙ get_put numbers one_number u.allocations (u.allocation_number + 1) (new_allocation kept j p node) ∙
+              ap (λ x. Some (new_allocation kept j x node)) (same_Some p x e),
         )
         each_new (suc i) x e = let r = h.each_new i x e in (r.0, ap (get v.allocations) (later_number u.allocation_number i) ∙ r.1)
 
@@ -412,8 +419,10 @@ each_slice P (y ∷ xs) h zero x e = subst P (same_Some y x e) h.0
 each_slice P (y ∷ xs) h (suc i) x e = each_slice P xs h.1 i x e
 
 -- without placements that are done
-none_done : (s : State) (kept : Snapshot) (made : List ℕ) (dropped : List Name) (before now : Tenant) → made ≡ [] → now.allocation_number ≡ before.allocation_number →
-    ((seen : PoolNode) (n : ℕ) → has_number (nodes_in (plan kept).placing.placements) n ≡ true → slice_get kept.nodes n ≡ Some seen → has_name dropped seen.name ≡ true) →
+none_done : (s : State) (kept : Snapshot) (made : List ℕ) (dropped : List Name) (before now : Tenant) → made ≡ [] → now.allocation_number ≡
+    before.allocation_number →
+    ((seen : PoolNode) (n : ℕ) → has_number (nodes_in (plan kept).placing.placements) n ≡ true → slice_get kept.nodes n ≡ Some seen →
+    has_name dropped seen.name ≡ true) →
     law.IsDoneByNode s kept made dropped before now
 none_done s kept made dropped before now empty same told = record {
   does = λ _. false;
@@ -460,7 +469,8 @@ module _ (s : State) (valid : IsValid s) (number : ℕ) (ns : Name) (before : Te
       ∙ ap (λ (o : Option Node). is_some o) fit.1) placed
       (each_kept (λ _. Unit {0}) (λ p. has_number decided.committed p.node) ps (each _ (λ _. tt) ps))
 
-  fit_now : (p : Placement) → law.OfRunningJob kept (λ job. law.IsOnFitNode kept job p) → has_number decided.committed p.node ≡ true → law.IsFitNow s kept p.node
+  fit_now : (p : Placement) → law.OfRunningJob kept (λ job. law.IsOnFitNode kept job p) → has_number decided.committed p.node ≡ true →
+      law.IsFitNow s kept p.node
   unfolding FitAt
   fit_now p on has =
       let fit = each_has (FitAt kept ps s.world) decided.committed all_stands.nodes p.node has in
@@ -547,7 +557,8 @@ module _ (s : State) (valid : IsValid s) (number : ℕ) (ns : Name) (before : Te
         let of = each_slice (λ p. law.OfRunningJob kept (λ job. law.IsOfGroup job p)) placed
         (each_still (λ p. law.OfRunningJob kept (λ job. law.IsOfGroup job p)) (λ p. has_number decided.committed p.node) ps (places_groups kept)) i p at in
         let on = each_slice (λ p. law.OfRunningJob kept (λ job. law.IsOnFitNode kept job p)) placed
-        (each_still (λ p. law.OfRunningJob kept (λ job. law.IsOnFitNode kept job p)) (λ p. has_number decided.committed p.node) ps (places_on_fit_nodes kept)) i p at in
+        (each_still (λ p. law.OfRunningJob kept (λ job. law.IsOnFitNode kept job p)) (λ p. has_number decided.committed p.node) ps
+        (places_on_fit_nodes kept)) i p at in
         let part : law.IsOfGroup j p = subst (λ job. law.IsOfGroup job p) (same_Some of.job j (sym of.is_job ∙ has_job)) of.holds in record {
           is_new = new_number i;
           row = row.row;
@@ -628,13 +639,15 @@ module _ (s : State) (valid : IsValid s) (number : ℕ) (ns : Name) (before : Te
 
   commits : (made : List ℕ) (names : List Name) (now : Tenant) → (commit kept (plan kept) s.world before).made ≡ made →
       (commit kept (plan kept) s.world before).dropped ≡ names →
-      get (settle s.world (marked number ns worker e (commit kept (plan kept) s.world before))).tenants ns ≡ Some now → law.IsDoneByNode s kept made names before now
+      get (settle s.world (marked number ns worker e (commit kept (plan kept) s.world before))).tenants ns ≡ Some now →
+      law.IsDoneByNode s kept made names before now
   unfolding commit
   commits made names now same same_names there = by (still_stands kept.job (get before.jobs kept.evaluation.job)) same same_names there
     where
       by : (b : Bool) → (cond b (done kept (plan kept) s.world before) (refused_whole kept (plan kept) s.world)).made ≡ made
           → (cond b (done kept (plan kept) s.world before) (refused_whole kept (plan kept) s.world)).dropped ≡ names
-          → get (settle s.world (marked number ns worker e (cond b (done kept (plan kept) s.world before) (refused_whole kept (plan kept) s.world)))).tenants ns ≡ Some now
+          → get (settle s.world (marked number ns worker e (cond b (done kept (plan kept) s.world before)
+          (refused_whole kept (plan kept) s.world)))).tenants ns ≡ Some now
           → law.IsDoneByNode s kept made names before now
       by true same same_names there = subst (λ m. law.IsDoneByNode s kept m names before now) same
           (subst (λ x. law.IsDoneByNode s kept (numbers_after before.allocation_number placed) x before now) same_names (is_done now (ends now there)))
@@ -643,8 +656,10 @@ module _ (s : State) (valid : IsValid s) (number : ℕ) (ns : Name) (before : Te
 
 -- what the law says of what an Apply says and leaves
 IsByNode : State → ℕ → Name → Reply → State → Type 0
-IsByNode s number ns reply t = (made : List ℕ) (dropped : List Name) (now : Tenant) → reply.content ≡ Content.Applied made dropped → get t.world.tenants ns ≡ Some now
-    → (before : Tenant) (worker : Worker) (kept : Snapshot) → get s.world.tenants ns ≡ Some before → get before.workers number ≡ Some worker → worker.kept ≡ Some kept
+IsByNode s number ns reply t = (made : List ℕ) (dropped : List Name) (now : Tenant) → reply.content ≡ Content.Applied made dropped →
+    get t.world.tenants ns ≡ Some now
+    → (before : Tenant) (worker : Worker) (kept : Snapshot) → get s.world.tenants ns ≡ Some before → get before.workers number ≡
+    Some worker → worker.kept ≡ Some kept
     → law.IsDoneByNode s kept made dropped before now
 
 pub made_is : (a b : List ℕ) (x y : List Name) → ◌≡◌ {A = content.Content} (Content.Applied a x) (Content.Applied b y) → a ≡ b

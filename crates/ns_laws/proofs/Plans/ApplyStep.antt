@@ -38,10 +38,12 @@ marked number ns worker e a =
 module _ (number : ℕ) (ns : Name) (w : World) (Q : Content → World → Type 0)
     (h : (t : Tenant) (worker : Worker) (e : Evaluation) (kept : Snapshot) → get w.tenants ns ≡ Some t → get t.workers number ≡ Some worker
     → worker.kept ≡ Some kept
-    → Q (Content.Applied (commit kept (plan kept) w t).made (commit kept (plan kept) w t).dropped) (marked number ns worker e (commit kept (plan kept) w t))) where
+    → Q (Content.Applied (commit kept (plan kept) w t).made (commit kept (plan kept) w t).dropped)
+    (marked number ns worker e (commit kept (plan kept) w t))) where
   apply_does : Does Q (apply number ns w)
   unfolding apply
-  apply_does = does_or Q (get w.tenants ns) _ (λ t is. does_or Q (get t.workers number) _ (λ worker has. does_or Q (get t.evaluations worker.evaluation) _ (λ e at.
+  apply_does = does_or Q (get w.tenants ns) _ (λ t is. does_or Q (get t.workers number) _
+      (λ worker has. does_or Q (get t.evaluations worker.evaluation) _ (λ e at.
       does_or Q worker.kept (apply_for number ns w t worker e) (λ kept keeps.
       does_if Q (is_submitted worker.phase && is_served w w.plans (ns, worker.evaluation)) (applied number ns worker e (commit kept (plan kept) w t)) NotEnabled
       (λ _. h t worker e kept is has keeps) (λ _. tt)))))

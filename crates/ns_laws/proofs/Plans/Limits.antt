@@ -58,7 +58,8 @@ not_by_quota [] w = refl
 not_by_quota (d ∷ ds) w = by (choice d.size w.candidates) (not_by_quota ds)
   where
     by : (o : Option Choice) → ((w : Site) → (place no_quota ds w).quota_limited ≡ false)
-        → (option_map_or (λ (s : Placement × Site). then_rest s.0 (place no_quota ds s.1)) (option_map (λ ch. (placement_of d ch, after no_quota d.size ch w)) o)
+        → (option_map_or (λ (s : Placement × Site). then_rest s.0 (place no_quota ds s.1))
+        (option_map (λ ch. (placement_of d ch, after no_quota d.size ch w)) o)
         (without_one (place no_quota ds w))).quota_limited ≡ false
     by None rest = rest w
     by (Some ch) rest = rest (after no_quota d.size ch w)
@@ -86,9 +87,11 @@ module _ (q : QuotaSeen) (C : ℕ → Type 0) where
       first group ch ps = sum_by-cons (λ (p : Placement). cond (p.group == group) 1 0) (placement_of d ch) ps
 
       by : (b : Bool) (o : Option Choice) → ((w : Site) → Each (λ d. C d.group) ds → IsLimited (place q ds w) → IsShort ds (place q ds w))
-          → IsLimited (cond b (option_map_or (λ (s : Placement × Site). then_rest s.0 (place q ds s.1)) (option_map (λ ch. (placement_of d ch, after q d.size ch w)) o)
+          → IsLimited (cond b (option_map_or (λ (s : Placement × Site). then_rest s.0 (place q ds s.1))
+          (option_map (λ ch. (placement_of d ch, after q d.size ch w)) o)
           (without_one (place q ds w))) ended_by_quota)
-          → IsShort (d ∷ ds) (cond b (option_map_or (λ (s : Placement × Site). then_rest s.0 (place q ds s.1)) (option_map (λ ch. (placement_of d ch, after q d.size ch w)) o)
+          → IsShort (d ∷ ds) (cond b (option_map_or (λ (s : Placement × Site). then_rest s.0 (place q ds s.1))
+          (option_map (λ ch. (placement_of d ch, after q d.size ch w)) o)
           (without_one (place q ds w))) ended_by_quota)
       by false o rest limited = record { group = d.group; is = h.0; fewer = let m = more d.group in omega (arith, m, own) }
       by true None rest limited = record {
@@ -123,7 +126,8 @@ limits_are_real s = record { one = one; quota = quota; short = short }
 
     none_of : (o : Option Job) → s.quota ≡ None → (placing_of s o (stopping s.job s.own)).quota_limited ≡ false
     none_of None none = refl
-    none_of (Some j) none = ap (λ (q : Option QuotaSeen). (place (unwrap_or q no_quota) (demands (Some j) s.own) (opening s j (stopping s.job s.own))).quota_limited) none
+    none_of (Some j) none = ap (λ (q : Option QuotaSeen). (place (unwrap_or q no_quota) (demands (Some j) s.own)
+        (opening s j (stopping s.job s.own))).quota_limited) none
         ∙ not_by_quota (demands (Some j) s.own) (opening s j (stopping s.job s.own))
 
     quota : (plan s).placing.quota_limited ≡ true → s.quota ≢ None
@@ -222,18 +226,21 @@ module _ (q : QuotaSeen) (r : Resource) where
 
       used_after : (ch : Choice) → ch.victims ≡ [] → quantity r (after q d.size ch w).used ≡ quantity r w.used + quantity r d.size
       used_after ch none =
-          let less = quantity_of (λ r. quantity r (plus w.used d.size) - quantity r (total (λ (a : LiveAllocation). a.size) (filter (counts_for q) ch.victims))) r in
+          let less = quantity_of (λ r. quantity r (plus w.used d.size) - quantity r
+          (total (λ (a : LiveAllocation). a.size) (filter (counts_for q) ch.victims))) r in
           let whole = quantity_of (λ r. sum_by (λ (a : LiveAllocation). quantity r a.size) (filter (counts_for q) ch.victims)) r in
           let nothing : sum_by (λ (a : LiveAllocation). quantity r a.size) (filter (counts_for q) ch.victims) ≡ 0
           = ap (λ xs. sum_by (λ (a : LiveAllocation). quantity r a.size) (filter (counts_for q) xs)) none in
           omega (arith, less, in_use, whole, nothing)
 
-      with_rest : limits_allow q.limits (plus w.used d.size) ≡ true → (ch : Choice) → ch.victims ≡ [] → (ps : List Placement) → IsAllowed (after q d.size ch w).used ps
+      with_rest : limits_allow q.limits (plus w.used d.size) ≡ true → (ch : Choice) → ch.victims ≡ [] → (ps : List Placement) →
+          IsAllowed (after q d.size ch w).used ps
           → law.Allows (limit_on r q.limits) (quantity r w.used + sum_by (λ p. quantity r p.size) (placement_of d ch ∷ ps))
       with_rest e ch none ps (inl empty) =
           let whole = sum_by-cons (λ (p : Placement). quantity r p.size) (placement_of d ch) ps in
           let nothing : sum_by (λ (p : Placement). quantity r p.size) ps ≡ 0 = ap (sum_by (λ (p : Placement). quantity r p.size)) empty in
-          let same : quantity r (plus w.used d.size) ≡ quantity r w.used + sum_by (λ p. quantity r p.size) (placement_of d ch ∷ ps) = omega (arith, in_use, whole, nothing) in
+          let same : quantity r (plus w.used d.size) ≡ quantity r w.used + sum_by (λ p. quantity r p.size) (placement_of d ch ∷ ps) =
+          omega (arith, in_use, whole, nothing) in
           subst (law.Allows (limit_on r q.limits)) same (allows_is (limit_on r q.limits) (quantity r (plus w.used d.size))
           (true_at (λ r. limit_allows (limit_on r q.limits) (quantity r (plus w.used d.size))) e r))
       with_rest e ch none ps (inr h) =
@@ -245,9 +252,11 @@ module _ (q : QuotaSeen) (r : Resource) where
 
       by : (b : Bool) → limits_allow q.limits (plus w.used d.size) ≡ b → (o : Option Choice)
           → ((w : Site) → Each (λ p. p.evictions ≡ []) (place q ds w).placements → IsAllowed w.used (place q ds w).placements)
-          → Each (λ p. p.evictions ≡ []) (cond b (option_map_or (λ (s : Placement × Site). then_rest s.0 (place q ds s.1)) (option_map (λ ch. (placement_of d ch, after q d.size ch w)) o)
+          → Each (λ p. p.evictions ≡ []) (cond b (option_map_or (λ (s : Placement × Site). then_rest s.0 (place q ds s.1))
+          (option_map (λ ch. (placement_of d ch, after q d.size ch w)) o)
           (without_one (place q ds w))) ended_by_quota).placements
-          → IsAllowed w.used (cond b (option_map_or (λ (s : Placement × Site). then_rest s.0 (place q ds s.1)) (option_map (λ ch. (placement_of d ch, after q d.size ch w)) o)
+          → IsAllowed w.used (cond b (option_map_or (λ (s : Placement × Site). then_rest s.0 (place q ds s.1))
+          (option_map (λ ch. (placement_of d ch, after q d.size ch w)) o)
           (without_one (place q ds w))) ended_by_quota).placements
       by false e o later none = inl refl
       by true e None later none = later w none
@@ -264,7 +273,8 @@ plans_within_quota s quota r is some no_stops none = by s.job refl
     same : (o : Option Job) (at : s.job ≡ o) → law.Allows (limit_on r quota.limits) (quantity r quota.used + sum_by (λ p. quantity r p.size)
         (placing_of s o (stopping s.job s.own)).placements)
         → law.Allows (limit_on r quota.limits) (quantity r quota.used + sum_by (λ p. quantity r p.size) (plan s).placing.placements)
-    same o at = subst (λ ps. law.Allows (limit_on r quota.limits) (quantity r quota.used + sum_by (λ (p : Placement). quantity r p.size) ps)) (sym (placing o at))
+    same o at = subst (λ ps. law.Allows (limit_on r quota.limits) (quantity r quota.used + sum_by (λ (p : Placement). quantity r p.size)
+        ps)) (sym (placing o at))
 
     quota_is : quota_of s ≡ quota
     quota_is = ap (λ (q : Option QuotaSeen). unwrap_or q no_quota) is
@@ -282,10 +292,12 @@ plans_within_quota s quota r is some no_stops none = by s.job refl
         → law.Allows (limit_on r quota.limits) (quantity r quota.used + sum_by (λ p. quantity r p.size) ps)
     for j ps (inl empty) some = absurd (some empty)
     for j ps (inr h) some = subst (λ n. law.Allows (limit_on r quota.limits) (n + sum_by (λ (p : Placement). quantity r p.size) ps)) (used_is j)
-        (subst (λ (q : QuotaSeen). law.Allows (limit_on r q.limits) (quantity r (opening s j (stopping s.job s.own)).used + sum_by (λ (p : Placement). quantity r p.size) ps))
+        (subst (λ (q : QuotaSeen). law.Allows (limit_on r q.limits) (quantity r (opening s j (stopping s.job s.own)).used + sum_by
+        (λ (p : Placement). quantity r p.size) ps))
         quota_is h)
 
-    by : (o : Option Job) → s.job ≡ o → law.Allows (limit_on r quota.limits) (quantity r quota.used + sum_by (λ p. quantity r p.size) (plan s).placing.placements)
+    by : (o : Option Job) → s.job ≡ o → law.Allows (limit_on r quota.limits)
+        (quantity r quota.used + sum_by (λ p. quantity r p.size) (plan s).placing.placements)
     by None at = absurd (some (placing None at))
     by (Some j) at = same (Some j) at (for j (placing_of s (Some j) (stopping s.job s.own)).placements
         (places_allowed (quota_of s) r (demands (Some j) s.own) (opening s j (stopping s.job s.own))

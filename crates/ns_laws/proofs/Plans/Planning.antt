@@ -139,8 +139,10 @@ module _ (q : QuotaSeen) (D : ℕ → Resources → Type 0) (F : ℕ → Type 0)
       by false o is rest = tt
       by true None is rest = rest w h.1 good
       by true (Some ch) is rest =
-          let at = good_choice F V d.size w.candidates ch good is in
-          (record { demand = h.0; node = at.0; gone = ch.victims; evicted = refl; each_gone = at.1 }, rest (after q d.size ch w) h.1 (still_good F V q d.size ch w good))
+          let at = good_choice F V d.size w.candidates ch good is in (
+            record { demand = h.0; node = at.0; gone = ch.victims; evicted = refl; each_gone = at.1 },
+            rest (after q d.size ch w) h.1 (still_good F V q d.size ch w good),
+          )
 
 -- ---- how many of a group are placed
 
@@ -256,7 +258,8 @@ placing_none s ended = by s.job refl
   where
     by : (o : Option Job) → s.job ≡ o → (placing_of s o (stopping s.job s.own)).placements ≡ []
     by None is = refl
-    by (Some j) is = ap (λ b. (place (quota_of s) (cond b [] (demands_from 0 j s.own j.document.groups)) (opening s j (stopping s.job s.own))).placements) (ended j is)
+    by (Some j) is = ap (λ b. (place (quota_of s) (cond b [] (demands_from 0 j s.own j.document.groups))
+        (opening s j (stopping s.job s.own))).placements) (ended j is)
 
 stops_are : (s : Snapshot) → (plan s).stops ≡ map (λ a. a.number) (stopping s.job s.own)
 unfolding plan
@@ -264,7 +267,8 @@ stops_are s = refl
 
 -- a law of each placement, where the job is not stopped
 each_placement : (s : Snapshot) (P : Placement → Type 0)
-    → ((j : Job) → s.job ≡ Some j → j.stop ≡ false → Each P (place (quota_of s) (demands_from 0 j s.own j.document.groups) (opening s j (stopping s.job s.own))).placements)
+    → ((j : Job) → s.job ≡ Some j → j.stop ≡ false → Each P (place (quota_of s) (demands_from 0 j s.own j.document.groups)
+    (opening s j (stopping s.job s.own))).placements)
     → Each P (plan s).placing.placements
 unfolding plan
 each_placement s P h = by s.job refl
@@ -344,12 +348,14 @@ module _ (s : Snapshot) (j : Job) where
       )
 
       by : (o : Option PoolNode) → slice_get s.nodes k ≡ o → IsGood IsFit IsVictim k c
-      by None is = absurd (not_Some c (sym (slice_get-map (candidate_of j s.namespace stops) s.nodes k ∙ ap (option_map (candidate_of j s.namespace stops)) is) ∙ e))
+      by None is = absurd (not_Some c (sym (slice_get-map (candidate_of j s.namespace stops) s.nodes k ∙
+          ap (option_map (candidate_of j s.namespace stops)) is) ∙ e))
       by (Some node) is = at_node node is (same_Some c (candidate_of j s.namespace stops node)
           (sym e ∙ (slice_get-map (candidate_of j s.namespace stops) s.nodes k ∙ ap (option_map (candidate_of j s.namespace stops)) is)))
 
   places_all : Each (IsGoodPlacement (IsOf j) IsFit IsVictim) (place (quota_of s) (demands_from 0 j s.own j.document.groups) (opening s j stops)).placements
-  places_all = places_good (quota_of s) (IsOf j) IsFit IsVictim (demands_from 0 j s.own j.document.groups) (opening s j stops) (all_demands_of j s.own) opens_good
+  places_all = places_good (quota_of s) (IsOf j) IsFit IsVictim (demands_from 0 j s.own j.document.groups) (opening s j stops)
+      (all_demands_of j s.own) opens_good
 
 -- ---- the node of a placement
 
@@ -415,7 +421,8 @@ places_on_fit_nodes s = each_placement s (λ p. law.OfRunningJob s (λ job. law.
     on_node : (j : Job) (p : Placement) → IsFit s j p.node → law.IsOnFitNode s j p
     on_node j p h = record { node = h.0; is_node = h.1; fit = fit_is j h.0.name h.0.row h.2 }
 
-not_stopped : (s : Snapshot) (stops : List OwnAllocation) (namespace : List ℕ) (number : ℕ) → not (bytes_eq namespace s.namespace && is_among stops number) ≡ true
+not_stopped : (s : Snapshot) (stops : List OwnAllocation) (namespace : List ℕ) (number : ℕ) →
+    not (bytes_eq namespace s.namespace && is_among stops number) ≡ true
     → namespace ≡ s.namespace → Each (λ n. n ≢ number) (map (λ a. a.number) stops)
 not_stopped s stops namespace number e same = each_mapped (λ n. n ≢ number) (λ (a : OwnAllocation). a.number) stops
     (each_map (λ a h. eqb-false a.number number h) stops (each_fails (λ a. a.number == number) stops none))
@@ -456,7 +463,8 @@ unfolding plan
 fills_groups s j place_of g is runs at_place = record {
   at_most = λ some. let m = reach.at_most in omega (arith, m, some, wanted, placed_same);
   at_least = λ by_quota by_class.
-      let m = reach.at_least (ap (λ (p : Placing). p.quota_limited) (sym placing) ∙ by_quota) (ap (λ (p : Placing). p.class_limited) (sym placing) ∙ by_class) in
+      let m = reach.at_least (ap (λ (p : Placing). p.quota_limited) (sym placing) ∙ by_quota)
+      (ap (λ (p : Placing). p.class_limited) (sym placing) ∙ by_class) in
       omega (arith, m, wanted, placed_same);
 }
   where
@@ -546,7 +554,8 @@ module _ (s : Snapshot) where
 
         by : (g.count < length (kept j s.own g) + done j s.own g) ⊎ (length (kept j s.own g) + done j s.own g ≤ g.count) →
             Each (λ a. law.IsToStop s a.number) (surplus j s.own g)
-        by (inl more) = each_drop (λ a. law.IsToStop s a.number) (length (kept j s.own g) - (length (kept j s.own g) + done j s.own g - g.count)) (kept j s.own g)
+        by (inl more) = each_drop (λ a. law.IsToStop s a.number) (length (kept j s.own g) -
+            (length (kept j s.own g) + done j s.own g - g.count)) (kept j s.own g)
             (each_of_group more)
         by (inr less) = subst (Each (λ a. law.IsToStop s a.number)) (sym (drop_of_length-le (kept j s.own g)
             {i = length (kept j s.own g) - (length (kept j s.own g) + done j s.own g - g.count)} (omega (arith, less)))) tt
@@ -576,7 +585,8 @@ ended_job_stops s ended = (placing_none s ended, by s.job refl)
     by : (o : Option Job) → s.job ≡ o → map (λ (a : OwnAllocation). a.number) (stopping o s.own) ≡ map (λ (a : OwnAllocation). a.number)
         (filter (λ a. is_live a.row) s.own)
     by None is = refl
-    by (Some j) is = ap (λ b. map (λ (a : OwnAllocation). a.number) (cond b (live_ones s.own) (outdated j s.own ++ flat_map (surplus j s.own) j.document.groups)))
+    by (Some j) is = ap (λ b. map (λ (a : OwnAllocation). a.number) (cond b (live_ones s.own) (outdated j s.own ++
+        flat_map (surplus j s.own) j.document.groups)))
         (ended j is)
 
 -- ---- what must stop
@@ -608,7 +618,8 @@ module _ (s : Snapshot) where
 
 pub stops_outdated : law.StopsOutdated
 unfolding plan
-stops_outdated s j is runs = each_map (λ a h live old. stopped a.number (first_numbers s (outdated j s.own) (flat_map (surplus j s.own) j.document.groups) a.number
+stops_outdated s j is runs = each_map (λ a h live old. stopped a.number
+    (first_numbers s (outdated j s.own) (flat_map (surplus j s.own) j.document.groups) a.number
     (h (λ i. live i && not (ne_eqb a.row.job_modify_index j.modify_index old i))))) s.own (numbers_kept s (λ a. is_live a.row && not (is_current j a)) s.own)
   where
     stopped : (n : ℕ) → has_number (map (λ a. a.number) (outdated j s.own ++ flat_map (surplus j s.own) j.document.groups)) n ≡ true →

@@ -57,12 +57,15 @@ module _ (j : Job) (own : List OwnAllocation) where
   groups_sum f (g ∷ gs) once =
       let parts = sum_by-append f (kept j own g) (flat_map (kept j own) gs) in
       let first = sum_filter f (λ a. is_live a.row && is_of j g a) own in
-      let some = sum_by-le-sum_by (λ a. cond (is_live a.row && is_of j g a) (f a) 0) (λ a. cond (is_current j a) (cond (bytes_eq a.row.group g.name) (f a) 0) 0) own
+      let some = sum_by-le-sum_by (λ a. cond (is_live a.row && is_of j g a) (f a) 0)
+      (λ a. cond (is_current j a) (cond (bytes_eq a.row.group g.name) (f a) 0) 0) own
       (λ a. live_less (is_live a.row) (is_current j a) (bytes_eq a.row.group g.name) (f a)) in
       let others = sum_same f (λ a. cond (bytes_eq a.row.group g.name) 0 (f a)) (flat_map (kept j own) gs) each_other in
       let rest = groups_sum (λ a. cond (bytes_eq a.row.group g.name) 0 (f a)) gs once.1 in
-      let both = sum_add (λ a. cond (is_current j a) (cond (bytes_eq a.row.group g.name) (f a) 0) 0) (λ a. cond (is_current j a) (cond (bytes_eq a.row.group g.name) 0 (f a)) 0) own in
-      let whole = sum_same (λ a. cond (is_current j a) (cond (bytes_eq a.row.group g.name) (f a) 0) 0 + cond (is_current j a) (cond (bytes_eq a.row.group g.name) 0 (f a)) 0)
+      let both = sum_add (λ a. cond (is_current j a) (cond (bytes_eq a.row.group g.name) (f a) 0) 0)
+      (λ a. cond (is_current j a) (cond (bytes_eq a.row.group g.name) 0 (f a)) 0) own in
+      let whole = sum_same (λ a. cond (is_current j a) (cond (bytes_eq a.row.group g.name) (f a) 0) 0 + cond (is_current j a)
+      (cond (bytes_eq a.row.group g.name) 0 (f a)) 0)
       (λ a. cond (is_current j a) (f a) 0) own (each _ (λ a. parted (is_current j a) (bytes_eq a.row.group g.name) (f a)) own) in
       omega (arith, parts, first, some, others, rest, both, whole)
     where
@@ -81,7 +84,8 @@ module _ (j : Job) (own : List OwnAllocation) where
 
       other : (h : Group) → g.name ≢ h.name → (a : OwnAllocation) → (is_live a.row && is_of j h a) ≡ true → f a ≡ cond (bytes_eq a.row.group g.name) 0 (f a)
       other h differ a e = sym (ap (λ b. cond b 0 (f a)) (no_one (bytes_eq a.row.group g.name) (λ same.
-          differ (sym (same_text a.row.group g.name same) ∙ same_text a.row.group h.name (second_of_both (is_current j a) _ (second_of_both (is_live a.row) _ e))))))
+          differ (sym (same_text a.row.group g.name same) ∙ same_text a.row.group h.name
+          (second_of_both (is_current j a) _ (second_of_both (is_live a.row) _ e))))))
 
       each_other : Each (λ a. f a ≡ cond (bytes_eq a.row.group g.name) 0 (f a)) (flat_map (kept j own) gs)
       each_other = each_flat (λ a. f a ≡ cond (bytes_eq a.row.group g.name) 0 (f a)) (kept j own) gs (each_map (λ h differ.
@@ -196,7 +200,8 @@ module _ (q : QuotaSeen) (r : Resource) where
 
     used_after : quantity r (after q d.size ch w).used ≡ quantity r w.used + quantity r d.size - out_of_quota
     used_after =
-        let less = quantity_of (λ r. quantity r (plus w.used d.size) - quantity r (total (λ (a : LiveAllocation). a.size) (filter (counts_for q) ch.victims))) r in
+        let less = quantity_of (λ r. quantity r (plus w.used d.size) - quantity r
+        (total (λ (a : LiveAllocation). a.size) (filter (counts_for q) ch.victims))) r in
         let in_use = quantity_of (λ r. quantity r w.used + quantity r d.size) r in
         let whole = quantity_of (λ r. sum_by (λ (a : LiveAllocation). quantity r a.size) (filter (counts_for q) ch.victims)) r in
         omega (arith, less, in_use, whole)
@@ -239,7 +244,8 @@ module _ (q : QuotaSeen) (r : Resource) where
             let nothing : sum_by (λ (p : Placement). quantity r p.size) ps ≡ 0 = ap (sum_by (λ (p : Placement). quantity r p.size)) empty in
             let in_use = quantity_of (λ r. quantity r w.used + quantity r d.size) r in
             less_allowed (limit_on r q.limits) (quantity r (plus w.used d.size)) _ (omega (arith, whole, nothing, in_use))
-            (allows_is (limit_on r q.limits) (quantity r (plus w.used d.size)) (true_at (λ r. limit_allows (limit_on r q.limits) (quantity r (plus w.used d.size))) e r));
+            (allows_is (limit_on r q.limits) (quantity r (plus w.used d.size))
+            (true_at (λ r. limit_allows (limit_on r q.limits) (quantity r (plus w.used d.size))) e r));
       }
       one_more e (inr h) = record {
         out = out_of_quota + h.out;
@@ -247,7 +253,8 @@ module _ (q : QuotaSeen) (r : Resource) where
         allowed =
             let whole = sum_by-cons (λ (p : Placement). quantity r p.size) (placement_of d ch) ps in
             let used = used_after in
-            less_allowed (limit_on r q.limits) (quantity r (after q d.size ch w).used + sum_by (λ p. quantity r p.size) ps - h.out) _ (omega (arith, whole, used)) h.allowed;
+            less_allowed (limit_on r q.limits) (quantity r (after q d.size ch w).used + sum_by (λ p. quantity r p.size) ps - h.out) _
+            (omega (arith, whole, used)) h.allowed;
       }
 
   places_allowed : (ds : List Demand) (w : Site) → ((place q ds w).placements ≡ []) ⊎ IsAllowed w.used w.candidates (place q ds w).placements
@@ -256,7 +263,8 @@ module _ (q : QuotaSeen) (r : Resource) where
     where
       by : (b : Bool) → limits_allow q.limits (plus w.used d.size) ≡ b → (o : Option Choice) → choice d.size w.candidates ≡ o
           → ((w : Site) → ((place q ds w).placements ≡ []) ⊎ IsAllowed w.used w.candidates (place q ds w).placements)
-          → let ps = (cond b (option_map_or (λ (s : Placement × Site). then_rest s.0 (place q ds s.1)) (option_map (λ ch. (placement_of d ch, after q d.size ch w)) o)
+          → let ps = (cond b (option_map_or (λ (s : Placement × Site). then_rest s.0 (place q ds s.1))
+          (option_map (λ ch. (placement_of d ch, after q d.size ch w)) o)
           (without_one (place q ds w))) ended_by_quota).placements in (ps ≡ []) ⊎ IsAllowed w.used w.candidates ps
       by false e o is later = inl refl
       by true e None is later = later w
@@ -294,13 +302,15 @@ frees_within_quota s j quota r orderly is seen some = subst (KeepsQuota s quota 
     placing : (plan s).placing.placements ≡ (placing_of s (Some j) (stopping s.job s.own)).placements
     placing = ap (λ o. (placing_of s o (stopping s.job s.own)).placements) is
 
-    used_first : quantity r (opening s j (stopping s.job s.own)).used ≡ quantity r (quota_of s).used - sum_by (λ (a : OwnAllocation). quantity r a.row.size) (stopping s.job s.own)
+    used_first : quantity r (opening s j (stopping s.job s.own)).used ≡
+        quantity r (quota_of s).used - sum_by (λ (a : OwnAllocation). quantity r a.row.size) (stopping s.job s.own)
     used_first =
         let less = quantity_of (λ r. quantity r (quota_of s).used - quantity r (total (λ (a : OwnAllocation). a.row.size) (stopping s.job s.own))) r in
         let whole = quantity_of (λ r. sum_by (λ (a : OwnAllocation). quantity r a.row.size) (stopping s.job s.own)) r in
         omega (arith, less, whole)
 
-    for : j.stop ≡ false → (ps : List Placement) → IsAllowed (quota_of s) r (opening s j (stopping s.job s.own)).used (opening s j (stopping s.job s.own)).candidates ps
+    for : j.stop ≡ false → (ps : List Placement) → IsAllowed (quota_of s) r (opening s j (stopping s.job s.own)).used
+        (opening s j (stopping s.job s.own)).candidates ps
         → KeepsQuota s (quota_of s) r ps
     for runs ps h =
         let stops = stopped_sum s j (λ a. quantity r a.row.size) orderly is runs in
@@ -311,11 +321,13 @@ frees_within_quota s j quota r orderly is seen some = subst (KeepsQuota s quota 
         (omega (arith, stops, used, evicts, within)) h.allowed
 
     allowed : j.stop ≡ false → (ps : List Placement) → (ps ≡ [] → ⊥)
-        → (ps ≡ []) ⊎ IsAllowed (quota_of s) r (opening s j (stopping s.job s.own)).used (opening s j (stopping s.job s.own)).candidates ps → KeepsQuota s quota r ps
+        → (ps ≡ []) ⊎ IsAllowed (quota_of s) r (opening s j (stopping s.job s.own)).used (opening s j (stopping s.job s.own)).candidates ps
+        → KeepsQuota s quota r ps
     allowed runs ps full (inl empty) = absurd (full empty)
     allowed runs ps full (inr h) = subst (λ q. KeepsQuota s q r ps) (ap (λ (o : Option QuotaSeen). unwrap_or o no_quota) seen) (for runs ps h)
 
     running : (b : Bool) → j.stop ≡ b → KeepsQuota s quota r (placing_of s (Some j) (stopping s.job s.own)).placements
-    running true stops = absurd (some (placing ∙ ap (λ b. (place (quota_of s) (cond b [] (demands_from 0 j s.own j.document.groups)) (opening s j (stopping s.job s.own))).placements) stops))
+    running true stops = absurd (some (placing ∙ ap (λ b. (place (quota_of s) (cond b [] (demands_from 0 j s.own j.document.groups))
+        (opening s j (stopping s.job s.own))).placements) stops))
     running false runs = allowed runs (placing_of s (Some j) (stopping s.job s.own)).placements (λ empty. some (placing ∙ empty))
         (places_allowed (quota_of s) r (demands (Some j) s.own) (opening s j (stopping s.job s.own)))

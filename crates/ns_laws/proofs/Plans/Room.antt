@@ -176,7 +176,8 @@ module _ (q : QuotaSeen) (r : Resource) (k : ℕ) where
 
       by : (b : Bool) (o : Option Choice) → choice d.size w.candidates ≡ o
           → ((w : Site) (c : Candidate) → slice_get w.candidates k ≡ Some c → HasRoom (on_it (place q ds w).placements) c)
-          → HasRoom (on_it (cond b (option_map_or (λ (s : Placement × Site). then_rest s.0 (place q ds s.1)) (option_map (λ ch. (placement_of d ch, after q d.size ch w)) o)
+          → HasRoom (on_it (cond b (option_map_or (λ (s : Placement × Site). then_rest s.0 (place q ds s.1))
+          (option_map (λ ch. (placement_of d ch, after q d.size ch w)) o)
           (without_one (place q ds w))) ended_by_quota).placements) c
       by false o is later = record { gone = []; others = c.evictable; front = refl; each_gone = tt; room = omega arith }
       by true None is later = later w c at
@@ -185,7 +186,8 @@ module _ (q : QuotaSeen) (r : Resource) (k : ℕ) where
 -- ---- what stays on a node
 
 module _ (f : LiveAllocation → ℕ) (stay out : LiveAllocation → Bool) (priority : ℕ) (live : List LiveAllocation) where
-  passes_twice : (p : LiveAllocation → Bool) (xs : List LiveAllocation) → sum_by f (filter p (filter stay xs)) ≡ sum_by (λ a. cond (stay a) (cond (p a) (f a) 0) 0) xs
+  passes_twice : (p : LiveAllocation → Bool) (xs : List LiveAllocation) → sum_by f (filter p (filter stay xs)) ≡
+      sum_by (λ a. cond (stay a) (cond (p a) (f a) 0) 0) xs
   passes_twice p xs = sum_filter f p (filter stay xs) ∙ sum_filter (λ a. cond (p a) (f a) 0) stay xs
 
   -- what goes takes no more than what is out of those that stay
@@ -234,7 +236,8 @@ evicts_within_capacity s k node r at room = by s.job refl
         omega (arith, l, room)
     fit (Some j) is =
         let c = candidate_of j s.namespace (stopping s.job s.own) node in
-        let there = slice_get-map (candidate_of j s.namespace (stopping s.job s.own)) s.nodes k ∙ ap (option_map (candidate_of j s.namespace (stopping s.job s.own))) at in
+        let there = slice_get-map (candidate_of j s.namespace (stopping s.job s.own)) s.nodes k ∙
+        ap (option_map (candidate_of j s.namespace (stopping s.job s.own))) at in
         let on = filter (λ (p : Placement). p.node == k) (place (quota_of s) (demands (Some j) s.own) (opening s j (stopping s.job s.own))).placements in
         let h = places_with_room (quota_of s) r k (demands (Some j) s.own) (opening s j (stopping s.job s.own)) c there in
         let goes = gone_sum (λ a. quantity r a.size) (stays s.namespace (stopping s.job s.own)) (law.is_evicted on) j.document.priority node.live

@@ -164,7 +164,8 @@ module _ (s : Snapshot) (j : Job) (is : s.job ≡ Some j) (runs : j.stop ≡ fal
     stay = length ks - (length ks + done j s.own g - g.count)
 
     rises : Rises (λ (a : OwnAllocation). a.number) ks
-    rises = pairs_from (λ x y. x.number < y.number) ks (AllPairs-filter (λ x y. x.number < y.number) (λ a. is_live a.row && is_of j g a) s.own orderly.by_number)
+    rises = pairs_from (λ x y. x.number < y.number) ks (AllPairs-filter (λ x y. x.number < y.number) (λ a. is_live a.row && is_of j g a)
+        s.own orderly.by_number)
 
     one_group : Each (λ h. h.name ≡ g.name → h ≡ g) j.document.groups
     one_group = each_slice (λ g. Each (λ h. h.name ≡ g.name → h ≡ g) j.document.groups) j.document.groups
@@ -249,7 +250,8 @@ groups_differ : (d : Document) → is_good_document d ≡ true → AllPairs (λ 
 groups_differ d e = all_pairs (λ (g h : Group). g.name ≢ h.name) d.groups
     (pairs_of (λ g h. same_name g.name h.name ≡ false) (λ g h. g.name ≢ h.name)
     (λ g h other same. not_both (ap (same_name g.name) (sym same) ∙ same_name_refl g.name) other) d.groups
-    (pairs_of_mapped (λ (g : Group). g.name) (λ a b. same_name a b ≡ false) d.groups (pairs_of_distinct same_name (map (λ g. g.name) d.groups) (names_differ d e))))
+    (pairs_of_mapped (λ (g : Group). g.name) (λ a b. same_name a b ≡ false) d.groups
+    (pairs_of_distinct same_name (map (λ g. g.name) d.groups) (names_differ d e))))
 
 pub snapshots_are_orderly : law.SnapshotsAreOrderly
 snapshots_are_orderly s ns t number e job valid is has = record {

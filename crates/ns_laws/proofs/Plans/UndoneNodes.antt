@@ -119,7 +119,8 @@ name_of : (kept : Snapshot) (ks : List ℕ) (q : Name) → Each (IsThere kept) k
 name_of kept [] q h e = not_both e refl
 name_of kept (k ∷ ks) q h e = by (either_of (same_name q (node_name kept k)) _ e) (name_of kept ks q h.1)
   where
-    by : (same_name q (node_name kept k) ≡ true) ⊎ (has_name (map (node_name kept) ks) q ≡ true) → (has_name (map (node_name kept) ks) q ≡ true → IsNameOf kept ks q)
+    by : (same_name q (node_name kept k) ≡ true) ⊎ (has_name (map (node_name kept) ks) q ≡ true) →
+        (has_name (map (node_name kept) ks) q ≡ true → IsNameOf kept ks q)
         → IsNameOf kept (k ∷ ks) q
     by (inl same) later = record {
       place = k;
@@ -195,7 +196,8 @@ module _ (s : State) (valid : IsValid s) (number : ℕ) (ns : Name) (before : Te
     where
       by : (b : Bool) → (cond b (done kept (plan kept) s.world before) (refused_whole kept (plan kept) s.world)).made ≡ made
           → (cond b (done kept (plan kept) s.world before) (refused_whole kept (plan kept) s.world)).dropped ≡ names
-          → get (settle s.world (marked number ns worker e (cond b (done kept (plan kept) s.world before) (refused_whole kept (plan kept) s.world)))).tenants ns ≡ Some now
+          → get (settle s.world (marked number ns worker e (cond b (done kept (plan kept) s.world before)
+          (refused_whole kept (plan kept) s.world)))).tenants ns ≡ Some now
           → Each (NoneOn names now) made
       by true same same_names there = subst (Each (NoneOn names now)) same
           (subst (λ x. Each (NoneOn x now) (numbers_after before.allocation_number new)) same_names
@@ -204,7 +206,8 @@ module _ (s : State) (valid : IsValid s) (number : ℕ) (ns : Name) (before : Te
 
 -- what the law says of what an Apply says and leaves
 NamesUndone : State → ℕ → Name → Reply → State → Type 0
-NamesUndone s number ns reply t = (made : List ℕ) (dropped : List Name) (now : Tenant) → reply.content ≡ Content.Applied made dropped → get t.world.tenants ns ≡ Some now
+NamesUndone s number ns reply t = (made : List ℕ) (dropped : List Name) (now : Tenant) → reply.content ≡ Content.Applied made dropped →
+    get t.world.tenants ns ≡ Some now
     → Each (NoneOn dropped now) made
 
 pub names_undone_only : law.NamesUndoneOnly

@@ -75,7 +75,8 @@ pub record Has {A : Type 0} (P : A → Type 0) (o : Option A) : Type 0 where
   pub is_thing : o ≡ Some thing
   pub holds : P thing
 
-pub decides_option : {A : Type 0} (f : A → Bool) (P : A → Type 0) → ((x : A) → Decides (f x) (P x)) → (o : Option A) → Decides (option_map_or f o false) (Has P o)
+pub decides_option : {A : Type 0} (f : A → Bool) (P : A → Type 0) → ((x : A) → Decides (f x) (P x)) → (o : Option A) →
+    Decides (option_map_or f o false) (Has P o)
 decides_option f P each None = ((λ e. not_both e refl), (λ h. absurd (not_Some h.thing h.is_thing)))
 decides_option f P each (Some x) = (
   (λ e. record { thing = x; is_thing = refl; holds = (each x).0 e }),
@@ -167,7 +168,8 @@ module _ (passes : Name → Bool) (t : Tenant) where
   AllocationRow = Row (λ n (a : Allocation). (is_live a ≡ true) × (passes a.pool ≡ true)) t.allocations
 
   evaluation_rows : Decides evaluations_pass EvaluationRow
-  evaluation_rows = decides_rows numbers one_number (λ _ (e : Evaluation). is_open e.status && passes e.pool) (λ n e. (is_open e.status ≡ true) × (passes e.pool ≡ true))
+  evaluation_rows = decides_rows numbers one_number (λ _ (e : Evaluation). is_open e.status && passes e.pool)
+      (λ n e. (is_open e.status ≡ true) × (passes e.pool ≡ true))
       (λ n e. Decides-and (is_open e.status) (passes e.pool) (decides_itself (is_open e.status)) (decides_itself (passes e.pool))) t.evaluations
 
   worker_rows : Decides workers_pass (Row Keeps t.workers)

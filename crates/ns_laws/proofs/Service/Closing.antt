@@ -242,7 +242,8 @@ module _ (w : World) (sound : IsSound w) (ns : Name) (number : ℕ) (t : Tenant)
   finish_leaves u workers works y put ready = moved_up finishing (end_of worker) end_is (Unit {0}) (Unit {0}) u workers works y
       (put ∙ ap (λ m. insert m ns u) (unlisted_tenants ns e.job t w)) (ready ∙ unlisted_ready ns e.job t w)
       (λ _ a b row p. law.EvaluationEnds.finished number worker refl worker_is refl (subst HasFinished (sym p) end_is))
-      (λ _ m a b was of_job p. law.EvaluationEnds.canceled number worker e refl worker_is (evaluation_is w (ns, worker.evaluation) t e is at) (sym of_job) was p)
+      (λ _ m a b was of_job p. law.EvaluationEnds.canceled number worker e refl worker_is
+      (evaluation_is w (ns, worker.evaluation) t e is at) (sym of_job) was p)
 
   follower_leaves : (f : Evaluation) (late : Bool) → f.job ≡ e.job → Leaves w finishing (promote ns e.job (followed ns worker f rest late less))
   follower_leaves f true of_job =
@@ -283,7 +284,8 @@ module _ (w : World) (sound : IsSound w) (ns : Name) (number : ℕ) (t : Tenant)
         number = worker.evaluation;
         row = record e { nacks = e.nacks + 1 };
         is_row = evaluation_is x (ns, worker.evaluation) (without_worker number nacked) (record e { nacks = e.nacks + 1 })
-            (here w ns t (without_worker number nacked) is x refl) (get_put numbers one_number t.evaluations worker.evaluation (record e { nacks = e.nacks + 1 }));
+            (here w ns t (without_worker number nacked) is x refl) (get_put numbers one_number t.evaluations worker.evaluation
+            (record e { nacks = e.nacks + 1 }));
         of_job = refl;
         under_way = is_ready (last_one w.ready (ns, worker.evaluation));
       })
@@ -293,7 +295,8 @@ module _ (w : World) (sound : IsSound w) (ns : Name) (number : ℕ) (t : Tenant)
       x = record (put_tenant ns (without_worker number nacked) w) { ready = w.ready ++ (ns, worker.evaluation) ∷ [] }
 
   pub up_leaves : nat_le most_nacks (e.nacks + 1) ≡ true → Leads (Leaves w nacking) (given_up number ns w nacked worker e)
-  up_leaves third = moved_up nacking Statuses.Failed (inr refl) (Unit {0}) ⊥ u (with_status_workers worker.evaluation Statuses.Failed (without_worker number nacked))
+  up_leaves third = moved_up nacking Statuses.Failed (inr refl) (Unit {0}) ⊥ u
+      (with_status_workers worker.evaluation Statuses.Failed (without_worker number nacked))
       (works_then worker.evaluation e.job Statuses.Failed (inr refl) (Unit {0}) ⊥ t nacked u
       (works_nack worker.evaluation e.job Statuses.Failed (inr refl) (Unit {0}) ⊥ t e (e.nacks + 1) at)
       (works_then worker.evaluation e.job Statuses.Failed (inr refl) (Unit {0}) ⊥ nacked (without_worker number nacked) u

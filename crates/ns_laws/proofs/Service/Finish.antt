@@ -67,7 +67,8 @@ tables_less ns job t w = by (blocked_of t job)
     by None = record { pools = refl; quotas = refl }
     by (Some n) = record { pools = refl; quotas = refl }
 
-tables_followed : (ns : Name) (worker : Worker) (f : Evaluation) (t : Tenant) (late : Bool) (w x : World) → Tables w x → Tables w (followed ns worker f t late x)
+tables_followed : (ns : Name) (worker : Worker) (f : Evaluation) (t : Tenant) (late : Bool) (w x : World) → Tables w x →
+    Tables w (followed ns worker f t late x)
 tables_followed ns worker f t true w x h = record { pools = h.pools; quotas = h.quotas }
 tables_followed ns worker f t false w x h = record { pools = h.pools; quotas = h.quotas }
 
@@ -208,7 +209,8 @@ finish_wakes_none s t number ns reply key valid e has = by (evaluation_goes_on s
     by (inr gone) = not_both (ap is_open a.2) gone.0
     by (inl g) = next g.status
       where
-        next : NextStatus s.world (Step.Finish number ns) key a.0 g.row → (has_key t.world.blocked key ≡ true) ⊎ law.HasEvaluationStatus t.world Statuses.Canceled key
+        next : NextStatus s.world (Step.Finish number ns) key a.0 g.row →
+            (has_key t.world.blocked key ≡ true) ⊎ law.HasEvaluationStatus t.world Statuses.Canceled key
         next (stays p) = inl ((lists_are_true t after_valid).all_blocked key (g.row, g.is_row, p ∙ a.2))
         next (woke was p) = absurd (not_woken s t number ns reply valid e key a.0 a.1 a.2 g.row g.is_row p)
         next (ends open_ (its_own m worker at is same end)) = not_both has

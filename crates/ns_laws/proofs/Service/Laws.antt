@@ -125,7 +125,8 @@ module _ (w x : World) where
   }
 
   settle_forgets : ForgetsNone x → ForgetsNone (settle w x)
-  settle_forgets none k n d at p = in_tenant (get x.tenants k) refl (sym (ap (option_and_then (λ (t : Tenant). get t.evaluations n)) (settled_tenant w x k)) ∙ at)
+  settle_forgets none k n d at p = in_tenant (get x.tenants k) refl (sym
+      (ap (option_and_then (λ (t : Tenant). get t.evaluations n)) (settled_tenant w x k)) ∙ at)
     where
       row : (t : Tenant) → get x.tenants k ≡ Some t → (d0 : Evaluation) → get (unblocked_in (woken w x) k t).evaluations n ≡ Some d0 →
           d.job ≡ d0.job → d0.status ≡ Statuses.Pending → HasOneUnderWay (settle w x) k d.job

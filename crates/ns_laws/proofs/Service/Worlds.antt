@@ -215,7 +215,8 @@ module _ (w : World) (number : ℕ) where
         leads_if (Keeps w) (may_submit worker kept) (Done (Content.Queued worker.evaluation) (submitted number ns w t worker)) NotEnabled
         (λ _. keeps_worker w ns number t worker (record worker { phase = Phase.Submitted }) is has refl (submitted number ns w t worker) refl refl) (λ _. tt))
 
-    applied_keeps : IsQueued w → (t : Tenant) (worker : Worker) (e : Evaluation) → get w.tenants ns ≡ Some t → get t.workers number ≡ Some worker → (a : Applied) →
+    applied_keeps : IsQueued w → (t : Tenant) (worker : Worker) (e : Evaluation) → get w.tenants ns ≡ Some t → get t.workers number ≡
+        Some worker → (a : Applied) →
         Tending w a.world → Keeping w (applied number ns worker e a)
     applied_keeps q t worker e is has a tends =
         let there = (tends q).quiet.goes ns t is in

@@ -85,7 +85,8 @@ stamped_row old t n f at = let r = redated_evaluation old t n f at in (
   record { status = f.status; created = r.0; modified = r.1; same = refl; pends = λ is. is },
 )
 
-shown_settled : (w x : World) (ns : Name) (n : ℕ) (f e : Evaluation) → evaluation_at x (ns, n) ≡ Some f → evaluation_at (settle w x) (ns, n) ≡ Some e → IsShown f e
+shown_settled : (w x : World) (ns : Name) (n : ℕ) (f e : Evaluation) → evaluation_at x (ns, n) ≡ Some f →
+    evaluation_at (settle w x) (ns, n) ≡ Some e → IsShown f e
 shown_settled w x ns n f e at later = by (get x.tenants ns) refl at
   where
     keys : List Key
@@ -193,7 +194,8 @@ made_follower number ns w x t worker e kept content n is some = may (may_finish 
 
     needs : (c : Bool) → cond c
         (Done (Content.Finished (end_of worker) (Some (t.evaluation_number + 1))) (promote ns e.job (followed ns worker f t' b w')))
-        (Done (Content.Finished (end_of worker) None) (promote ns e.job (put_tenant ns t' w'))) ≡ Done content x → evaluation_at x (ns, n) ≡ Some (follower_row b f)
+        (Done (Content.Finished (end_of worker) None) (promote ns e.job (put_tenant ns t' w'))) ≡ Done content x → evaluation_at x (ns, n) ≡
+        Some (follower_row b f)
     needs false is = absurd (not_Some n (ap follower_in (same_Some (Content.Finished (end_of worker) None) content (ap content_of is)) ∙ some))
     needs true is =
         let number_is = ended_number number worker e (end_of worker) t in

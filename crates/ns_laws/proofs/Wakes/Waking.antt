@@ -151,7 +151,8 @@ module _ (w x : World) where
       ∙ ap (option_map (λ t. stamp_tenant (get w.tenants ns) t)) (get-map_rows names one_name (unblocked_in (woken w x)) x.tenants ns)
       ∙ by (get x.tenants ns)
     where
-      by : (o : Option Tenant) → option_map (λ t. stamp_tenant (get w.tenants ns) t) (option_map (unblocked_in (woken w x) ns) o) ≡ option_map (closed_tenant ns) o
+      by : (o : Option Tenant) → option_map (λ t. stamp_tenant (get w.tenants ns) t) (option_map (unblocked_in (woken w x) ns) o) ≡
+          option_map (closed_tenant ns) o
       by None = refl
       by (Some t) = refl
 
@@ -176,8 +177,14 @@ lives_on w x key live = by (get x.tenants key.0) refl live
         StillLives (settle w x) key
     row t is None at live = not_both live refl
     row t is (Some a) at live =
-        let b = stamped_live (get w.tenants key.0) (unblocked_in (woken w x) key.0 t) key.1 a at live in
-        (b.0, (ap (option_and_then (λ (u : Tenant). get u.allocations key.1)) (settled_tenants w x key.0 ∙ ap (option_map (closed_tenant w x key.0)) is) ∙ b.1, b.2))
+        let b = stamped_live (get w.tenants key.0) (unblocked_in (woken w x) key.0 t) key.1 a at live in (
+          b.0,
+          (
+            ap (option_and_then (λ (u : Tenant). get u.allocations key.1)) (settled_tenants w x key.0 ∙
+                ap (option_map (closed_tenant w x key.0)) is) ∙ b.1,
+            b.2,
+          ),
+        )
 
     by : (o : Option Tenant) → get x.tenants key.0 ≡ o → option_map_or is_live (option_and_then (λ t. get t.allocations key.1) o) false ≡ true →
         StillLives (settle w x) key

@@ -31,7 +31,8 @@ use Rattle.ns_laws.proofs.Effect.Rows.{AtEnd, Does, after_does, does_lift, put_t
 
 module _ (step : Step) (s s' : State) (reply : Reply) (Q : Reply → State → Type 0) where
   pub work_does : (o : Outcome World) → act step s ≡ lift (with_world s.acl) o →
-      Does (λ content x. Q (reply_of step content (settle s.world x)) (record s { world = settle s.world x })) o → after step s ≡ said (Ok reply) s' → Q reply s'
+      Does (λ content x. Q (reply_of step content (settle s.world x)) (record s { world = settle s.world x })) o → after step s ≡
+      said (Ok reply) s' → Q reply s'
   work_does o acts h e = after_does step s s' reply Q e
       (subst (Does (AtEnd step s s' reply Q)) (sym acts) (does_lift (AtEnd step s s' reply Q) (with_world s.acl) o h))
 

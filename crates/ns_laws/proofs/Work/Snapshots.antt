@@ -132,7 +132,8 @@ module _ (w : World) (pool node : Name) where
   IsThere a = (allocation_at w (a.0, a.1.0) ≡ Some a.1.1) × (is_live_on pool node a.1.1 ≡ true)
 
   all_there : Each IsThere (allocations_on w pool node)
-  all_there = each_flat IsThere (λ (t : Name × Tenant). map (λ (a : ℕ × Allocation). (t.0, a)) (filter (λ a. is_live_on pool node a.1) (entries t.1.allocations)))
+  all_there = each_flat IsThere (λ (t : Name × Tenant). map (λ (a : ℕ × Allocation). (t.0, a))
+      (filter (λ a. is_live_on pool node a.1) (entries t.1.allocations)))
       (entries w.tenants) (each_row names one_name
       (λ ns (t : Tenant). Each IsThere (map (λ (a : ℕ × Allocation). (ns, a)) (filter (λ a. is_live_on pool node a.1) (entries t.allocations))))
       w.tenants (λ ns t is. each_mapped IsThere (λ (a : ℕ × Allocation). (ns, a)) (filter (λ a. is_live_on pool node a.1) (entries t.allocations))

@@ -11,5 +11,6 @@ returns c =
     let w = world_of c.args.tables.now in
     let kept = c.args.snapshot.now in
     c.numbers_pass.ensures ∙ ap (λ evictions. numbers_pass (victims_at w evictions) w)
-    (c.new.ensures ∙ (λ i. counted_of (is_victim (after_stops (c.requires.same i) kept.namespace ((c.new-stops.ensures ∙ c.as_slice.ensures) i)) kept c.args.nodes.now)
+    (c.new.ensures ∙ (λ i. counted_of (is_victim (after_stops (c.requires.same i) kept.namespace
+    ((c.new-stops.ensures ∙ c.as_slice.ensures) i)) kept c.args.nodes.now)
     (c.as_slice-placements.ensures i)))

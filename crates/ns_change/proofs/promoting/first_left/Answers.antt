@@ -11,11 +11,13 @@ pub returns-in-Some : goal.returns-in-Some
 returns-in-Some c = led_by (stands c.args.wanted) c.args.job.now c.args.tenant.now.evaluations.slots
     (unheld_passes (of_job (stands c.args.wanted) c.args.job.now) (rows c.args.tenant.now.evaluations.slots) c.args.changed.now)
     (λ q t. second_of_both _ _ t) c.in-Some.numbers.now _ _
-    (subst (AreNumbersUnder (job_where (stands c.args.wanted)) c.args.job.now c.args.tenant.now.evaluations.slots) (ap option_copied c.in-Some.is) c.stored_numbers.ensures)
+    (subst (AreNumbersUnder (job_where (stands c.args.wanted)) c.args.job.now c.args.tenant.now.evaluations.slots)
+    (ap option_copied c.in-Some.is) c.stored_numbers.ensures)
     c.as_slice.ensures c.first_unchanged.ensures
 
 pub returns-in-None : goal.returns-in-None
 returns-in-None c = led_by_none (stands c.args.wanted) c.args.job.now c.args.tenant.now.evaluations.slots
     (unheld_passes (of_job (stands c.args.wanted) c.args.job.now) (rows c.args.tenant.now.evaluations.slots) c.args.changed.now)
     (λ q t. second_of_both _ _ t)
-    (subst (AreNumbersUnder (job_where (stands c.args.wanted)) c.args.job.now c.args.tenant.now.evaluations.slots) (ap option_copied c.in-None.is) c.stored_numbers.ensures)
+    (subst (AreNumbersUnder (job_where (stands c.args.wanted)) c.args.job.now c.args.tenant.now.evaluations.slots)
+    (ap option_copied c.in-None.is) c.stored_numbers.ensures)

@@ -6,5 +6,6 @@ pub returns : goal.returns
 returns c =
     let two = more _ _ _ _ _ c.in_ok-push_texted.ensures c.in_ok-push_texted-2.ensures in
     let three = more _ _ _ _ _ two c.in_ok-push_texted-3.ensures in
-    after c.push.result _ _ _ _ _ _ three (constraint_is c.args.constraint.now _ _ _ (c.as_str.ensures.value ∙ c.in_ok-target.ensures) c.operand_text-operand.ensures
+    after c.push.result _ _ _ _ _ _ three (constraint_is c.args.constraint.now _ _ _ (c.as_str.ensures.value ∙ c.in_ok-target.ensures)
+    c.operand_text-operand.ensures
     c.as_str-2.ensures) c.push.ensures

@@ -19,7 +19,8 @@ loop-i-preserved g c =
     let step = use_step c.args.namespace.now c.args.stops.now at (subst (λ l. at < length l) seen c.loop-i-test.true) w in (
       elim c.if-not-stands_earlier.branch [
         | then-not-stands_earlier v ↦ v.left-is ∙ v.less-left.ensures
-            ∙ (λ i. minus (c.loop-i.invariant.0 i) ((v.part_of_quota.ensures ∙ (λ j. part_of_quota (c.names-named.ensures j) ((v.allocation.ensures ∙ row) j))) i))
+            ∙ (λ i. minus (c.loop-i.invariant.0 i) ((v.part_of_quota.ensures ∙
+            (λ j. part_of_quota (c.names-named.ensures j) ((v.allocation.ensures ∙ row) j))) i))
             ∙ sym (step false (sym (c.stands_earlier.ensures 0) ∙ v.if-not-stands_earlier.true) quota)
         | else-not-stands_earlier v ↦ v.left-is ∙ c.loop-i.invariant.0
             ∙ sym (step true (sym (c.stands_earlier.ensures 0) ∙ v.if-not-stands_earlier.false) quota)

@@ -17,7 +17,8 @@ returns-then-as_slice-clause-kept c = sym (not_where_missing c.args.tables.now c
     c.requires.added (omega (arith, ap length c.as_slice.ensures, ap length c.as_slice-2.ensures, c.if-as_slice.true)))
 
 pub returns-clause-right : goal.returns-clause-right
-returns-clause-right c = λ all. followed (world_of c.args.tables.now) c.args.settled.now c.args.list.now c.take_out.new.self c.append_new.new.self c.args.entries
+returns-clause-right c = λ all. followed (world_of c.args.tables.now) c.args.settled.now c.args.list.now c.take_out.new.self
+    c.append_new.new.self c.args.entries
     (c.take_out.ensures.entries ∙ ap (λ (keys : List Key). filter (λ e. not (has_key keys e.key)) (entries_of c.args.list.now)) c.as_slice-taken.ensures)
     (c.any_moved.ensures.none c.if-any_moved.false (still_unmoved c.take_out.new.self)) c.requires.added
     (omega (arith, ap length c.as_slice.ensures, ap length c.as_slice-2.ensures, c.if-as_slice.false))

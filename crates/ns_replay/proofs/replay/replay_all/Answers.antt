@@ -10,13 +10,15 @@ use Rattle.ns_replay.proofs.replay.replay_all.Goals as goal
 
 pub returns-in_err-push_reply-in-Ok-clause-fault : goal.returns-in_err-push_reply-in-Ok-clause-fault
 returns-in_err-push_reply-in-Ok-clause-fault c =
-    no_memory c.args.claim.now.namespace.now c.args.claim.now.pools.now c.args.claim.now.quotas.now c.args.base.now c.args.entries.now c.from_residual.result c.from_residual.ensures.1
+    no_memory c.args.claim.now.namespace.now c.args.claim.now.pools.now c.args.claim.now.quotas.now c.args.base.now c.args.entries.now
+    c.from_residual.result c.from_residual.ensures.1
 
 pub returns-in-Err-clause-fault : goal.returns-in-Err-clause-fault
 returns-in-Err-clause-fault c =
     let log = c.args.entries.now in
     let place = c.loop-place.place in
-    fault_at c.args.claim.now.namespace.now c.args.claim.now.pools.now c.args.claim.now.quotas.now c.args.base.now log place place c.index-entries-place.result c.loop-place.whole c.loop-place.alone c.in-Err.fault
+    fault_at c.args.claim.now.namespace.now c.args.claim.now.pools.now c.args.claim.now.quotas.now c.args.base.now log place place
+    c.index-entries-place.result c.loop-place.whole c.loop-place.alone c.in-Err.fault
     (record {
       is_entry = slice_get_read log (length log) place c.index-entries-place.result refl c.loop-place-test.true c.index-entries-place.is;
       before = c.loop-place.invariant.replayed;
@@ -50,7 +52,8 @@ loop-place-preserved c =
 
 pub replay_entry-requires : goal.replay_entry-requires
 replay_entry-requires c =
-    beside c.args.claim.now.namespace.now c.args.claim.now.pools.now c.args.claim.now.quotas.now c.args.base.now (take c.loop-place.place c.args.entries.now) c.loop-place.whole c.loop-place.alone c.is_valid.ensures
+    beside c.args.claim.now.namespace.now c.args.claim.now.pools.now c.args.claim.now.quotas.now c.args.base.now
+    (take c.loop-place.place c.args.entries.now) c.loop-place.whole c.loop-place.alone c.is_valid.ensures
     c.loop-place.invariant.replayed
 
 pub returns-clause-replayed : goal.returns-clause-replayed

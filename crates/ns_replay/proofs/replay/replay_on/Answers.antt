@@ -30,6 +30,8 @@ returns-clause-replies c =
     let base = c.args.base.now in
     let log = c.args.entries.now in
     let ran = c.replay_all-replayed in
-    both ran.result (IsReplayed ns pools quotas base log ran.new.whole ran.new.alone) (λ replies. replies.items ≡ replies_of (own_entries (part_of ns pools quotas) log))
+    both ran.result (IsReplayed ns pools quotas base log ran.new.whole ran.new.alone) (λ replies. replies.items ≡
+    replies_of (own_entries (part_of ns pools quotas) log))
     (λ replies. RepliesAlone ns pools quotas base log replies.items)
-    (λ replayed replies told. replies_alone ns pools quotas base log ran.new.whole ran.new.alone replies.items replayed told) ran.ensures.replayed ran.ensures.logged
+    (λ replayed replies told. replies_alone ns pools quotas base log ran.new.whole ran.new.alone replies.items replayed told)
+    ran.ensures.replayed ran.ensures.logged

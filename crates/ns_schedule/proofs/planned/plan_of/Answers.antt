@@ -12,4 +12,5 @@ returns c =
     plan_is s (map seen c.in_ok-stopping.stopping.items) c.in_ok-stops.stops c.in_ok-placing.placing
     (c.in_ok-stopping.ensures ∙ ap (stopping s.job) c.as_slice.ensures)
     (c.in_ok-stops.ensures ∙ ap (λ (ys : List (Bor OwnAllocation)). map (λ a. a.number) (map seen ys)) c.deref.ensures.value)
-    (c.in_ok-placing.ensures ∙ ap (placing_of s s.job) c.new.ensures ∙ ap (λ (ys : List (Bor OwnAllocation)). placing_of s s.job (map seen ys)) c.deref-2.ensures.value)
+    (c.in_ok-placing.ensures ∙ ap (placing_of s s.job) c.new.ensures ∙
+    ap (λ (ys : List (Bor OwnAllocation)). placing_of s s.job (map seen ys)) c.deref-2.ensures.value)

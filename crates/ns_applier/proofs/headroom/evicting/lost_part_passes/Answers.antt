@@ -15,5 +15,6 @@ returns g c =
     let stopped = after_stops w kept.namespace c.args.plan.now.stops in
     c.any_placement_passes.ensures
     ∙ (λ i. list_any (λ (p : Placement). nat_lt p.node (length kept.nodes) && has_number committed p.node
-    && evictions_pass_at w (after_stops (c.requires.same i) kept.namespace ((c.new.ensures ∙ c.as_slice.ensures) i)) kept p.node p.evictions) (c.as_slice-2.ensures i))
+    && evictions_pass_at w (after_stops (c.requires.same i) kept.namespace ((c.new.ensures ∙ c.as_slice.ensures) i)) kept p.node
+    p.evictions) (c.as_slice-2.ensures i))
     ∙ inside_are w stopped kept committed c.args.plan.now.placing.placements c.requires.nodes.inside

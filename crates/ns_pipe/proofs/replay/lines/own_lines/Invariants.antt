@@ -5,4 +5,5 @@ use Rattle.ns_pipe.proofs.replay.lines.own_lines.Given as goal
 
 abbrev pub invariant-loop-index : goal.invariant-loop-index
 invariant-loop-index l =
-    string_bytes l.text ++ own_lines (part_of l.namespace l.pools l.quotas) (l.first + l.index) (drop l.index l.entries) ≡ own_lines (part_of l.namespace l.pools l.quotas) l.first l.entries
+    string_bytes l.text ++ own_lines (part_of l.namespace l.pools l.quotas) (l.first + l.index) (drop l.index l.entries) ≡
+    own_lines (part_of l.namespace l.pools l.quotas) l.first l.entries

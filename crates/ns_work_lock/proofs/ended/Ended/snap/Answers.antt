@@ -37,7 +37,8 @@ invariant_of-self-2-clause-counted g c = omega (
 pub returns-clause-received : goal.returns-clause-received
 returns-clause-received g c = seat_received c.seat.inside.past.receipts c.seat.inside.receipts.items c.prepare_work.new.receipts.items
     c.receive_snapped.new.receipts.items c.args.seat.now c.in_ok-entry.ready.place (next_place c.args.self.now.held)
-    c.in_ok-entry.ready.step (Step.Snap c.args.worker c.args.namespace.now) (rendered_step (snapped c.snap_as-seen.result)) (rendered_step (snapped c.snap_as-seen.result))
+    c.in_ok-entry.ready.step (Step.Snap c.args.worker c.args.namespace.now) (rendered_step (snapped c.snap_as-seen.result))
+    (rendered_step (snapped c.snap_as-seen.result))
     c.receive_snapped.ensures.receipts c.in_ok-entry.ensures.same c.seat.view_is
     (ap (λ (r : Ready). r.place) c.in_ok-entry.ensures.made) (ap (λ (r : Ready). r.step) c.in_ok-entry.ensures.made) refl
 

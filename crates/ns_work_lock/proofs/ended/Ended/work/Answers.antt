@@ -52,7 +52,8 @@ invariant_of-self-2-clause-counted g c = omega (
 pub returns-clause-received : goal.returns-clause-received
 returns-clause-received g c = seat_received c.seat.inside.past.receipts c.seat.inside.receipts.items c.prepare_work-prepared.new.receipts.items
     c.receive_answer.new.receipts.items c.args.seat.now c.in-Ok.made.1.place (next_place c.args.self.now.held)
-    c.in-Ok.made.1.step (worker_step c.args.step c.args.worker c.args.namespace.now) (rendered_step c.work_as-answer.result) (rendered_step c.work_as-answer.result)
+    c.in-Ok.made.1.step (worker_step c.args.step c.args.worker c.args.namespace.now) (rendered_step c.work_as-answer.result)
+    (rendered_step c.work_as-answer.result)
     c.receive_answer.ensures.receipts c.in-Ok.ensures.same c.seat.view_is
     (ap (λ (r : Ready). r.place) c.in-Ok.ensures.made)
     (ap (λ (r : Ready). r.step) c.in-Ok.ensures.made ∙ ap (λ (kind : Work). step_of kind c.args.worker c.args.namespace.now) c.kind.ensures) refl
@@ -60,5 +61,6 @@ returns-clause-received g c = seat_received c.seat.inside.past.receipts c.seat.i
 pub returns-clause-seat : goal.returns-clause-seat
 returns-clause-seat g c = gains (worker_step c.args.step c.args.worker c.args.namespace.now) (next_place c.args.self.now.held) c.work_as-answer.result
     c.args.seat.now (c.seat.inside.past.receipts ++ c.receive_answer.new.receipts.items)
-    (work_refused c.args.worker c.args.namespace.now c.args.self.now.held c.work_as-answer.result c.work_as-answer.new.self c.args.step c.work_as-answer.ensures)
+    (work_refused c.args.worker c.args.namespace.now c.args.self.now.held c.work_as-answer.result c.work_as-answer.new.self c.args.step
+    c.work_as-answer.ensures)
     (returns-clause-received g c)

@@ -24,7 +24,8 @@ invariant_of-self-2 c = (
 )
 
 pub returns-clause-logged : goal.returns-clause-logged
-returns-clause-logged c = call_logs (history c.self.inside.base.value c.self.inside.start c.self.inside.log.items c.self.inside.core c.self.inside.limit) c.args.self.now
+returns-clause-logged c = call_logs (history c.self.inside.base.value c.self.inside.start c.self.inside.log.items c.self.inside.core
+    c.self.inside.limit) c.args.self.now
     c.note_snapped.new.log.items (Step.Snap c.args.worker c.args.namespace.now) c.in_ok-made.made
     (snapped c.snap-seen.result) c.snap-seen.new.self (sym c.self.view_is) c.in_ok-made.ensures.begins c.snap-seen.ensures.made
     (ap (λ m. m.0) c.in_ok-made.ensures.made ∙ c.requires)

@@ -66,8 +66,10 @@ module _ {M : Type 1} {𝓤 : Ura M} (𝓛 : Logic 𝓤) (mem : Memory → SProp
         qed 𝓛 (raw (alive 𝓛 f.signature κs qs) ∷ ‵ passed ∷ []) ∵ enter ! C Λ code.function (before ∷ named_by ∷ []) _ $
         alloc_all ! (λ l. pass_all ! refl ((tt, tt), ((tt, tt), tt)) $ sets ! (agg ! (no_more !)) refl (tt, tt) $
         returns ! (look_at ! 0 refl) $ free_all ! refl $
-        suffices ! _ (ends_at 𝓛 f.ended stayed (f.clauses 𝓛 mem run) bound (vstruct vnil) (record { receipts = a.0.now.receipts ++ a.1.0.now.items }) (tt, (tt, tt)) (tt, (tt, tt))) $
-        says ! refl $ pure_i ! (past.the_row.own_val (record { receipts = a.0.now.receipts ++ a.1.0.now.items }) (vstruct vnil ∷ [])) ((λ vss. (tt, tt)), tt) ((tt, (refl, tt)), tt) $
+        suffices ! _ (ends_at 𝓛 f.ended stayed (f.clauses 𝓛 mem run) bound (vstruct vnil)
+        (record { receipts = a.0.now.receipts ++ a.1.0.now.items }) (tt, (tt, tt)) (tt, (tt, tt))) $
+        says ! refl $ pure_i ! (past.the_row.own_val (record { receipts = a.0.now.receipts ++ a.1.0.now.items }) (vstruct vnil ∷ []))
+        ((λ vss. (tt, tt)), tt) ((tt, (refl, tt)), tt) $
         move ! (1 ∷ 2 ∷ 0 ∷ []) $ done !)
 
   walks : Walks 𝓛 f.ended stayed (WpFn 𝓤 H C Λ code.function) (f.clauses 𝓛 mem run)
@@ -79,7 +81,10 @@ module _ {M : Type 1} {𝓤 : Ura M} (𝓛 : Logic 𝓤) (mem : Memory → SProp
 meets : {M : Type 1} {𝓤 : Ura M} (𝓛 : Logic 𝓤) (mem : Memory → SProp 𝓤) (run : Routine → Fun 𝓤) (𝓣 : Tables 𝓤 𝓛.H)
     → Meets 𝓛 f.signature (WpFn 𝓤 𝓛.H 𝓣.C 𝓣.Λ code.function) (f.spec 𝓛 mem run)
 meets {𝓤 = 𝓤} 𝓛 mem run 𝓣 =
-    walk_Meets 𝓛 f.ended stayed (Goes-none_ref 𝓛 2 (0 ∷ []) tt (plain (λ _. past.the_row)) yes, (Goes-none_ref 𝓛 2 (1 ∷ []) tt (plain (λ _. row)) yes, tt)) (f.clauses 𝓛 mem run) (WpFn 𝓤 𝓛.H 𝓣.C 𝓣.Λ code.function)
+    walk_Meets 𝓛 f.ended stayed (
+      Goes-none_ref 𝓛 2 (0 ∷ []) tt (plain (λ _. past.the_row)) yes,
+      (Goes-none_ref 𝓛 2 (1 ∷ []) tt (plain (λ _. row)) yes, tt),
+    ) (f.clauses 𝓛 mem run) (WpFn 𝓤 𝓛.H 𝓣.C 𝓣.Λ code.function)
     (WpFn-mono 𝓤 𝓛.H 𝓛.laws 𝓣 code.function) (walks 𝓛 mem run 𝓣.C 𝓣.Λ)
 
 pub with_spec : {M : Type 1} → stated.statement M
