@@ -11,6 +11,7 @@ mod rows;
 mod snapshots;
 mod steps;
 
+use ns_types::body::Body;
 use ns_types::text::{Text, same_text};
 
 /// Values that a program can compare as contracts do: equal if contracts see the same value. The test takes no memory.
@@ -29,6 +30,12 @@ impl Equal for u64 {
 impl Equal for bool {
     fn equal(&self, other: &bool) -> bool {
         if *self { *other } else { !*other }
+    }
+}
+
+impl Equal for Body {
+    fn equal(&self, other: &Body) -> bool {
+        self.as_str() == other.as_str()
     }
 }
 

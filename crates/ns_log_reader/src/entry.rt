@@ -9,7 +9,7 @@ ghost use Rattle.ns_log_reader.specs.Lines.{IsAsRead, answer_fits, step_fits};
 ghost use Rattle.ns_log_reader.specs.Reading.{Gives, same, status_code_in, answer_in, entry_in};
 
 use crate::fault::LineFault;
-use crate::member::{member, number, number_or_null, text};
+use crate::member::{body, member, number, number_or_null};
 use crate::step::step;
 use ns_log::{Entry, Owned};
 use ns_types::reply::Rendered;
@@ -33,7 +33,7 @@ fn answer(alloc: Global, entry: &Value) -> Result<Rendered, LineFault>
     ensures value { Gives same result (answer_in (view entry.now)) }
     ensures fits { IfOk result (λ r. IsTrue (answer_fits r)) }
 {
-    let body = text(alloc, entry, "Body")?;
+    let body = body(alloc, entry, "Body")?;
     let index = number_or_null(entry, "Index")?;
     let status = status_code(entry)?;
     Ok(Rendered {

@@ -8,6 +8,7 @@ ghost use Rattle.ns_log_reader.specs.Lines.{fits, fits_if_any};
 ghost use Rattle.ns_log_reader.specs.Reading.{Gives, same, has, member_in, text_in, name_in, number_in, flag_in, text_or_null_in, number_or_null_in};
 
 use crate::fault::LineFault;
+use ns_types::body::Body;
 use ns_types::name::{Name, NameKind};
 use ns_types::text::Text;
 use serde_json::Value;
@@ -43,6 +44,13 @@ pub fn text(alloc: Global, object: &Value, name: &str) -> Result<Text, LineFault
     ensures { Gives same result (text_in name.now (view object.now)) }
 {
     Ok(Text::from_str(alloc, word(object, name)?)?)
+}
+
+/// Reads the member as the body of an answer.
+pub fn body(alloc: Global, object: &Value, name: &str) -> Result<Body, LineFault>
+    ensures { Gives same result (text_in name.now (view object.now)) }
+{
+    Ok(Body::from_str(alloc, word(object, name)?)?)
 }
 
 /// Reads the member as a name of that kind.

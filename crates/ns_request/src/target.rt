@@ -43,7 +43,7 @@ fn part_of(alloc: Global, part: PathPart, segment: &[u8]) -> Result<Option<Text>
             if !part.is_good(text.as_str()) {
                 return Ok(None);
             }
-            Ok(Some(Text::from_string(text.into_owned(alloc)?)))
+            Ok(Some(Text::from_str(alloc, text.as_str())?))
         }
         Err(DecodeError::Utf8(_)) => Ok(None),
         Err(DecodeError::OutOfMemory) => Err(AllocError),

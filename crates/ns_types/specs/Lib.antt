@@ -1,4 +1,5 @@
 pub mod State
+pub mod Texts
 pub mod Wire
 pub mod Placing
 pub mod Access

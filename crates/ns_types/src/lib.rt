@@ -3,6 +3,7 @@
 
 pub mod acl;
 pub mod allocation;
+pub mod body;
 pub mod evaluation;
 pub mod event;
 pub mod good;

@@ -2,6 +2,7 @@
 
 use crate::acl::{Policy, TokenKind};
 use crate::allocation::Allocation;
+use crate::body::Body;
 use crate::evaluation::{Evaluation, Status};
 use crate::event::Event;
 use crate::job::Job;
@@ -172,7 +173,7 @@ impl Drop for Reply {
 pub struct Rendered {
     pub status: u16,
     pub index: Option<u64>,
-    pub body: Text,
+    pub body: Body,
 }
 
 /// The response to a request: the index and the body of a reply, whose status is 200, or a refusal, which takes no memory.

@@ -11,57 +11,77 @@ ghost use Rattle.std.specs.String.{string_bytes};
 ghost use Rattle.ns_types.specs.State.Names.{same_name};
 ghost use borrow.Author.Rules.{rules};
 
+use arrayvec::ArrayString;
 use std::alloc::{AllocError, Global};
 use std::cmp::Ordering;
 use std::hash::{Hash, Hasher};
 use std::marker::Model;
 
-/// A text of a row, compared by its bytes.
+/// How many bytes a text has at most that stands in the value itself.
+const SHORT: usize = 16;
+
+/// Where the bytes of a text stand.
+enum Letters {
+    Short(ArrayString<SHORT>),
+    Long(String),
+}
+
+impl Drop for Letters {
+    fn drop(self) {
+        match self {
+            Letters::Short(_) => {}
+            Letters::Long(text) => drop(text),
+        }
+    }
+}
+
+/// A text of a row, compared by its bytes. A short one stands in the value itself, so that a copy of it takes no memory.
 pub struct Text {
-    text: String,
+    letters: Letters,
 }
 
 impl Drop for Text {
     fn drop(self) {
-        let Text { text: _text } = self;
+        let Text { letters: _letters } = self;
     }
 }
 
 impl Model for Text {
     ghost use Rattle.std.specs.Prelude.{List, ℕ};
-    ghost use Rattle.std.specs.String.{string_bytes};
+    ghost use Rattle.ns_types.specs.Texts.{letters_bytes};
 
     ghost Value = { List ℕ };
 
-    ghost view = { λ t. string_bytes t.text };
+    ghost view = { λ t. letters_bytes t.letters };
 }
 
 impl Text {
     pub fn from_string(text: String) -> Text
         ensures { result ≡ string_bytes text }
     {
-        Text { text }
+        Text {
+            letters: Letters::Long(text),
+        }
     }
 
     /// A copy of the text. Want of memory is the only error.
     pub fn from_str(alloc: Global, text: &str) -> Result<Text, AllocError>
         ensures { IfOk result (λ t. t ≡ text.now) }
     {
-        let text = String::from_str(alloc, text)?;
-        Ok(Text { text })
-    }
-
-    pub fn into_string(self) -> String
-        ensures { string_bytes result ≡ self }
-    {
-        let Text { text } = self;
-        text
+        let letters = match ArrayString::from(text) {
+            Ok(short) => Letters::Short(short),
+            Err(_) => Letters::Long(String::from_str(alloc, text)?),
+        };
+        Ok(Text { letters })
     }
 
     pub fn as_str(&self) -> &str
         ensures { result.now ≡ self.now }
     {
-        self.text.as_str()
+        match &self.letters {
+            Letters::Short(text) => text.as_str(),
+            Letters::Long(text) => text.as_str(),
+        }
     }
 }
 
@@ -69,8 +89,11 @@ impl Clone for Text {
     ghost is_clone = { λ text copy. copy ≡ text };
 
     fn clone(&self) -> Result<Text, AllocError> {
-        let text = self.text.clone()?;
-        Ok(Text { text })
+        let letters = match &self.letters {
+            Letters::Short(text) => Letters::Short(*text),
+            Letters::Long(text) => Letters::Long(text.clone()?),
+        };
+        Ok(Text { letters })
     }
 }
 

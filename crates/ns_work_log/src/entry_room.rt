@@ -7,10 +7,10 @@ ghost use Rattle.ns_replies.specs.Rooms.{HasRoom, answer_bytes, copy_room, room_
 
 use ns_log::Owned;
 use ns_replies::answers::AnswerRoom;
+use ns_types::body::Body;
 use ns_types::refusal::Refusal;
 use ns_types::reply::{Rendered, Reply};
 use ns_types::step::Step;
-use ns_types::text::Text;
 use ns_types::worker::Worker;
 use std::alloc::{AllocError, Global};
 use std::marker::Model;
@@ -36,7 +36,7 @@ fn empty_place(alloc: Global) -> Result<Box<Rendered>, AllocError> {
     let none = Rendered {
         status: 0,
         index: None,
-        body: Text::from_string(String::new(alloc)),
+        body: Body::from_string(String::new(alloc)),
     };
     let place = Box::new(alloc, none)?;
     Ok(place)

@@ -6,16 +6,16 @@ ghost use Rattle.ns_types.specs.Wire.Responses.{rendered_of};
 ghost use Rattle.ns_json.specs.Replies.{rendered};
 
 use crate::answers::body::body_text;
+use ns_types::body::Body;
 use ns_types::refusal::Refusal;
 use ns_types::reply::{Content, Rendered, Reply, Response};
-use ns_types::text::Text;
 use std::alloc::{AllocError, Global};
 
 /// The refusal as bytes. Want of memory is the only error.
 pub fn refused(alloc: Global, refusal: Refusal) -> Result<Rendered, AllocError>
     ensures { IfOk result (λ r. r ≡ refused refusal) }
 {
-    let body = Text::from_str(alloc, refusal.text())?;
+    let body = Body::from_str(alloc, refusal.text())?;
     Ok(Rendered {
         status: refusal.status(),
         index: None,
@@ -30,7 +30,7 @@ pub(crate) fn done(index: Option<u64>, body: String) -> Rendered
     Rendered {
         status: 200,
         index,
-        body: Text::from_string(body),
+        body: Body::from_string(body),
     }
 }
 

@@ -9,10 +9,10 @@ use crate::answers::body::body_text;
 use crate::answers::rendering::done;
 use crate::answers::sizes::step_bytes;
 use crate::shown::text_of;
+use ns_types::body::Body;
 use ns_types::refusal::Refusal;
 use ns_types::reply::{Content, Rendered, Reply};
 use ns_types::step::{AdminCommand, Step};
-use ns_types::text::Text;
 use ns_types::worker::Worker;
 use std::alloc::{AllocError, Global};
 use std::marker::Model;
@@ -124,7 +124,7 @@ impl AnswerRoom {
         Rendered {
             status: refusal.status(),
             index: None,
-            body: Text::from_string(text),
+            body: Body::from_string(text),
         }
     }
 
@@ -140,7 +140,7 @@ impl AnswerRoom {
         Rendered {
             status: shown.status,
             index: shown.index,
-            body: Text::from_string(text),
+            body: Body::from_string(text),
         }
     }
 }

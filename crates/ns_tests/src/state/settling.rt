@@ -5,6 +5,7 @@ use crate::state::owned::push;
 use crate::state::steps::{job_is_registered, pool_is_put};
 use ns_log::Owned;
 use ns_log::receipts::{Receipt, SettleFault, settle};
+use ns_types::body::Body;
 use ns_types::reply::Rendered;
 use ns_types::shared::Shared;
 use ns_types::step::Step;
@@ -21,7 +22,7 @@ fn rendered(rt: &impl Abort, alloc: Global, index: Option<u64>, body: &str) -> R
     Rendered {
         status: 200,
         index,
-        body: text(rt, alloc, body),
+        body: Body::from_str(alloc, body).expect(rt, "memory"),
     }
 }
 

@@ -9,10 +9,10 @@ returns-then-not-is_good c =
     no_part c.args.part c.args.segment.now c.as_str.result.now (sym c.is_good.ensures ∙ c.if-not-is_good.true)
     (c.as_str.ensures.value ∙ c.in-Ok.ensures.value ∙ decoded) (subst IsUtf8 decoded c.in-Ok.ensures.ok_only_if_utf8)
 
-pub returns-in_ok-into_owned-in-Ok : goal.returns-in_ok-into_owned-in-Ok
-returns-in_ok-into_owned-in-Ok c =
+pub returns-in_ok-from_str-in-Ok : goal.returns-in_ok-from_str-in-Ok
+returns-in_ok-from_str-in-Ok c =
     let decoded = c.percent_decode.ensures.bytes in
-    ap (λ x. let o : Option (List ℕ) = Some x in o) (c.from_string.ensures ∙ c.in_ok-into_owned-in-Ok.ensures.ok ∙ sym c.as_str.ensures.value)
+    ap (λ x. let o : Option (List ℕ) = Some x in o) (c.in_ok-from_str-in-Ok.ensures ∙ c.as_str-in-Ok.ensures.value ∙ sym c.as_str.ensures.value)
     ∙ good_part c.args.part c.args.segment.now c.as_str.result.now (sym c.is_good.ensures ∙ c.if-not-is_good.false)
     (c.as_str.ensures.value ∙ c.in-Ok.ensures.value ∙ decoded) (subst IsUtf8 decoded c.in-Ok.ensures.ok_only_if_utf8)
 
