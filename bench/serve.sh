@@ -2,18 +2,20 @@
 # How many reads of a job `nsd serve` answers in a second, each of them an entry of its log, and beside it how many times nginx
 # answers a body of the same length that it has in memory.
 #
-#     bench/serve.sh [PROGRAM [SECONDS]]
+#     bench/serve.sh [PROGRAM [SECONDS [WORDS..]]]
 #
-# PROGRAM is the built program: crates/nsd/out/nsd if none is given. wrk sends requests to both over 4 connections that stay
-# open, on this machine, in turn, three times for SECONDS each (5 if none are given). Both have 4 threads for connections: nginx
-# 4 processes of one thread. It prints last the median of each, the quotient of the two, and by how much each read made the
-# memory of `nsd serve` grow. Each read is an entry of the log, of some 1.5 KB: 15 seconds at 100,000 a second take 2 to 3 GB.
-# So the log's limit has to be more than the requests of all three turns, or reads are answered 503 and nothing is measured.
-# 10,000,000 entries would take 15 GB. Packages of Debian: wrk, nginx-light, curl.
+# PROGRAM is the built program: crates/nsd/out/nsd if none is given. WORDS are given to `nsd serve` as well: with
+# `--rotate 100000` its log is given out, as it is where a server runs for long. wrk sends requests to both over 4 connections that
+# stay open, on this machine, in turn, three times for SECONDS each (5 if none are given). Both have 4 threads for connections:
+# nginx 4 processes of one thread. It prints last the median of each, the quotient of the two, and by how much each read made the
+# memory of `nsd serve` grow. Each read is an entry of the log, of some 700 bytes: 15 seconds at 100,000 a second take 1 GB. So the
+# log's limit has to be more than the requests of all three turns, or reads are answered 503 and nothing is measured. 10,000,000
+# entries would take 7 GB. Packages of Debian: wrk, nginx-light, curl.
 set -eu
 root=$(CDPATH='' cd -- "$(dirname -- "$0")/.." && pwd)
 program=${1:-$root/crates/nsd/out/nsd}
 seconds=${2:-5}
+if [ $# -gt 2 ]; then shift 2; else set --; fi
 limit=10000000
 body='{"Constraints":[],"CreateIndex":1,"ID":"web","JobModifyIndex":1,"Namespace":"default","NodePool":"default","Priority":50,"Status":"pending","Stop":false,"TaskGroups":[{"Count":1,"EphemeralDisk":{"SizeMB":300},"Name":"g","Tasks":[{"Name":"t","Resources":{"CPU":100,"MemoryMB":300}}]}],"Type":"service","Version":0}'
 folder=$(mktemp -d)
@@ -40,7 +42,7 @@ pause() {
 # Starts `nsd serve` at the address that it then says, registers the job and reads it.
 start_server() {
     : > "$folder/errors"
-    "$program" serve --listen 127.0.0.1:0 --bootstrap root --connections 4 --log-limit $limit 2>> "$folder/errors" > "$folder/log" &
+    "$program" serve --listen 127.0.0.1:0 --bootstrap root --connections 4 --log-limit $limit "$@" 2>> "$folder/errors" > "$folder/log" &
     server=$!
     tries=0
     until address=$(sed -n 's/^listening //p' "$folder/errors") && [ -n "$address" ]; do
@@ -97,7 +99,7 @@ memory() { awk '$1 == "VmRSS:" { printf "%d\n", $2 * 1024 }' "/proc/$server/stat
 median() { sort -n "$1" | sed -n 2p | cut -d ' ' -f 1; }
 
 echo "processors $(getconf _NPROCESSORS_ONLN), load before $(cut -d ' ' -f 1-3 /proc/loadavg)"
-start_server
+start_server "$@"
 if command -v nginx > "$folder/which"; then start_nginx; fi
 before=$(memory)
 for _ in 1 2 3; do
