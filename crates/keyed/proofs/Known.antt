@@ -1,5 +1,5 @@
 -- What is known of the keys of slots, as the slots change, and where a key stands by it.
-use Rattle.std.specs.Prelude.{◌≡◌, ℕ, zero, suc, ◌+◌, ◌<◌, ◌≤◌, Bool, false, cond, nat_lt, not, T, List, [], ◌∷◌}
+use Rattle.std.specs.Prelude.{◌≡◌, ℕ, zero, suc, ◌+◌, ◌<◌, ◌≤◌, Bool, false, cond, nat_lt, not, T, List, [], ◌∷◌, ◌++◌}
 use Rattle.std.specs.Prelude.{length, is_some, Option, Some, None, IfSome, refl}
 use Rattle.std.proofs.Common.{ap, sym, ◌∙◌, arith, get_or, set}
 use Rattle.std.proofs.lemmas.List.Quantifiers.{position-Some}
@@ -13,7 +13,9 @@ use Rattle.std.specs.Ordering.{is_eq}
 use Rattle.std.specs.Cmp.{IsTotalOrder}
 use Rattle.std.specs.FinMap.Entries.{find, is_sorted}
 use Rattle.keyed.specs.Slots.{Found, Inserts, Knows, Lacks}
+use Rattle.indexmap.specs.IndexMap.{move_index}
 use Rattle.indexmap.proofs.MapLemmas.{Missing-position}
+use Rattle.indexmap.proofs.MoveLemmas.{push_moved}
 use Rattle.keyed.proofs.Ordered.{kept}
 use Rattle.keyed.proofs.Places.{stands}
 use Rattle.ns_types.proofs.Tables.{equal_by}
@@ -31,6 +33,16 @@ module _ {K X : Type 0} where
   keys_of-set [] i e x l is = absurd (omega arith)
   keys_of-set (f ∷ fs) zero e x l is = ap (λ y. y.0 ∷ keys_of fs) is
   keys_of-set (f ∷ fs) (suc i) e x l is = ap (λ ks. f.0 ∷ ks) (keys_of-set fs i e x (omega arith) is)
+
+  keys_of-insert : (es : List (K × X)) (i : ℕ) (e : K × X) → keys_of (insert es i e) ≡ insert (keys_of es) i e.0
+  keys_of-insert [] zero e = refl
+  keys_of-insert [] (suc i) e = refl
+  keys_of-insert (f ∷ fs) zero e = refl
+  keys_of-insert (f ∷ fs) (suc i) e = ap (λ ks. f.0 ∷ ks) (keys_of-insert fs i e)
+
+  -- an entry that was put last, and then moved to its place
+  pub keys_of-moved : (es : List (K × X)) (i : ℕ) (e : K × X) → i ≤ length es → keys_of (move_index (es ++ e ∷ []) (length es) i) ≡ insert (keys_of es) i e.0
+  keys_of-moved es i e l = ap keys_of (push_moved es e i l) ∙ keys_of-insert es i e
 
   pub keys_of-remove : (es : List (K × X)) (i : ℕ) → keys_of (remove es i) ≡ remove (keys_of es) i
   keys_of-remove [] zero = refl

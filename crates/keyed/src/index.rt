@@ -1,12 +1,12 @@
 //! An index of many keys: the place of each.
-ghost use Rattle.std.specs.Prelude.{◌≡◌, None, IfSome, is_some};
+ghost use Rattle.std.specs.Prelude.{◌≡◌, ◌++◌, ◌∷◌, [], None, IfSome, is_some};
 ghost use Rattle.std.specs.Bool.{OnTrue};
 ghost use Rattle.std.specs.List.{insert, position, remove};
 ghost use Rattle.std.specs.Map.{keys_of};
 ghost use Rattle.std.specs.Option.{option_map};
 ghost use Rattle.keyed.specs.Slots.{Inserts, Knows};
 
-use indexmap::IndexSet;
+use indexmap::IndexMap;
 use std::alloc::Global;
 use std::hash::Hash;
 use std::marker::Model;
@@ -24,38 +24,55 @@ pub(crate) trait IndexKey {
 /// far as there is memory for it.
 #[derive(Drop)]
 pub(crate) struct KeyIndex<K: Eq + Hash> {
-    keys: Option<Box<IndexSet<K>>>,
+    /// A map without values, since a library that names an `IndexSet` repeats the statements of both.
+    keys: Option<Box<IndexMap<K, ()>>>,
 }
 
 impl<K: Eq + Hash> Model for KeyIndex<K> {
+    ghost use Rattle.std.specs.Map.{keys_of};
     ghost use Rattle.std.specs.Prelude.{List, Option};
     ghost use Rattle.std.specs.Option.{option_map};
 
     ghost Value = { Option (List K) };
 
-    ghost view = { λ index. option_map (λ keys. keys.value.keys) index.keys };
+    ghost view = { λ index. option_map (λ keys. keys_of keys.value.entries) index.keys };
+}
+
+/// Adds a key that is not there yet, and returns whether it did.
+fn add_key<K: Eq + Hash + Drop>(keys: &mut IndexMap<K, ()>, key: K) -> bool
+    ensures { OnTrue result (keys.new.entries ≡ keys.old.entries ++ (key, tt) ∷ []) }
+{
+    let Ok(None) = keys.insert(key, ()) else {
+        return false;
+    };
+    true
 }
 
 /// The keys of the slots. None if they can't be copied.
 fn copied_keys<K: Eq + Hash + IndexKey + Drop, X>(
     alloc: Global,
     slots: &[(K, X)],
-) -> Option<IndexSet<K>>
-    ensures { IfSome result (λ keys. keys.keys ≡ keys_of slots.now) }
+) -> Option<IndexMap<K, ()>>
+    ensures { IfSome result (λ keys. keys_of keys.entries ≡ keys_of slots.now) }
 {
-    let mut keys = IndexSet::new(alloc);
+    let mut keys = IndexMap::new(alloc);
     for slot in slots {
         let key = slot.0.index_copy()?;
-        let Ok(true) = keys.insert(key) else {
+        if !add_key(&mut keys, key) {
             return None;
-        };
+        }
     }
     Some(keys)
 }
 
 /// Puts a copy of the key at a place, and returns whether it did.
-fn put_key<K: Eq + Hash + IndexKey + Drop>(keys: &mut IndexSet<K>, place: usize, key: &K) -> bool
-    ensures { OnTrue result (keys.new.keys ≡ insert keys.old.keys place key.now) }
+fn put_key<K: Eq + Hash + IndexKey + Drop>(
+    keys: &mut IndexMap<K, ()>,
+    place: usize,
+    key: &K,
+) -> bool
+    ensures { OnTrue result
+        (keys_of keys.new.entries ≡ insert (keys_of keys.old.entries) place key.now) }
 {
     let last = keys.len();
     if place > last {
@@ -64,17 +81,24 @@ fn put_key<K: Eq + Hash + IndexKey + Drop>(keys: &mut IndexSet<K>, place: usize,
     let Some(copy) = key.index_copy() else {
         return false;
     };
-    let Ok(true) = keys.insert(copy) else {
+    if !add_key(keys, copy) {
         return false;
-    };
+    }
     keys.move_index(last, place);
     true
 }
 
+/// Removes the key at a place.
+fn remove_at<K: Eq + Hash + Drop>(keys: &mut IndexMap<K, ()>, place: usize)
+    ensures { keys_of keys.new.entries ≡ remove (keys_of keys.old.entries) place }
+{
+    drop(keys.shift_remove_index(place));
+}
+
 /// The place of the key among these. It is a function of its own, so that a look-up without an index stays short.
 #[inline(never)]
-fn place_of<K: Eq + Hash>(keys: &IndexSet<K>, key: &K) -> Option<usize>
-    ensures { result ≡ position (K.eq key.now) keys.now.keys }
+fn place_of<K: Eq + Hash>(keys: &IndexMap<K, ()>, key: &K) -> Option<usize>
+    ensures { result ≡ position (K.eq key.now) (keys_of keys.now.entries) }
 {
     keys.get_index_of(key)
 }
@@ -133,7 +157,7 @@ impl<K: Eq + Hash + IndexKey + Drop> KeyIndex<K> {
         ensures { self.new ≡ option_map (λ keys. remove keys place) self.old }
     {
         if let Some(keys) = &mut self.keys {
-            drop(keys.shift_remove_index(place));
+            remove_at(keys, place);
         }
     }
 }

@@ -1,19 +1,14 @@
-use Rattle.std.proofs.Common.{◌≡◌, ◌∙◌, ◌≤◌, ◌++◌, ◌∷◌, [], Bool, true, false, cond, not, length, refl, ap, sym, arith}
+use Rattle.std.proofs.Common.{◌∙◌, ◌≤◌, ◌++◌, ◌∷◌, [], length, ap, arith}
 use Rattle.std.specs.List.{insert}
-use Rattle.indexmap.specs.IndexSet.{move_index}
-use Rattle.indexmap.proofs.MoveLemmas.{push_moved}
+use Rattle.std.specs.Map.{keys_of}
+use Rattle.indexmap.specs.IndexMap.{move_index}
+use Rattle.keyed.proofs.Known.{keys_of-moved}
 use Rattle.keyed.proofs.index.put_key.Goals as goal
-
-is_false : (b : Bool) → true ≡ not b → b ≡ false
-is_false true e = cc
-is_false false e = refl
 
 pub returns : goal.returns
 returns g c =
-    let keys = c.args.keys.now.keys in
-    let within : c.args.place ≤ length keys = omega arith in
-    let fresh = is_false _ (sym c.in-Ok-true.field-0-test ∙ c.in-Ok-true.ensures.added) in
-    let pushed = c.in-Ok-true.ensures.keys ∙ ap (λ b. cond b keys (keys ++ c.in-Some.copy ∷ [])) fresh in
-    c.move_index.ensures.keys ∙ ap (λ ks. move_index ks c.len-last.result c.args.place) pushed ∙
-    ap (λ n. move_index (keys ++ c.in-Some.copy ∷ []) n c.args.place) c.len-last.ensures.len ∙ push_moved keys c.in-Some.copy c.args.place within ∙
-    ap (λ k. insert keys c.args.place k) c.in-Some.ensures
+    let es = c.args.keys.now.entries in
+    let within : c.args.place ≤ length es = omega arith in
+    ap keys_of c.move_index.ensures.entries ∙ ap (λ xs. keys_of (move_index xs c.len-last.result c.args.place)) c.if-not-add_key.ensures ∙
+    ap (λ n. keys_of (move_index (es ++ (c.in-Some.copy, tt) ∷ []) n c.args.place)) c.len-last.ensures.len ∙
+    keys_of-moved es c.args.place (c.in-Some.copy, tt) within ∙ ap (λ k. insert (keys_of es) c.args.place k) c.in-Some.ensures
