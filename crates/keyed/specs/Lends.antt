@@ -8,6 +8,7 @@ use Rattle.std.specs.FinMap.Entries.{put}
 use Rattle.ns_types.specs.State.Names.{Name, ByName, ByNumber}
 use Rattle.keyed.specs.contracts.names.NameTable
 use Rattle.keyed.specs.contracts.numbers.NumberTable
+use Rattle.keyed.specs.contracts.owner_table.OwnerTable
 use Rattle.keyed.specs.contracts.slots.Slots
 
 module _ (V : RattleType) where
@@ -17,6 +18,11 @@ module _ (V : RattleType) where
   abbrev pub lends_at_number : MutBor (ByNumber (Option V.Denot)) → ℕ → Option (MutBor V.Denot) → Fml
   lends_at_number table key row =
       LendsIf (NumberTable.the_row V) V table row (λ w. insert table.now key (Some w)) table.now
+
+module _ (V : RattleType) (at_bound : V.Denot → Bool) where
+  abbrev pub lends_owner : MutBor (ByName (Option V.Denot)) → Name → Option (MutBor V.Denot) → Fml
+  lends_owner table key row = LendsIf (OwnerTable.the_row V (record { at_bound = at_bound })) V
+      table row (λ w. insert table.now key (Some w)) table.now
 
 -- the order of keys, as a bound on their type gives it
 abbrev pub Order : Type 0 → Type 0

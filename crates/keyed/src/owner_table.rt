@@ -3,7 +3,8 @@
 ghost use Rattle.std.specs.Prelude.{◌≡◌, Bool, IsTrue, OnErr, OnOk, false, option_copied};
 ghost use Rattle.std.specs.List.{list_any};
 ghost use Rattle.std.specs.FinMap.{empty, entries, insert, remove};
-ghost use Rattle.keyed.specs.Owned.{NoneAtBound};
+ghost use Rattle.std.specs.Option.{option_map_or};
+ghost use Rattle.keyed.specs.Owned.{NoneAtBound, NoneElsewhereAtBound};
 ghost use Rattle.keyed.specs.Table.{at_slot, emptied, has_slot, row_at, with_slot};
 
 use crate::names::{NameSlot, NameTable};
@@ -21,8 +22,7 @@ pub trait Bounded {
         ensures { result ≡ at_bound self.now };
 }
 
-/// A table by name of rows with a counter. It remembers whether it was ever given a row whose counter is at its bound, so it
-/// lends out no row to be changed in place.
+/// A table by name of rows with a counter. It remembers whether it ever had a row whose counter is at its bound.
 pub struct OwnerTable<V: Bounded> {
     table: NameTable<V>,
     /// Once true it stays true, even if the row goes: an owner whose counter is at its bound can do next to nothing any more.
@@ -70,7 +70,21 @@ fn any_at_bound<V: Bounded>(slots: &[NameSlot<V>]) -> bool
     slots.iter().any(|slot| is_slot_at_bound(slot))
 }
 
+/// Whether there is a row at `key`, and it is at its bound.
+fn is_row_at_bound<V: Bounded + Drop>(table: &NameTable<V>, key: &Text) -> bool
+    ensures { result ≡ option_map_or V.at_bound (row_at table.now key.now) false }
+{
+    match table.get(key) {
+        Some(row) => row.is_at_bound(),
+        None => false,
+    }
+}
+
 impl<V: Bounded + Drop> OwnerTable<V> {
+    ghost use Rattle.std.specs.Borrow.{sem};
+    ghost use Rattle.std.specs.Option.{option_copied_mut};
+    ghost use Rattle.keyed.specs.Lends.{lends_owner};
+
     /// No slots. It takes no memory.
     pub fn new(alloc: Global) -> OwnerTable<V>
         ensures { result ≡ empty }
@@ -118,6 +132,23 @@ impl<V: Bounded + Drop> OwnerTable<V> {
         ensures { option_copied result ≡ row_at self.now key.now }
     {
         self.table.get(key)
+    }
+
+    /// The row at `key`, to be changed in place. From then on a row may be at its bound, until `note` is called.
+    pub fn get_mut(&mut self, key: &Text) -> Option<&mut V>
+        ensures* writes_back { sem 𝓛 (lends_owner V.row V.at_bound self.entry key.now result) }
+        ensures value { option_copied_mut result ≡ row_at self.old key.now }
+    {
+        self.ever_at_bound = true;
+        self.table.get_mut(key)
+    }
+
+    /// Notes that only the row at `key` was changed in place since `may_be_at_bound` returned `before`.
+    pub fn note(&mut self, key: &Text, before: bool)
+        requires { before ≡ false → NoneElsewhereAtBound V.at_bound key.now self.old }
+        ensures { self.new ≡ self.old }
+    {
+        self.ever_at_bound = before | is_row_at_bound(&self.table, key);
     }
 
     /// Makes a slot for a row at `key`, unless there is one: only then is the key copied. Want of memory is the only error.

@@ -58,11 +58,13 @@ fn reserve_one<OwnerChange: Drop, Row: Owner<OwnerChange> + Bounded>(
     ensures rows { ChangesRow (λ a b. Row.seen b ≡ Row.seen a) name.now table.old table.new }
     ensures room { OnOk result (IfSome (row_at table.new name.now) (Row.HasRoom change.now)) }
 {
-    let Some(mut row) = table.take(name) else {
+    let before = table.may_be_at_bound();
+    let Some(row) = table.get_mut(name) else {
+        table.note(name, before);
         return Ok(());
     };
     let reserved = row.reserve(change);
-    table.set(name, row);
+    table.note(name, before);
     reserved
 }
 
@@ -92,10 +94,13 @@ fn clear_one<OwnerChange: Drop, Row: Owner<OwnerChange> + Bounded>(
     ensures rows { ChangesRow (λ a b. Row.seen b ≡ Row.seen a) name.now table.old table.new }
     ensures cleared { IfSome (row_at table.new name.now) (Row.IsCleared change.now) }
 {
-    if let Some(mut row) = table.take(name) {
-        row.clear(change);
-        table.set(name, row);
-    }
+    let before = table.may_be_at_bound();
+    let Some(row) = table.get_mut(name) else {
+        table.note(name, before);
+        return;
+    };
+    row.clear(change);
+    table.note(name, before);
 }
 
 /// Takes the vacant slots of all changed rows out again.
@@ -123,13 +128,14 @@ fn commit_one<OwnerChange: Drop, Row: Owner<OwnerChange> + Bounded>(
     ensures { ChangesRow (λ a b. Row.seen b ≡ Row.changed (Row.seen a) change)
         name.now table.old table.new }
 {
-    match table.take(name) {
-        Some(mut row) => {
-            row.commit(change);
-            table.set(name, row);
-        }
-        None => drop(change),
-    }
+    let before = table.may_be_at_bound();
+    let Some(row) = table.get_mut(name) else {
+        table.note(name, before);
+        drop(change);
+        return;
+    };
+    row.commit(change);
+    table.note(name, before);
 }
 
 /// Moves the changes of all owners into them. It takes no memory.
