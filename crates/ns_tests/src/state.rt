@@ -2,6 +2,7 @@
 
 mod apart;
 mod blocked;
+mod bounds;
 mod by_key;
 mod choosing;
 mod counting;
