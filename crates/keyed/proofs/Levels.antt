@@ -73,6 +73,10 @@ none_there (Some x) e = not_true (sym e)
 pub no_number : (m : ByNumber (Option Unit)) → m ≡ empty → (n : ℕ) → holds_number m n ≡ false
 no_number m e n = ap (λ m. is_some (row_at m n)) e ∙ ap (λ r. is_some (flat r)) (get-empty nat_cmp n)
 
+-- a number that has room is not there yet
+pub no_number_yet : (m new : ByNumber (Option Unit)) (n : ℕ) → m ≡ empty → new ≡ with_slot m n → (k : ℕ) → holds_number new k ≡ false
+no_number_yet m new n e slot k = ap is_some (ap (λ m. row_at m k) slot ∙ row-with_slot numbers one_number m n k) ∙ no_number m e k
+
 pub no_number_room : (m : ByNumber (Option Unit)) → m ≡ empty → (n : ℕ) → has_slot m n ≡ false
 no_number_room m e n = ap (λ m. has_slot m n) e ∙ ap is_some (get-empty nat_cmp n)
 
@@ -173,6 +177,11 @@ module _ {K : Type 0} {R : K → K → Ordering} (o : IsTotalOrder R) (one : IsA
       room = λ q h. subst IsTrue (sym (slot_made_in table has_room old made k e q)) h;
     }
 
+    -- a set that is put has its room
+    pub room_put_in : (old new : S) (k : K) (set : I) → table new ≡ insert (table old) k (Some set) → (a : A) → IsTrue (has_room set a) →
+        IsTrue (room_at new (k, a))
+    room_put_in old new k set e a h = subst IsTrue (sym (put_here table has_room old new k set e (k, a) (ap is_eq (tied_itself o k)))) h
+
     module _ (old new : S) (k : K) (before after : I) (is : row_at (table old) k ≡ Some before) where
       module _ (e : table new ≡ insert (table old) k (Some after)) where
         pub keeps_in : Keeps holds has_room before after → Keeps held_at room_at old new
@@ -188,7 +197,7 @@ module _ {K : Type 0} {R : K → K → Ordering} (o : IsTotalOrder R) (one : IsA
             room q h false t = subst IsTrue (sym (put_apart table has_room old new k after e q t)) h
 
         pub room_in : (a : A) → IsTrue (has_room after a) → IsTrue (room_at new (k, a))
-        room_in a h = subst IsTrue (sym (put_here table has_room old new k after e (k, a) (ap is_eq (tied_itself o k)))) h
+        room_in = room_put_in old new k after e
 
         module _ (same : A → A → Bool) (a : A) where
           pub adds_in : Adds holds has_room same a before after → Adds held_at room_at (same_by R same) (k, a) old new
@@ -278,6 +287,10 @@ module _ {S I A : Type 0} (table : S → ByName (Option I)) (holds has_room : I 
   pub begun : (old made new : S) (k : Name) (set : I) → table made ≡ with_slot (table old) k → row_at (table made) k ≡ None →
       ((key : A) → holds set key ≡ false) → table new ≡ insert (table made) k (Some set) → Keeps named_held named_room old new
   begun = begun_in names one_name table holds has_room
+
+  pub room_put : (old new : S) (k : Name) (set : I) → table new ≡ insert (table old) k (Some set) → (a : A) → IsTrue (has_room set a) →
+      IsTrue (named_room new (k, a))
+  room_put = room_put_in names one_name table holds has_room
 
   pub only_slot : (old made : S) (k : Name) → table made ≡ with_slot (table old) k → Keeps named_held named_room old made
   only_slot = only_slot_in names one_name table holds has_room

@@ -1,6 +1,6 @@
 //! Sets of keys.
 
-ghost use Rattle.std.specs.Prelude.{◌≡◌, IsTrue, OnOk, is_some, option_copied};
+ghost use Rattle.std.specs.Prelude.{◌≡◌, IsTrue, None, OnOk, option_copied};
 ghost use Rattle.std.specs.FinMap.{empty, entries};
 ghost use Rattle.keyed.specs.Levels.{Adds, Drops, Keeps, holds_key, has_key_room};
 ghost use Rattle.keyed.specs.Table.{row_at};
@@ -63,28 +63,29 @@ impl KeySet {
         }
     }
 
-    /// Makes a table for the name, unless there is one. Want of memory is the only error.
-    fn open(&mut self, alloc: Global, name: &Text) -> Result<(), AllocError>
+    /// Makes a table for the name, which has none, with room for the number. Want of memory is the only error.
+    fn open(&mut self, alloc: Global, name: &Text, number: u64) -> Result<(), AllocError>
+        requires { row_at self.old.numbers name.now ≡ None }
         ensures same { Keeps holds_key has_key_room self.old self.new }
-        ensures ok { OnOk result (IsTrue (is_some (row_at self.new.numbers name.now))) }
+        ensures ok { OnOk result (IsTrue (has_key_room self.new (name.now, number))) }
     {
-        if self.numbers.get(name).is_none() {
-            self.numbers.reserve(name)?;
-            self.numbers.set(name, NumberTable::new(alloc));
-        }
+        let mut numbers = NumberTable::new(alloc);
+        numbers.reserve(number)?;
+        self.numbers.reserve(name)?;
+        self.numbers.set(name, numbers);
         Ok(())
     }
 
-    /// Makes room for the key. Want of memory is the only error.
+    /// Makes room for the key. Want of memory is the only error. A name that has keys is looked up once.
     pub fn reserve(&mut self, alloc: Global, name: &Text, number: u64) -> Result<(), AllocError>
         ensures same { Keeps holds_key has_key_room self.old self.new }
         ensures ok { OnOk result (IsTrue (has_key_room self.new (name.now, number))) }
     {
-        self.open(alloc, name)?;
         if let Some(numbers) = self.numbers.get_mut(name) {
             numbers.reserve(number)?;
+            return Ok(());
         }
-        Ok(())
+        self.open(alloc, name, number)
     }
 
     /// Adds the key. It takes no memory.

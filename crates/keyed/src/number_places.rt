@@ -1,6 +1,6 @@
 //! Sets of numbers with places.
 
-ghost use Rattle.std.specs.Prelude.{◌≡◌, IsTrue, OnOk, is_some, option_copied};
+ghost use Rattle.std.specs.Prelude.{◌≡◌, IsTrue, None, OnOk, option_copied};
 ghost use Rattle.std.specs.FinMap.{empty, entries};
 ghost use Rattle.keyed.specs.Levels.{Adds, Drops, Keeps};
 ghost use Rattle.keyed.specs.Levels.{has_numbered_room, holds_numbered, same_numbered};
@@ -46,19 +46,20 @@ impl NumberPlaces {
         self.numbers.get(number)
     }
 
-    /// Makes a table for the number, unless there is one. Want of memory is the only error.
-    fn open(&mut self, alloc: Global, number: u64) -> Result<(), AllocError>
+    /// Makes a table for the number, which has none, with room for the place. Want of memory is the only error.
+    fn open(&mut self, alloc: Global, number: u64, place: u64) -> Result<(), AllocError>
+        requires { row_at self.old.numbers number ≡ None }
         ensures same { Keeps holds_numbered has_numbered_room self.old self.new }
-        ensures ok { OnOk result (IsTrue (is_some (row_at self.new.numbers number))) }
+        ensures ok { OnOk result (IsTrue (has_numbered_room self.new (number, place))) }
     {
-        if self.numbers.get(number).is_none() {
-            self.numbers.reserve(number)?;
-            self.numbers.set(number, NumberTable::new(alloc));
-        }
+        let mut places = NumberTable::new(alloc);
+        places.reserve(place)?;
+        self.numbers.reserve(number)?;
+        self.numbers.set(number, places);
         Ok(())
     }
 
-    /// Makes room for the place of the number. Want of memory is the only error.
+    /// Makes room for the place of the number. Want of memory is the only error. A number that has places is looked up once.
     pub(crate) fn reserve(
         &mut self,
         alloc: Global,
@@ -68,11 +69,11 @@ impl NumberPlaces {
         ensures same { Keeps holds_numbered has_numbered_room self.old self.new }
         ensures ok { OnOk result (IsTrue (has_numbered_room self.new (number, place))) }
     {
-        self.open(alloc, number)?;
         if let Some(places) = self.numbers.get_mut(number) {
             places.reserve(place)?;
+            return Ok(());
         }
-        Ok(())
+        self.open(alloc, number, place)
     }
 
     /// Adds the place of the number. It takes no memory.

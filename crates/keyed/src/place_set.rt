@@ -1,6 +1,6 @@
 //! Sets of keys with places.
 
-ghost use Rattle.std.specs.Prelude.{◌≡◌, ℕ, false, IsTrue, OnOk, is_some};
+ghost use Rattle.std.specs.Prelude.{◌≡◌, ℕ, false, IsTrue, None, OnOk};
 ghost use Rattle.std.specs.FinMap.{empty};
 ghost use Rattle.keyed.specs.Levels.{Adds, Drops, Keeps};
 ghost use Rattle.keyed.specs.Levels.{has_place_room, holds_place, same_place};
@@ -49,19 +49,27 @@ impl PlaceSet {
         }
     }
 
-    /// Makes a set for the name, unless there is one. Want of memory is the only error.
-    fn open(&mut self, alloc: Global, name: &Text) -> Result<(), AllocError>
+    /// Makes a set for the name, which has none, with room for the place of the number. Want of memory is the only error.
+    fn open(
+        &mut self,
+        alloc: Global,
+        name: &Text,
+        number: u64,
+        place: u64,
+    ) -> Result<(), AllocError>
+        requires { row_at self.old.names name.now ≡ None }
         ensures same { Keeps holds_place has_place_room self.old self.new }
-        ensures ok { OnOk result (IsTrue (is_some (row_at self.new.names name.now))) }
+        ensures ok { OnOk result (
+            IsTrue (has_place_room self.new (name.now, (number, place)))) }
     {
-        if self.names.get(name).is_none() {
-            self.names.reserve(name)?;
-            self.names.set(name, NumberPlaces::new(alloc));
-        }
+        let mut numbers = NumberPlaces::new(alloc);
+        numbers.reserve(alloc, number, place)?;
+        self.names.reserve(name)?;
+        self.names.set(name, numbers);
         Ok(())
     }
 
-    /// Makes room for the place of the key. Want of memory is the only error.
+    /// Makes room for the place of the key. Want of memory is the only error. A name that has keys is looked up once.
     pub(crate) fn reserve(
         &mut self,
         alloc: Global,
@@ -73,11 +81,11 @@ impl PlaceSet {
         ensures ok { OnOk result (
             IsTrue (has_place_room self.new (name.now, (number, place)))) }
     {
-        self.open(alloc, name)?;
         if let Some(numbers) = self.names.get_mut(name) {
             numbers.reserve(alloc, number, place)?;
+            return Ok(());
         }
-        Ok(())
+        self.open(alloc, name, number, place)
     }
 
     /// Adds the place of the key. It takes no memory.

@@ -3,24 +3,24 @@ use Rattle.std.specs.Option.{option_copied_mut}
 use Rattle.keyed.specs.Table.{has_slot}
 use Rattle.keyed.proofs.Tables.{slot_made}
 use Rattle.ns_types.proofs.Named.{numbers}
-use Rattle.keyed.specs.Levels.{has_key_room, holds_key, holds_number}
+use Rattle.keyed.specs.Levels.{holds_number}
 use Rattle.keyed.specs.declared.key_set.KeySet.{KeySet}
-use Rattle.keyed.proofs.Levels.{keeps_at, keeps_same, keeps_then, number_room, room_here}
+use Rattle.keyed.proofs.Levels.{keeps_at, keeps_same, number_room, room_here}
 use Rattle.keyed.proofs.key_set.KeySet.reserve.Goals as goal
 
+pub open-requires : goal.open-requires
+open-requires c = sym c.get_mut.ensures.value ∙ ap option_copied_mut c.in_default.is
+
 pub returns-in_err-reserve-clause-same : goal.returns-in_err-reserve-clause-same
-returns-in_err-reserve-clause-same c = keeps_then holds_key has_key_room _ _ _ c.open.ensures.same
-    (keeps_at (λ (s : KeySet). s.numbers) holds_number has_slot c.open.new.self _ c.args.name.now c.in-Some.numbers.now
+returns-in_err-reserve-clause-same c = keeps_at (λ (s : KeySet). s.numbers) holds_number has_slot c.args.self.now _ c.args.name.now c.in-Some.numbers.now
     c.reserve.new.self (sym c.get_mut.ensures.value ∙ ap option_copied_mut c.in-Some.is) refl
-    (keeps_same holds_number has_slot _ _ c.in_err-reserve.ensures.err))
+    (keeps_same holds_number has_slot _ _ c.in_err-reserve.ensures.err)
 
-pub returns-in_ok-reserve-clause-same : goal.returns-in_ok-reserve-clause-same
-returns-in_ok-reserve-clause-same c = keeps_then holds_key has_key_room _ _ _ c.open.ensures.same
-    (keeps_at (λ (s : KeySet). s.numbers) holds_number has_slot c.open.new.self _ c.args.name.now c.in-Some.numbers.now
-    c.reserve.new.self (sym c.get_mut.ensures.value ∙ ap option_copied_mut c.in-Some.is) refl (number_room _ _ _ c.in_ok-reserve.ensures.ok))
+pub returns-in-Some-clause-same : goal.returns-in-Some-clause-same
+returns-in-Some-clause-same c = keeps_at (λ (s : KeySet). s.numbers) holds_number has_slot c.args.self.now _ c.args.name.now c.in-Some.numbers.now
+    c.reserve.new.self (sym c.get_mut.ensures.value ∙ ap option_copied_mut c.in-Some.is) refl (number_room _ _ _ c.in_ok-reserve.ensures.ok)
 
-pub returns-in_ok-reserve-clause-ok : goal.returns-in_ok-reserve-clause-ok
-returns-in_ok-reserve-clause-ok c = room_here (λ (s : KeySet). s.numbers) holds_number has_slot c.open.new.self _ c.args.name.now
-    c.in-Some.numbers.now
+pub returns-in-Some-clause-ok : goal.returns-in-Some-clause-ok
+returns-in-Some-clause-ok c = room_here (λ (s : KeySet). s.numbers) holds_number has_slot c.args.self.now _ c.args.name.now c.in-Some.numbers.now
     c.reserve.new.self (sym c.get_mut.ensures.value ∙ ap option_copied_mut c.in-Some.is) refl c.args.number
     (slot_made numbers _ _ _ c.in_ok-reserve.ensures.ok)
