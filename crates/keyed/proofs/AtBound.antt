@@ -2,15 +2,14 @@
 use Rattle.std.specs.Prelude.{◌≡◌, Bool, true, false, cond, Option, Some, None, refl}
 use Rattle.std.proofs.Common.{ap, sym, ◌∙◌}
 use Rattle.std.specs.List.{list_any}
-use Rattle.std.specs.Option.{option_map_or}
 use Rattle.std.specs.Ordering.{eq_by_cmp}
 use Rattle.std.specs.FinMap.{FinMap, empty, entries, get, get-empty, get-insert, get-remove, insert, remove}
-use Rattle.keyed.specs.Owned.{NoneAtBound, NoneElsewhereAtBound}
+use Rattle.keyed.specs.Owned.{NoneAtBound}
 use Rattle.keyed.specs.Table.{at_slot, emptied, flat, row_at, rows, with_slot}
 use Rattle.keyed.proofs.Tables.{get-rows, rows-emptied, rows-with_slot}
 use Rattle.keyed.proofs.Viewing.{any_row-rows}
-use Rattle.ns_types.specs.State.Names.{Name, name_cmp, same_name}
-use Rattle.ns_types.proofs.Named.{names, one_name, same_name_is}
+use Rattle.ns_types.specs.State.Names.{Name, name_cmp}
+use Rattle.ns_types.proofs.Named.{names, one_name}
 use Rattle.ns_types.proofs.Tables.{none_of_any}
 use Rattle.ns_types.proofs.Tests.{not_Some, same_Some}
 
@@ -21,14 +20,6 @@ module _ {V : Type 0} (p : V → Bool) where
   -- as a walk over the slots tells it
   pub none-walked : (m : FinMap name_cmp (Option V)) → list_any (at_slot (λ (e : Name × V). p e.1)) (entries m) ≡ false → NoneAtBound p m
   none-walked m none name row is = none_of_any one_name (λ _ x. p x) (rows m) name row (any_row-rows (λ _ x. p x) m ∙ none) (get-rows names m name ∙ is)
-
-  -- if the row at a key is not at its bound either, no row is
-  pub none-noted : (m : FinMap name_cmp (Option V)) (k : Name) → NoneElsewhereAtBound p k m → option_map_or p (row_at m k) false ≡ false → NoneAtBound p m
-  none-noted m k elsewhere here name row is = by (same_name name k) refl
-    where
-      by : (b : Bool) → same_name name k ≡ b → p row ≡ false
-      by true e = sym (ap (λ o. option_map_or p o false) (ap (row_at m) (sym (same_name_is name k e)) ∙ is)) ∙ here
-      by false e = elsewhere name row e is
 
 -- a row that is left was there
 left_row : {V : Type 0} (b : Bool) (x : Option (Option V)) (row : V) → flat (cond b None x) ≡ Some row → flat x ≡ Some row

@@ -2,13 +2,8 @@
 use Rattle.std.specs.Prelude.{◌≡◌, Bool, false, Option, Some}
 use Rattle.std.specs.FinMap.{FinMap}
 use Rattle.keyed.specs.Table.{row_at}
-use Rattle.ns_types.specs.State.Names.{Name, name_cmp, same_name}
+use Rattle.ns_types.specs.State.Names.{Name, name_cmp}
 
 -- the counter of no row is at its bound
 abbrev pub NoneAtBound : {V : Type 0} → (V → Bool) → FinMap name_cmp (Option V) → Type 0
 NoneAtBound {V = V} at_bound m = (name : Name) (row : V) → row_at m name ≡ Some row → at_bound row ≡ false
-
--- the counter of no row is at its bound, but perhaps of the row at the key
-abbrev pub NoneElsewhereAtBound : {V : Type 0} → (V → Bool) → Name → FinMap name_cmp (Option V) → Type 0
-NoneElsewhereAtBound {V = V} at_bound key m = (name : Name) (row : V) → same_name name key ≡ false →
-    row_at m name ≡ Some row → at_bound row ≡ false

@@ -3,8 +3,7 @@
 ghost use Rattle.std.specs.Prelude.{◌≡◌, Bool, IsTrue, OnErr, OnOk, false, option_copied};
 ghost use Rattle.std.specs.List.{list_any};
 ghost use Rattle.std.specs.FinMap.{empty, entries, insert, remove};
-ghost use Rattle.std.specs.Option.{option_map_or};
-ghost use Rattle.keyed.specs.Owned.{NoneAtBound, NoneElsewhereAtBound};
+ghost use Rattle.keyed.specs.Owned.{NoneAtBound};
 ghost use Rattle.keyed.specs.Table.{at_slot, emptied, has_slot, row_at, with_slot};
 
 use crate::names::{NameSlot, NameTable};
@@ -70,16 +69,6 @@ fn any_at_bound<V: Bounded>(slots: &[NameSlot<V>]) -> bool
     slots.iter().any(|slot| is_slot_at_bound(slot))
 }
 
-/// Whether there is a row at `key`, and it is at its bound.
-fn is_row_at_bound<V: Bounded + Drop>(table: &NameTable<V>, key: &Text) -> bool
-    ensures { result ≡ option_map_or V.at_bound (row_at table.now key.now) false }
-{
-    match table.get(key) {
-        Some(row) => row.is_at_bound(),
-        None => false,
-    }
-}
-
 impl<V: Bounded + Drop> OwnerTable<V> {
     ghost use Rattle.std.specs.Borrow.{sem};
     ghost use Rattle.std.specs.Option.{option_copied_mut};
@@ -143,12 +132,12 @@ impl<V: Bounded + Drop> OwnerTable<V> {
         self.table.get_mut(key)
     }
 
-    /// Notes that only the row at `key` was changed in place since `may_be_at_bound` returned `before`.
-    pub fn note(&mut self, key: &Text, before: bool)
-        requires { before ≡ false → NoneElsewhereAtBound V.at_bound key.now self.old }
+    /// Notes whether a row may be at its bound, after a row was changed in place.
+    pub fn note(&mut self, may_be_at_bound: bool)
+        requires { may_be_at_bound ≡ false → NoneAtBound V.at_bound self.old }
         ensures { self.new ≡ self.old }
     {
-        self.ever_at_bound = before | is_row_at_bound(&self.table, key);
+        self.ever_at_bound = may_be_at_bound;
     }
 
     /// Makes a slot for a row at `key`, unless there is one: only then is the key copied. Want of memory is the only error.

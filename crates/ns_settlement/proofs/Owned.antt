@@ -3,7 +3,6 @@ use Rattle.std.specs.Prelude.{◌≡◌, Bool, true, false, cond, T, List, [], �
 use Rattle.std.proofs.Common.{refl, sym, ap, ◌∙◌, subst}
 use Rattle.std.specs.FinMap.{FinMap, entries, entries_sorted, get, get-entries, insert, same_map}
 use Rattle.std.specs.FinMap.Entries.{find, is_sorted}
-use Rattle.keyed.specs.Owned.{NoneAtBound, NoneElsewhereAtBound}
 use Rattle.keyed.specs.Table.{flat, row_at, rows, emptied}
 use Rattle.keyed.proofs.Ordered.{absent}
 use Rattle.keyed.proofs.Tables.{get-rows}
@@ -44,35 +43,6 @@ module _ {Row : Type 0} (k : Name) (old new : FinMap name_cmp (Option Row)) (b :
   holds : (P : Row → Type 0) → P b → IfSome (row_at new k) P
   holds P h = subst (λ r. IfSome r P) (sym at_name) h
 
--- a row that is taken out of its slot, and perhaps set again
-module _ {Row : Type 0} (becomes : Row → Row → Type 0) (k : Name) (old mid : FinMap name_cmp (Option Row)) (took : mid ≡ emptied old k) where
-  row_mid : (q : Name) → row_at mid q ≡ cond (same_name q k) None (row_at old q)
-  row_mid q = ap (λ m. row_at m q) took ∙ row_emptied names one_name old k q
-
-  row_new : (new : FinMap name_cmp (Option Row)) (b : Row) → new ≡ insert mid k (Some b) → (q : Name) →
-      row_at new q ≡ cond (same_name q k) (Some b) (row_at old q)
-  row_new new b set q = ap (λ m. row_at m q) set ∙ row_set names one_name mid k b q ∙ ap (cond (same_name q k) (Some b)) (row_mid q) ∙ by (same_name q k)
-    where
-      by : (t : Bool) → cond t (Some b) (cond t None (row_at old q)) ≡ cond t (Some b) (row_at old q)
-      by true = refl
-      by false = refl
-
-  pub there : (new : FinMap name_cmp (Option Row)) (a b : Row) → row_at old k ≡ Some a → becomes a b → new ≡ insert mid k (Some b) →
-      ChangesRow becomes k old new
-  there new a b at is set = turns k old new b (row_new new b set) becomes a at is
-
-  pub nowhere : row_at old k ≡ None → ChangesRow becomes k old mid
-  nowhere none = record {
-    here = subst (λ r. Turns becomes r (row_at mid k)) (sym none) (row_mid k ∙ ap (λ t. cond t None (row_at old k)) (same_name_refl k));
-    others = λ q e. row_mid q ∙ ap (λ t. cond t None (row_at old q)) e;
-  }
-
-  pub row_there : (P : Row → Type 0) (new : FinMap name_cmp (Option Row)) (b : Row) → new ≡ insert mid k (Some b) → P b → IfSome (row_at new k) P
-  row_there P new b set h = holds k old new b (row_new new b set) P h
-
-  pub no_row : (P : Row → Type 0) → row_at old k ≡ None → IfSome (row_at mid k) P
-  no_row P none = subst (λ r. IfSome r P) (sym (row_mid k ∙ ap (λ t. cond t None (row_at old k)) (same_name_refl k))) tt
-
 -- a row that is changed in place
 module _ {Row : Type 0} (k : Name) (old new : FinMap name_cmp (Option Row)) (b : Row) (set : new ≡ insert old k (Some b)) where
   rows_after : (q : Name) → row_at new q ≡ cond (same_name q k) (Some b) (row_at old q)
@@ -83,11 +53,6 @@ module _ {Row : Type 0} (k : Name) (old new : FinMap name_cmp (Option Row)) (b :
 
   pub row_in_place : (P : Row → Type 0) → P b → IfSome (row_at new k) P
   row_in_place P h = holds k old new b rows_after P h
-
-  -- if no row was at its bound before, none is, but perhaps this one
-  pub none_else : (at_bound : Row → Bool) → NoneAtBound at_bound old → NoneElsewhereAtBound at_bound k new
-  none_else at_bound none name row other is = none name row
-      (sym (rows_after name ∙ ap (λ t. cond t (Some b) (row_at old name)) other) ∙ is)
 
 -- what holds at the name and at the others holds at each
 pub at_each : (P : Name → Type 0) (k : Name) → P k → ((q : Name) → same_name q k ≡ false → P q) → (q : Name) → P q

@@ -60,11 +60,12 @@ fn reserve_one<OwnerChange: Drop, Row: Owner<OwnerChange> + Bounded>(
 {
     let before = table.may_be_at_bound();
     let Some(row) = table.get_mut(name) else {
-        table.note(name, before);
+        table.note(before);
         return Ok(());
     };
     let reserved = row.reserve(change);
-    table.note(name, before);
+    let at_bound = row.is_at_bound();
+    table.note(before | at_bound);
     reserved
 }
 
@@ -96,11 +97,12 @@ fn clear_one<OwnerChange: Drop, Row: Owner<OwnerChange> + Bounded>(
 {
     let before = table.may_be_at_bound();
     let Some(row) = table.get_mut(name) else {
-        table.note(name, before);
+        table.note(before);
         return;
     };
     row.clear(change);
-    table.note(name, before);
+    let at_bound = row.is_at_bound();
+    table.note(before | at_bound);
 }
 
 /// Takes the vacant slots of all changed rows out again.
@@ -130,12 +132,13 @@ fn commit_one<OwnerChange: Drop, Row: Owner<OwnerChange> + Bounded>(
 {
     let before = table.may_be_at_bound();
     let Some(row) = table.get_mut(name) else {
-        table.note(name, before);
+        table.note(before);
         drop(change);
         return;
     };
     row.commit(change);
-    table.note(name, before);
+    let at_bound = row.is_at_bound();
+    table.note(before | at_bound);
 }
 
 /// Moves the changes of all owners into them. It takes no memory.

@@ -16,7 +16,7 @@ ghost use Rattle.ns_tables.specs.World.{pool_of};
 use crate::commit::clearing::clear_names;
 use crate::commit::owners::{Owner, commit_all, reserve_all};
 use crate::rooms::ReleasedClass;
-use keyed::{NameTable, OwnerTable};
+use keyed::{Bounded, NameTable, OwnerTable};
 use ns_change::PoolChange;
 use ns_equality::{same_class, same_text};
 use ns_tables::PoolRows;
@@ -51,11 +51,14 @@ fn reserve_classes_in(
     ensures room { OnOk result (IfSome (row_at table.new name.now)
         (λ pool. length (classes_in name.now rooms.now) ≤ pool.classes.room)) }
 {
-    let Some(mut pool) = table.take(name) else {
+    let before = table.may_be_at_bound();
+    let Some(pool) = table.get_mut(name) else {
+        table.note(before);
         return Ok(());
     };
     let reserved = pool.classes.reserve(count_classes(rooms, name));
-    table.set(name, pool);
+    let at_bound = pool.is_at_bound();
+    table.note(before | at_bound);
     reserved
 }
 
@@ -126,10 +129,14 @@ fn raise_pool(table: &mut OwnerTable<PoolRows>, name: &Text)
     requires { IfSome (row_at table.old name.now) (λ pool. pool.release + 1 < 2 ^ 64) }
     ensures { ChangesRow (λ a b. b ≡ raised_pool true a) name.now table.old table.new }
 {
-    if let Some(mut pool) = table.take(name) {
-        pool.release += 1;
-        table.set(name, pool);
-    }
+    let before = table.may_be_at_bound();
+    let Some(pool) = table.get_mut(name) else {
+        table.note(before);
+        return;
+    };
+    pool.release += 1;
+    let at_bound = pool.is_at_bound();
+    table.note(before | at_bound);
 }
 
 /// Raises the release number of each pool of which classes are released by one.
@@ -159,13 +166,15 @@ fn put_class_in(table: &mut OwnerTable<PoolRows>, name: &Text, class: Class)
     requires { IfSome (row_at table.old name.now) (λ pool. 0 < pool.classes.room) }
     ensures { ChangesRow (ClassPut class) name.now table.old table.new }
 {
-    match table.take(name) {
-        Some(mut pool) => {
-            put_class(&mut pool, class);
-            table.set(name, pool);
-        }
-        None => drop(class),
-    }
+    let before = table.may_be_at_bound();
+    let Some(pool) = table.get_mut(name) else {
+        table.note(before);
+        drop(class);
+        return;
+    };
+    put_class(pool, class);
+    let at_bound = pool.is_at_bound();
+    table.note(before | at_bound);
 }
 
 /// Gives each released class the number of its pool's last release.

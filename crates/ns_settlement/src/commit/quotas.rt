@@ -19,9 +19,8 @@ fn raise_quota(table: &mut NameTable<QuotaRows>, name: &Text)
     requires { IfSome (row_at table.old name.now) (λ quota. quota.release + 1 < 2 ^ 64) }
     ensures { ChangesRow (λ a b. b ≡ raised_quota true a) name.now table.old table.new }
 {
-    if let Some(mut quota) = table.take(name) {
+    if let Some(quota) = table.get_mut(name) {
         quota.release += 1;
-        table.set(name, quota);
     }
 }
 
@@ -43,11 +42,8 @@ fn put_quota(table: &mut NameTable<QuotaRows>, name: &Text, quota: Quota)
     ensures { ChangesRow (λ a b. quota_of b ≡ changed_quota (quota_of a) quota)
         name.now table.old table.new }
 {
-    match table.take(name) {
-        Some(mut row) => {
-            row.quota = quota;
-            table.set(name, row);
-        }
+    match table.get_mut(name) {
+        Some(row) => row.quota = quota,
         None => drop(quota),
     }
 }

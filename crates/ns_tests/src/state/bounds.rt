@@ -2,7 +2,7 @@
 
 use crate::state::made::text;
 use crate::state::owned::with;
-use keyed::OwnerTable;
+use keyed::{Bounded, OwnerTable};
 use ns_admin::opening;
 use ns_tables::{Tables, TenantRows};
 use std::alloc::Global;
@@ -19,8 +19,9 @@ fn indexed(
     let before = tenants.may_be_at_bound();
     let tenant = tenants.get_mut(&name).expect(rt, "the first namespace");
     tenant.index = index;
+    let at_bound = tenant.is_at_bound();
     let lent = tenants.may_be_at_bound();
-    tenants.note(&name, before);
+    tenants.note(before | at_bound);
     (lent, tenants.may_be_at_bound())
 }
 

@@ -1,12 +1,14 @@
 use Rattle.std.proofs.Common.{ap, refl, sym, ◌∙◌, ◌≡◌}
 use Rattle.std.proofs.lemmas.Result.{on_ok_weaker}
 use Rattle.std.specs.Option.{option_copied_mut}
-use Rattle.ns_settlement.proofs.Owned.{in_place, none_else, row_in_place}
+use Rattle.keyed.proofs.AtBound.{none-insert}
+use Rattle.ns_types.proofs.Lists.{left_none, right_none}
+use Rattle.ns_settlement.proofs.Owned.{in_place, row_in_place}
 use Rattle.ns_settlement.proofs.commit.owners.reserve_one.Goals as goal
 
 pub note-requires-2 : goal.note-requires-2
-note-requires-2 g c below =
-    none_else c.args.name.now c.args.table.now _ c.reserve-reserved.new.self refl g.Row.Bounded.at_bound (c.may_be_at_bound-before.ensures below)
+note-requires-2 g c below = none-insert g.Row.Bounded.at_bound c.args.table.now (c.may_be_at_bound-before.ensures (left_none _ _ below))
+    c.args.name.now c.reserve-reserved.new.self (sym c.is_at_bound-at_bound.ensures ∙ right_none _ _ below)
 
 pub returns-clause-rows : goal.returns-clause-rows
 returns-clause-rows g c = in_place c.args.name.now c.args.table.now c.note-2.new.self c.reserve-reserved.new.self c.note-2.ensures

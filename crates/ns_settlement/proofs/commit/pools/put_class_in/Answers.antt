@@ -1,21 +1,16 @@
-use Rattle.std.proofs.Common.{sym, ◌∙◌, subst}
-use Rattle.std.specs.Prelude.{IsTrue}
-use Rattle.keyed.specs.Table.{has_slot}
-use Rattle.keyed.proofs.Tables.{has_slot-row}
-use Rattle.ns_types.proofs.Named.{names, one_name}
-use Rattle.ns_change.proofs.Opening.{emptied_keeps}
-use Rattle.ns_settlement.proofs.Owned.{nowhere, there}
+use Rattle.std.proofs.Common.{ap, sym, ◌∙◌, ◌≡◌}
+use Rattle.std.specs.Option.{option_copied_mut}
+use Rattle.keyed.proofs.AtBound.{none-insert}
+use Rattle.ns_tables.specs.Bound.{is_at_bound}
+use Rattle.ns_types.proofs.Lists.{left_none, right_none}
 use Rattle.ns_settlement.specs.Committed.{ClassPut}
+use Rattle.ns_settlement.proofs.Owned.{in_place}
 use Rattle.ns_settlement.proofs.commit.pools.put_class_in.Goals as goal
 
-pub set-requires : goal.set-requires
-set-requires c = subst (λ m. IsTrue (has_slot m c.args.name.now)) (sym c.take.ensures.slots)
-    (emptied_keeps names one_name c.args.table.now c.args.name.now c.args.name.now
-    (has_slot-row c.args.table.now c.args.name.now c.in-Some.pool (sym c.take.ensures.row ∙ c.in-Some.is)))
+pub note-requires-2 : goal.note-requires-2
+note-requires-2 c below = none-insert (λ p. is_at_bound p.release) c.args.table.now (c.may_be_at_bound-before.ensures (left_none _ _ below))
+    c.args.name.now _ (sym c.is_at_bound-at_bound.ensures ∙ right_none _ _ below)
 
-pub returns-in-Some : goal.returns-in-Some
-returns-in-Some c = there (ClassPut c.args.class) c.args.name.now c.args.table.now c.take.new.self
-    c.take.ensures.slots c.set.new.self c.in-Some.pool c.put_class.new.pool (sym c.take.ensures.row ∙ c.in-Some.is) c.put_class.ensures c.set.ensures
-
-pub returns-in-None : goal.returns-in-None
-returns-in-None c = nowhere _ c.args.name.now c.args.table.now c.take.new.self c.take.ensures.slots (sym c.take.ensures.row ∙ c.in-None.is)
+pub returns : goal.returns
+returns c = in_place c.args.name.now c.args.table.now c.note-2.new.self c.put_class.new.pool c.note-2.ensures (ClassPut c.args.class)
+    c.in-Some.pool.now (sym c.get_mut.ensures.value ∙ ap option_copied_mut c.in-Some.is) c.put_class.ensures
