@@ -6,7 +6,7 @@ use Rattle.std.specs.Ordering.{eq_by_cmp}
 use Rattle.std.specs.Cmp.{IsTotalOrder}
 use Rattle.std.specs.FinMap.{FinMap, IsAntisymmetric, get, get-insert, get-remove, insert, same_map}
 use Rattle.keyed.specs.Table.{flat, rows, row_at, has_slot, emptied, with_slot, KeepsSlots}
-use Rattle.keyed.proofs.Tables.{get-rows, has_slot-insert, rows-emptied, rows-with_slot}
+use Rattle.keyed.proofs.Tables.{get-rows, has_slot-insert, has_slot-row, rows-emptied, rows-with_slot}
 use Rattle.ns_types.specs.declared.evaluation.Evaluation.{Evaluation}
 use Rattle.ns_types.specs.Settling.Making.{change_tenant, make, make_in, put_tenant, with_evaluation}
 use Rattle.ns_types.specs.State.Names.{Name, name_cmp}
@@ -27,7 +27,7 @@ use Rattle.ns_tables.specs.World.{tenant_of, world_of}
 use Rattle.ns_change.specs.Changed.{view}
 use Rattle.keyed.proofs.Over.{over-empty, over-put}
 use Rattle.ns_tables.proofs.World.{tenant_at}
-use Rattle.ns_change.proofs.Seen.{tenant_seen}
+use Rattle.ns_change.proofs.Seen.{none_seen, tenant_seen}
 use Rattle.ns_types.proofs.Gone.{insert_twice}
 
 module _ {K X : Type 0} {R : K → K → Ordering} (o : IsTotalOrder R) (same : IsAntisymmetric R) where
@@ -96,6 +96,34 @@ module _ (t : Tables) (c left : Change) (ns : Name) (f : Tenant → Tenant) wher
       view t (with_tenant ns y left) ≡ change_tenant ns f (view t c)
   put_open x y is law = is.closes y ∙ ap (λ z. put_tenant ns z (view t c)) (law is.base) ∙
       sym (ap (λ o. option_map_or (λ z. put_tenant ns (f z) (view t c)) o (view t c)) is.seen)
+
+-- what is put in place; where there is no such namespace, nothing changes
+module _ (t : Tables) (c : Change) (ns : Name) (f : Tenant → Tenant) (x y : TenantChange) (is : row_at c.tenants ns ≡ Some x)
+    (law : (base : Tenant) → changed_tenant base y ≡ f (changed_tenant base x)) where
+  nowhere : get (world_of t).tenants ns ≡ None →
+      map_rows (λ q t. perhaps changed_tenant (row_at (insert c.tenants ns (Some y)) q) t) (world_of t).tenants
+      ≡ map_rows (λ q t. perhaps changed_tenant (row_at c.tenants q) t) (world_of t).tenants
+  nowhere none = same_map names one_name _ _ (λ q. get-map_rows names one_name _ (world_of t).tenants q ∙ by q (eq_by_cmp name_cmp q ns) refl
+      ∙ sym (get-map_rows names one_name _ (world_of t).tenants q))
+    where
+      by : (q : Name) (b : Bool) → eq_by_cmp name_cmp q ns ≡ b → option_map (perhaps changed_tenant (row_at (insert c.tenants ns (Some y)) q))
+          (get (world_of t).tenants q) ≡ option_map (perhaps changed_tenant (row_at c.tenants q)) (get (world_of t).tenants q)
+      by q true e =
+          let gone = ap (get (world_of t).tenants) (tied one_name q ns e) ∙ none in
+          ap (option_map (perhaps changed_tenant (row_at (insert c.tenants ns (Some y)) q))) gone
+          ∙ sym (ap (option_map (perhaps changed_tenant (row_at c.tenants q))) gone)
+      by q false e = ap (λ r. option_map (perhaps changed_tenant r) (get (world_of t).tenants q)) (row_set names one_name c.tenants ns y q ∙
+          ap (λ b. cond b (Some y) (row_at c.tenants q)) e)
+
+  pub put_in_place : view t (with_tenant ns y c) ≡ change_tenant ns f (view t c)
+  unfolding changed
+  put_in_place = by (row_at t.tenants ns) refl
+    where
+      by : (r : Option TenantRows) → row_at t.tenants ns ≡ r → view t (with_tenant ns y c) ≡ change_tenant ns f (view t c)
+      by (Some rows) at = put_open t c c ns f x y (opened t c c ns rows x at (ap (λ r. perhaps changed_tenant r (tenant_of rows)) is) (λ q e. refl) refl
+          (has_slot-row c.tenants ns x is)) law
+      by None at = (λ i. record (changed (world_of t) c) { tenants = nowhere (tenant_at t ns ∙ ap (option_map tenant_of) at) i })
+          ∙ sym (ap (λ o. option_map_or (λ z. put_tenant ns (f z) (view t c)) o (view t c)) (none_seen t c ns at))
 
 module _ {K X : Type 0} {R : K → K → Ordering} (o : IsTotalOrder R) (same : IsAntisymmetric R) where
   -- a row put into a slot made for it

@@ -141,7 +141,8 @@ pub(crate) fn put_name<V: Drop>(
     Ok(())
 }
 
-/// Puts a row into the namespace, if the namespace is there. Want of memory is the only error.
+/// Puts a row into the namespace, if the namespace is there. A change that the namespace has already is edited in place. Want of
+/// memory is the only error.
 pub fn put_row<R: NumberedRow>(
     tables: &Tables,
     change: &mut Change,
@@ -151,6 +152,9 @@ pub fn put_row<R: NumberedRow>(
 ) -> Result<(), AllocError>
     ensures { DoesIn namespace.now result tables.now change.old change.new (R.put_in number row) }
 {
+    if let Some(changed) = change.tenants.get_mut(namespace) {
+        return row.put(changed, number);
+    }
     let Some(mut changed) = open(tables, change, namespace)? else {
         drop(row);
         return Ok(());
