@@ -8,7 +8,7 @@ ghost use Rattle.ns_types.specs.State.Rows.{evaluation_at};
 ghost use Rattle.ns_types.specs.Settling.Settle.{settle};
 ghost use Rattle.ns_types.specs.Steps.{greatest, is_past_bound};
 ghost use Rattle.ns_change.specs.Changed.{view};
-ghost use Rattle.ns_release.specs.Released.{does_wake};
+ghost use Rattle.ns_release.specs.Released.{does_wake, released_rooms};
 ghost use Rattle.ns_counters.specs.Bounds.{is_number_past, is_place_past, is_waking};
 ghost use Rattle.ns_counters.specs.Bounds.{passes_in, places_pass, pools_pass, quota_passes, quotas_pass, room_passes};
 ghost use Rattle.ns_counters.specs.Bounds.{shows_asleep, shows_awake, tenant_passes, tenants_pass, touches_asleep};
@@ -117,20 +117,20 @@ fn any_waking_passes(tables: &Tables, change: &Change, slots: &[NumberSlot<EvalK
     slots.iter().any(|slot| slot_passes(tables, change, slot))
 }
 
-/// Whether an index passes its bound because evaluations wake. It is called only if the step releases something.
+/// Whether an index passes its bound because the step releases something and evaluations wake.
 fn released_wakings_pass(tables: &Tables, change: &Change) -> bool
     ensures { result ≡ list_any (waking_passes (world_of tables.now) change.now)
         (world_of tables.now).blocked }
 {
-    wakes_may_pass(tables) && any_waking_passes(tables, change, tables.blocked.slots())
+    releases(tables, change) && any_waking_passes(tables, change, tables.blocked.slots())
 }
 
-/// Whether an index passes its bound because evaluations wake.
+/// Whether an index passes its bound because evaluations wake. Unless an index ever was at its bound, it goes through nothing.
 fn wakings_pass(tables: &Tables, change: &Change) -> bool
     ensures { result ≡ list_any (waking_passes (world_of tables.now) change.now)
         (world_of tables.now).blocked }
 {
-    releases(tables, change) && released_wakings_pass(tables, change)
+    wakes_may_pass(tables) && released_wakings_pass(tables, change)
 }
 
 // ---- changed rows of namespaces
@@ -260,12 +260,16 @@ fn passes_in(
         || is_at_bound(tenant.index) && touches_asleep(tables, change, namespace, tenant, changed)
 }
 
+/// Whether an index or a number of the namespace passes its bound. Unless an index ever was at its bound, nothing is looked up.
 fn tenant_passes(tables: &Tables, change: &Change, slot: &NameSlot<TenantChange>) -> bool
     ensures { result ≡ tenant_passes (world_of tables.now) change.now slot.now }
 {
     let Some(changed) = &slot.1 else {
         return false;
     };
+    if !is_number_past(changed) && !tables.tenants.may_be_at_bound() {
+        return false;
+    }
     match tables.tenants.get(&slot.0) {
         Some(tenant) => passes_in(tables, change, &slot.0, tenant, changed),
         None => false,
@@ -320,12 +324,20 @@ fn any_places_pass(tables: &Tables, slots: &[NameSlot<PoolChange>]) -> bool
     slots.iter().any(|slot| places_pass(tables, slot))
 }
 
+/// Whether the release number of a pool of which a class is released passes its bound. Unless one ever was at its bound, it
+/// goes through nothing.
+fn rooms_pass(tables: &Tables, change: &Change) -> bool
+    ensures { result ≡ list_any (room_passes (world_of tables.now))
+        (released_rooms (world_of tables.now) change.now) }
+{
+    tables.pools.may_be_at_bound() && releases_room(&Counters { tables }, tables, change)
+}
+
 /// Whether a release number of a pool, or the number of placements on a node, passes its bound.
 fn pools_pass(tables: &Tables, change: &Change) -> bool
     ensures { result ≡ pools_pass (world_of tables.now) change.now }
 {
-    releases_room(&Counters { tables }, tables, change)
-        || any_places_pass(tables, change.pools.as_slice())
+    rooms_pass(tables, change) || any_places_pass(tables, change.pools.as_slice())
 }
 
 // ---- all counters

@@ -82,14 +82,16 @@ fn any_moves<W: WatchesMoves>(
 fn moves_in<W: WatchesMoves>(watch: &W, tables: &Tables, slot: &NameSlot<SettledTenant>) -> bool
     ensures { result ≡ moves_in (W.moves watch.now) tables.now.tenants slot.now }
 {
-    match (tables.tenants.get(&slot.0), &slot.1) {
-        (Some(tenant), Some(change)) => any_moves(
-            watch,
-            &slot.0,
-            tenant.evaluations.rows(),
-            change.rows.evaluations.as_slice(),
-        ),
-        _ => false,
+    let Some(change) = &slot.1 else {
+        return false;
+    };
+    let slots = change.rows.evaluations.as_slice();
+    if slots.is_empty() {
+        return false;
+    }
+    match tables.tenants.get(&slot.0) {
+        Some(tenant) => any_moves(watch, &slot.0, tenant.evaluations.rows(), slots),
+        None => false,
     }
 }
 

@@ -2,7 +2,7 @@
 use Rattle.std.specs.Prelude.{◌≡◌, ℕ, Bool, true, false, not, ◌&&◌, if◌then◌else◌, List, [], ◌∷◌, ◌++◌, Option, Some, None, flat_map, option_map}
 use Rattle.std.proofs.Common.{refl, sym, ap, ◌∙◌, append_assoc}
 use Rattle.std.specs.Option.{option_map_or}
-use Rattle.std.specs.FinMap.{get}
+use Rattle.std.specs.FinMap.{entries, get}
 use Rattle.keyed.specs.Table.{row_at, rows}
 use Rattle.keyed.proofs.Tables.{get-rows}
 use Rattle.ns_types.specs.declared.allocation.Allocation.{Allocation}
@@ -10,14 +10,14 @@ use Rattle.ns_types.specs.declared.records.Quota.{Quota}
 use Rattle.ns_types.specs.Asking.Admins.{with_quota}
 use Rattle.ns_types.specs.Settling.Releases.{changes_limits}
 use Rattle.ns_types.specs.State.Names.{Name}
-use Rattle.ns_types.specs.State.Rows.{is_live}
+use Rattle.ns_types.specs.State.Rows.{Tenant, World, is_live}
 use Rattle.ns_types.proofs.Named.{names, numbers, one_name}
 use Rattle.ns_types.proofs.Tables.{get-table_of}
 use Rattle.ns_change.specs.declared.change.TenantChange.{TenantChange}
 use Rattle.ns_tables.specs.declared.tables.QuotaRows.{QuotaRows}
 use Rattle.ns_tables.specs.declared.tables.Tables.{Tables}
 use Rattle.ns_tables.specs.declared.tables.TenantRows.{TenantRows}
-use Rattle.ns_release.specs.Released.{ended_in, ended_list, ended_of, ended_one, relimits}
+use Rattle.ns_release.specs.Released.{ended_among, ended_in, ended_list, ended_of, ended_one, relimits}
 use Rattle.ns_tables.specs.World.{quota_of, tenant_of, world_of}
 use Rattle.ns_tables.proofs.World.{tenant_at}
 
@@ -52,6 +52,21 @@ module _ (t : Tables) (ns : Name) where
 
   pub ended_nowhere : (x : Option TenantChange) → row_at t.tenants ns ≡ None → ended_of (world_of t) ns x ≡ []
   ended_nowhere x at = ap (λ o. option_map_or (λ t. option_map_or (ended_in t) x []) o []) (tenant_at t ns ∙ ap (option_map tenant_of) at)
+
+-- where no allocation changes, none ends
+pub ended_unchanged : (w : World) (ns : Name) → ended_of w ns None ≡ []
+ended_unchanged w ns = by (get w.tenants ns)
+  where
+    by : (r : Option Tenant) → option_map_or (λ t. option_map_or (ended_in t) None []) r [] ≡ []
+    by None = refl
+    by (Some t) = refl
+
+pub ended_without : (w : World) (ns : Name) (c : TenantChange) → entries c.allocations ≡ [] → ended_of w ns (Some c) ≡ []
+ended_without w ns c none = by (get w.tenants ns)
+  where
+    by : (r : Option Tenant) → option_map_or (λ t. ended_in t c) r [] ≡ []
+    by None = refl
+    by (Some t) = ap (ended_among t) none
 
 module _ (t : Tables) (name : Name) where
   pub quota_at : get (world_of t).quotas name ≡ option_map quota_of (row_at t.quotas name)

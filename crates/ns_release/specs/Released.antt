@@ -26,8 +26,11 @@ abbrev pub ended_one : Tenant → ℕ → Option Allocation → List (Namespace 
 ended_one t n row = option_map_or (λ a. if is_live a && not (option_map_or is_live row false) then (t.namespace, a) ∷ []
     else []) (get t.allocations n) []
 
+abbrev pub ended_among : Tenant → List (ℕ × Option Allocation) → List (Namespace × Allocation)
+ended_among t slots = flat_map (λ e. ended_one t e.0 e.1) slots
+
 abbrev pub ended_in : Tenant → TenantChange → List (Namespace × Allocation)
-ended_in t x = flat_map (λ e. ended_one t e.0 e.1) (entries x.allocations)
+ended_in t x = ended_among t (entries x.allocations)
 
 abbrev pub ended_of : World → Name → Option TenantChange → List (Namespace × Allocation)
 ended_of w ns x = option_map_or (λ t. option_map_or (ended_in t) x []) (get w.tenants ns) []

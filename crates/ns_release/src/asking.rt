@@ -10,7 +10,7 @@ ghost use Rattle.ns_release.specs.Released.{quota_left, quota_relimited, quotas_
 ghost use Rattle.ns_release.specs.Released.{released_rooms, room_at, rooms_at, rooms_ended, rooms_ended_in, rooms_of_pool};
 ghost use Rattle.ns_tables.specs.World.{pool_of, tenant_of, world_of};
 
-use crate::releasing::{ended, gives_itself, relimits};
+use crate::releasing::{changed_allocations, ended, gives_itself, relimits};
 use keyed::{NameSlot, NumberSlot};
 use ns_change::{Change, PoolChange, TenantChange, node};
 use ns_equality::is_free;
@@ -150,17 +150,8 @@ fn tenant_leaves<Q: Question>(
     ensures { result ≡ list_any (Q.of_room question.now)
         (rooms_ended_in (world_of tables.now) (view tables.now change.now) slot.now) }
 {
-    let Some(changed) = &slot.1 else {
-        return false;
-    };
-    match tables.tenants.get(&slot.0) {
-        Some(tenant) => any_leaves(
-            question,
-            tables,
-            change,
-            tenant,
-            changed.allocations.as_slice(),
-        ),
+    match changed_allocations(tables, slot) {
+        Some((tenant, slots)) => any_leaves(question, tables, change, tenant, slots),
         None => false,
     }
 }
@@ -226,18 +217,15 @@ fn any_frees<Q: Question>(
     ensures { result ≡ list_any (λ slot. list_any (Q.of_quota question.now)
         (quotas_ended (tenant_of tenant.now) slot)) slots.now }
 {
-    slots.iter().any(|slot| frees(question, tenant, slot))
+    is_own(question, tenant) && slots.iter().any(|slot| frees(question, tenant, slot))
 }
 
 fn tenant_frees<Q: Question>(question: &Q, tables: &Tables, slot: &NameSlot<TenantChange>) -> bool
     ensures { result
         ≡ list_any (Q.of_quota question.now) (quotas_ended_in (world_of tables.now) slot.now) }
 {
-    let Some(change) = &slot.1 else {
-        return false;
-    };
-    match tables.tenants.get(&slot.0) {
-        Some(tenant) => any_frees(question, tenant, change.allocations.as_slice()),
+    match changed_allocations(tables, slot) {
+        Some((tenant, slots)) => any_frees(question, tenant, slots),
         None => false,
     }
 }

@@ -13,5 +13,5 @@ mod showing;
 
 pub use asking::{Question, releases_quota, releases_room};
 pub use blocked::{does_wake, releases, stays};
-pub use releasing::{ended, gives_itself, relimits};
+pub use releasing::{changed_allocations, ended, gives_itself, relimits};
 pub use showing::{ShownByNumber, any_job, any_row, changes_job_slot, changes_row, changes_slot};

@@ -1,12 +1,13 @@
 //! Which changed rows release something.
 
-ghost use Rattle.std.specs.Prelude.{◌≡◌, false, option_copied};
+ghost use Rattle.std.specs.Prelude.{◌≡◌, [], false, option_copied};
 ghost use Rattle.std.specs.Option.{option_map_or};
 ghost use Rattle.ns_types.specs.State.Rows.{is_live};
-ghost use Rattle.ns_release.specs.Released.{differs, ended_list, ended_one, gives_itself, relimits};
+ghost use Rattle.ns_release.specs.Released.{differs, ended_among, ended_list, ended_of, ended_one, gives_itself, relimits};
 ghost use Rattle.ns_tables.specs.World.{pool_of, tenant_of, world_of};
 
 use keyed::{NameSlot, NumberSlot};
+use ns_change::TenantChange;
 use ns_equality::{changes_limits, is_free, same_offer};
 use ns_tables::{PoolRows, Tables, TenantRows};
 use ns_types::allocation::Allocation;
@@ -54,6 +55,28 @@ pub fn ended<'a>(tenant: &'a TenantRows, slot: &NumberSlot<Allocation>) -> Optio
     };
     let ends = old.is_live() & !lives_on(slot.1.as_ref());
     if ends { Some(old) } else { None }
+}
+
+/// The namespace of the slot with the slots of its changed allocations. None: there is no such namespace, or none of its
+/// allocations changes, so that none ends.
+pub fn changed_allocations<'a>(
+    tables: &'a Tables,
+    slot: &'a NameSlot<TenantChange>,
+) -> Option<(&'a TenantRows, &'a [NumberSlot<Allocation>])>
+    ensures { ended_of (world_of tables.now) slot.now.0 slot.now.1
+        ≡ option_map_or (λ x. ended_among (tenant_of x.0.now) x.1.now) result [] }
+{
+    let Some(change) = &slot.1 else {
+        return None;
+    };
+    let slots = change.allocations.as_slice();
+    if slots.is_empty() {
+        return None;
+    }
+    match tables.tenants.get(&slot.0) {
+        Some(tenant) => Some((tenant, slots)),
+        None => None,
+    }
 }
 
 // ---- limits that change

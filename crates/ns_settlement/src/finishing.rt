@@ -119,7 +119,7 @@ fn settle_slot(
     }
 }
 
-/// Settles the changes of all namespaces.
+/// Settles the changes of all namespaces, into a list with room for these and no more.
 fn settle_tenants(
     tables: &Tables,
     tenants: NameTable<TenantChange>,
@@ -128,8 +128,9 @@ fn settle_tenants(
     ensures { IfOk result (λ settled. settled
         ≡ table_of (settled_slot (world_of tables.now)) tenants) }
 {
-    let mut rows = Vec::new(tables.alloc);
-    for (namespace, slot) in tenants.into_slots() {
+    let slots = tenants.into_slots();
+    let mut rows = Vec::with_capacity(tables.alloc, slots.len())?;
+    for (namespace, slot) in slots {
         let settled = settle_slot(tables, &namespace, slot)?;
         rows.push((namespace, settled))?;
     }

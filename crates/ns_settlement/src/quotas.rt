@@ -6,7 +6,7 @@ ghost use Rattle.ns_tables.specs.World.{tenant_of, world_of};
 
 use keyed::{NameSlot, NumberSlot};
 use ns_change::{Change, TenantChange};
-use ns_release::{ended, relimits};
+use ns_release::{changed_allocations, ended, relimits};
 use ns_tables::{Tables, TenantRows};
 use ns_types::allocation::Allocation;
 use ns_types::records::Quota;
@@ -34,6 +34,7 @@ fn add_quota(
     Ok(())
 }
 
+/// Adds the quota of the namespace, if it has one, for each allocation that ended.
 fn add_quotas(
     quotas: &mut Rows<Text>,
     tenant: &TenantRows,
@@ -42,6 +43,9 @@ fn add_quotas(
     ensures { OnOk result (quotas.new ≡ quotas.old
         ++ flat_map (quotas_ended (tenant_of tenant.now)) slots.now) }
 {
+    if tenant.namespace.quota.is_none() {
+        return Ok(());
+    }
     for slot in slots {
         add_quota(quotas, tenant, slot)?;
     }
@@ -56,10 +60,8 @@ fn add_quotas_of(
     ensures { OnOk result (quotas.new ≡ quotas.old
         ++ quotas_ended_in (world_of tables.now) slot.now) }
 {
-    if let Some(change) = &slot.1 {
-        if let Some(tenant) = tables.tenants.get(&slot.0) {
-            add_quotas(quotas, tenant, change.allocations.as_slice())?;
-        }
+    if let Some((tenant, slots)) = changed_allocations(tables, slot) {
+        add_quotas(quotas, tenant, slots)?;
     }
     Ok(())
 }

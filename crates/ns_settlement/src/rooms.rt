@@ -10,7 +10,7 @@ ghost use Rattle.ns_change.specs.Changed.{view};
 use keyed::{NameSlot, NumberSlot};
 use ns_change::{Change, PoolChange, TenantChange, node};
 use ns_equality::{class_of, is_free};
-use ns_release::{ended, gives_itself};
+use ns_release::{changed_allocations, ended, gives_itself};
 use ns_tables::{PoolRows, Tables, TenantRows};
 use ns_types::allocation::Allocation;
 use ns_types::node::{Class, Node};
@@ -155,16 +155,8 @@ fn add_tenant(
     ensures { OnOk result (rooms.new ≡ rooms.old
         ++ rooms_ended_in (world_of tables.now) (view tables.now change.now) slot.now) }
 {
-    if let Some(changed) = &slot.1 {
-        if let Some(tenant) = tables.tenants.get(&slot.0) {
-            add_all_ended(
-                rooms,
-                tables,
-                change,
-                tenant,
-                changed.allocations.as_slice(),
-            )?;
-        }
+    if let Some((tenant, slots)) = changed_allocations(tables, slot) {
+        add_all_ended(rooms, tables, change, tenant, slots)?;
     }
     Ok(())
 }

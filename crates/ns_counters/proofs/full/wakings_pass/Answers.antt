@@ -1,13 +1,8 @@
 use Rattle.std.proofs.Common.{sym, ◌∙◌}
-use Rattle.ns_types.proofs.Lists.{left_none, right_none}
-use Rattle.ns_release.specs.Released.{released_quotas, released_rooms}
 use Rattle.ns_tables.specs.World.{world_of}
-use Rattle.ns_counters.proofs.Passing.{empty_by_any, none_wakes}
+use Rattle.ns_counters.proofs.Last.{no_waking_passes}
 use Rattle.ns_counters.proofs.full.wakings_pass.Goals as goal
 
-pub returns-else-releases : goal.returns-else-releases
-returns-else-releases c =
-    let w = world_of c.args.tables.now in
-    let none = sym c.releases.ensures ∙ c.if-releases.false in
-    c.if-releases.false ∙ sym (none_wakes w c.args.change.now (empty_by_any (released_rooms w c.args.change.now) (left_none _ _ none))
-    (empty_by_any (released_quotas w c.args.change.now) (right_none _ _ none)))
+pub returns-else-wakes_may_pass : goal.returns-else-wakes_may_pass
+returns-else-wakes_may_pass c = c.if-wakes_may_pass.false
+    ∙ sym (no_waking_passes (world_of c.args.tables.now) (c.wakes_may_pass.ensures c.if-wakes_may_pass.false) c.args.change.now)

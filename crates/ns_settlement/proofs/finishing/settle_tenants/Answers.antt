@@ -12,8 +12,8 @@ use Rattle.ns_types.proofs.TableRows.{no_entries}
 pub loop-namespace-init : goal.loop-namespace-init
 loop-namespace-init c =
     let w = world_of c.args.tables.now in
-    let all = c.into_iter-namespace-iterator.ensures.into_iter_gives.0 ∙ c.into_slots-namespace-items.ensures in (
-      (λ i. c.new-rows.ensures.items i ++ map (λ (e : Name × Option TenantChange). (e.0, settled_slot w e.0 e.1)) (all i)),
+    let all = c.into_iter-namespace-iterator.ensures.into_iter_gives.0 ∙ c.into_slots-slots.ensures in (
+      (λ i. c.in_ok-rows.ensures.items i ++ map (λ (e : Name × Option TenantChange). (e.0, settled_slot w e.0 e.1)) (all i)),
       ap (list_any (λ (e : Name × Option TenantChange). is_last w e.0 e.1)) all ∙ c.requires,
     )
 

@@ -1,26 +1,22 @@
-use Rattle.std.proofs.Common.{ap, sym, ◌∙◌, ◌++◌}
+use Rattle.std.proofs.Common.{[], ap, sym, ◌∙◌, ◌++◌}
 use Rattle.std.proofs.lemmas.List.{append-nil}
-use Rattle.std.specs.Option.{option_copied}
+use Rattle.std.specs.Option.{option_map_or}
 use Rattle.std.specs.Prelude.{flat_map}
-use Rattle.std.specs.FinMap.{entries}
 use Rattle.ns_types.specs.declared.allocation.Allocation.{Allocation}
 use Rattle.ns_types.specs.declared.records.Namespace.{Namespace}
-use Rattle.ns_release.specs.Released.{ended_of, ended_one, quota_left}
-use Rattle.ns_tables.specs.World.{tenant_of, world_of}
-use Rattle.ns_release.proofs.Released.{ended_nowhere, ended_there, flat_flat}
+use Rattle.ns_release.specs.Released.{ended_among, ended_one, quota_left}
+use Rattle.ns_tables.specs.World.{tenant_of}
+use Rattle.ns_release.proofs.Released.{flat_flat}
 use Rattle.ns_settlement.proofs.quotas.add_quotas_of.Goals as goal
 
 pub returns-in_ok-add_quotas : goal.returns-in_ok-add_quotas
 returns-in_ok-add_quotas c = c.in_ok-add_quotas.ensures
-    ∙ ap (λ slots. c.args.quotas.now ++ flat_map (λ s. flat_map (λ e. quota_left e.0) (ended_one (tenant_of c.in-Some-get.tenant.now) s.0 s.1)) slots)
-    c.as_slice.ensures
-    ∙ ap (λ l. c.args.quotas.now ++ l) (flat_flat (λ (e : Namespace × Allocation). quota_left e.0) (λ s. ended_one (tenant_of c.in-Some-get.tenant.now) s.0 s.1)
-    (entries c.in-Some.change.allocations)
-    ∙ ap (flat_map (λ (e : Namespace × Allocation). quota_left e.0))
-    (sym (ap (ended_of (world_of c.args.tables.now) c.args.slot.now.0) c.in-Some.is ∙
-    ended_there c.args.tables.now c.args.slot.now.0 c.in-Some-get.tenant.now c.in-Some.change (sym c.get.ensures ∙ ap option_copied c.in-Some-get.is))))
+    ∙ ap (λ l. c.args.quotas.now ++ l) (flat_flat (λ (e : Namespace × Allocation). quota_left e.0)
+    (λ s. ended_one (tenant_of c.in-Some.tenant.now) s.0 s.1) c.in-Some.slots.now
+    ∙ ap (flat_map (λ (e : Namespace × Allocation). quota_left e.0)) (sym (c.changed_allocations.ensures
+    ∙ ap (λ r. option_map_or (λ x. ended_among (tenant_of x.0.now) x.1.now) r []) c.in-Some.is)))
 
-pub returns-in_default-get : goal.returns-in_default-get
-returns-in_default-get c = sym (ap (λ l. c.args.quotas.now ++ flat_map (λ (e : Namespace × Allocation). quota_left e.0) l)
-    (ended_nowhere c.args.tables.now c.args.slot.now.0 c.args.slot.now.1 (sym c.get.ensures ∙ ap option_copied c.in_default-get.is)) ∙
+pub returns-in_default : goal.returns-in_default
+returns-in_default c = sym (ap (λ l. c.args.quotas.now ++ flat_map (λ (e : Namespace × Allocation). quota_left e.0) l)
+    (c.changed_allocations.ensures ∙ ap (λ r. option_map_or (λ x. ended_among (tenant_of x.0.now) x.1.now) r []) c.in_default.is) ∙
     append-nil c.args.quotas.now)
