@@ -4,6 +4,7 @@ use Rattle.std.specs.Option.{option_map_or}
 use Rattle.std.specs.List.{list_any}
 use Rattle.std.specs.FinMap.{get}
 use Rattle.ns_types.specs.declared.allocation.Allocation.{Allocation}
+use Rattle.ns_types.specs.declared.node.Class.{Class}
 use Rattle.ns_types.specs.Settling.Settle.{is_touched, settle}
 use Rattle.ns_types.specs.State.Names.{Name, Key}
 use Rattle.ns_types.specs.State.Rows.{World, Tenant, allocation_at, class_of, is_free, node_at}
@@ -41,6 +42,10 @@ indexes_pass w x = any_row (index_passes w) x.tenants
 abbrev pub left_room_passes : World → World → Allocation → Bool
 left_room_passes w x a =
     option_map_or (λ node. is_free node && given_room_passes w (a.pool, class_of node)) (node_at x a.pool a.node) false
+
+-- no counter passes its bound by room on a node, of whatever class
+abbrev pub NoRoomPasses : World → Type 0
+NoRoomPasses w = (room : Name × Class) → given_room_passes w room ≡ false
 
 -- a counter passes its bound by the release of the namespace's quota, if it has one
 abbrev pub left_quota_passes : World → Name → Bool

@@ -14,11 +14,12 @@ ghost use Rattle.ns_tables.specs.World.{tenant_of, world_of};
 
 use crate::judging::passes;
 use crate::turn::{evaluation, is_in_turn};
-use crate::view::check;
+use crate::view::Present;
 use ns_broker::worker_at;
 use ns_change::Prepared;
 use ns_live_index::Live;
 use ns_place::marking::Places;
+use ns_plan::check;
 use ns_plan_result::{Committed, Turn, apply_refused, apply_standing};
 use ns_tables::{Tables, TenantRows};
 use ns_types::plan::Plan;
@@ -45,7 +46,8 @@ fn come_to(
     ensures { Prepares (comes_to turn.now.number (world_of tables.now) (tenant_of tenant.now)
         turn.now.worker.now turn.now.evaluation.now snapshot.now plan.now) tables.now result }
 {
-    let outcome = check(tables, live, snapshot, plan);
+    let present = Present::new(tables, live);
+    let outcome = check(snapshot, plan, &present);
     if outcome.is_refused() {
         return apply_refused(tables, snapshot, turn, outcome.dropped());
     }

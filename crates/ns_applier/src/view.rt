@@ -1,8 +1,6 @@
 //! Shows the present state to the plan applier: the tables of the world with the index of live allocations.
 
-mod checking;
 mod looking;
 mod present;
 
-pub use checking::check;
 pub use present::Present;

@@ -6,7 +6,7 @@ ghost use Rattle.ns_types.specs.State.Rows.{is_live};
 ghost use Rattle.ns_types.specs.State.Sums.{node_load};
 ghost use Rattle.ns_types.specs.Working.Commit.{node_name};
 ghost use Rattle.ns_plan.specs.After.{after_stops, part_on, stop_keys};
-ghost use Rattle.ns_plan.specs.Loads.{AreApart, AreLeft, AreLoads, IsPlaceOf, IsTaken, taken};
+ghost use Rattle.ns_plan.specs.Loads.{AreApart, AreLeft, AreLoads, IsPlaceOf, IsTaken, is_named, taken};
 ghost use Rattle.ns_plan.specs.Looks.{AreCounted, IsOnFewNodes};
 
 use crate::after::load;
@@ -37,15 +37,29 @@ fn walk_to(nodes: &[Shared<PoolNode>], name: &Text) -> Option<usize>
     None
 }
 
-/// The place of the node with that name. It costs a binary search, and a walk only if that fails.
-fn place_of(nodes: &[Shared<PoolNode>], name: &Text) -> Option<usize>
+/// Whether there is a node at the place, and it has that name.
+fn is_named(nodes: &[Shared<PoolNode>], name: &Text, place: usize) -> bool
+    ensures { result ≡ is_named nodes.now name.now place }
+{
+    match nodes.get(place) {
+        Some(node) => same_text(&node.get().name, name),
+        None => false,
+    }
+}
+
+/// The place of the node with that name, which is looked for at `near` first. Else it costs a binary search, and a walk only if
+/// that fails.
+fn place_of(nodes: &[Shared<PoolNode>], name: &Text, near: usize) -> Option<usize>
     ensures { IsPlaceOf nodes.now name.now result }
 {
-    let place = guess(nodes, name);
-    match nodes.get(place) {
-        Some(node) if same_text(&node.get().name, name) => Some(place),
-        _ => walk_to(nodes, name),
+    if is_named(nodes, name, near) {
+        return Some(near);
     }
+    let place = guess(nodes, name);
+    if is_named(nodes, name, place) {
+        return Some(place);
+    }
+    walk_to(nodes, name)
 }
 
 fn is_live_in(row: &Allocation, pool: &Text) -> bool
@@ -55,13 +69,13 @@ fn is_live_in(row: &Allocation, pool: &Text) -> bool
 }
 
 /// The place of the allocation's node and what the allocation takes there, if the node is of the snapshot.
-fn taken_by(snapshot: &Snapshot, row: &Allocation) -> Option<(usize, Resources)>
+fn taken_by(snapshot: &Snapshot, row: &Allocation, near: usize) -> Option<(usize, Resources)>
     requires apart { AreApart snapshot.now }
     requires lives { (is_live row.now && same_name snapshot.now.pool row.now.pool) ≡ true }
     ensures { IsTaken snapshot.now
         (λ k. part_on snapshot.now.pool (node_name snapshot.now k) (Some row.now)) result }
 {
-    match place_of(snapshot.nodes.as_slice(), &row.node) {
+    match place_of(snapshot.nodes.as_slice(), &row.node, near) {
         Some(node) => Some((node, row.size)),
         None => None,
     }
@@ -74,6 +88,7 @@ fn taken<V: View>(
     snapshot: &Snapshot,
     stops: &Marked<'_>,
     place: usize,
+    near: usize,
 ) -> Option<(usize, Resources)>
     requires apart { AreApart snapshot.now }
     requires inside { place < length stops.now }
@@ -81,7 +96,7 @@ fn taken<V: View>(
 {
     match view.allocation(&snapshot.namespace, stops.as_slice()[place]) {
         Some(row) if is_live_in(row, &snapshot.pool) && !stops.stands_earlier(place) => {
-            taken_by(snapshot, row)
+            taken_by(snapshot, row, near)
         }
         _ => None,
     }
@@ -100,12 +115,14 @@ fn present_loads<V: View>(view: &V, snapshot: &Snapshot) -> [Resources; 1000]
     loads
 }
 
-/// Takes the allocation of the stop at the place off the load of its node.
+/// Takes the allocation of the stop at the place off the load of its node, which is looked for at `near` first: stops that were
+/// placed one after the other are often on nodes that follow each other.
 fn take_off<V: View>(
     view: &V,
     snapshot: &Snapshot,
     stops: &Marked<'_>,
     place: usize,
+    near: &mut usize,
     loads: &mut [Resources; 1000],
 )
     requires few { length snapshot.now.nodes ≤ 1000 }
@@ -116,8 +133,9 @@ fn take_off<V: View>(
     ensures { let kept = snapshot.now in AreLeft (V.world view.now) kept
         (stop_keys kept.namespace (take (place + 1) stops.now)) loads.new }
 {
-    if let Some((node, size)) = taken(view, snapshot, stops, place) {
+    if let Some((node, size)) = taken(view, snapshot, stops, place, *near) {
         loads[node] = less(loads[node], size);
+        *near = node + 1;
     }
 }
 
@@ -134,8 +152,9 @@ pub(crate) fn loads_of<V: View>(
         snapshot.now result }
 {
     let mut loads = present_loads(view, snapshot);
+    let mut near = 0;
     for place in 0..stops.as_slice().len() {
-        take_off(view, snapshot, stops, place, &mut loads);
+        take_off(view, snapshot, stops, place, &mut near, &mut loads);
     }
     loads
 }

@@ -4,10 +4,10 @@ ghost use Rattle.std.specs.Prelude.{◌≡◌, ◌+◌, [], false, nat_lt};
 ghost use Rattle.ns_types.specs.declared.node.Class.{Class};
 ghost use Rattle.ns_types.specs.State.Rows.{offered_class};
 ghost use Rattle.ns_types.specs.Steps.{greatest};
-ghost use Rattle.ns_counters.specs.Bounds.{is_last_index, quota_passes, room_passes};
+ghost use Rattle.ns_counters.specs.Bounds.{any_last_index, is_last_index, quota_passes, room_passes};
 ghost use Rattle.ns_counters.specs.Given.{given_limits_pass, given_room_passes};
 ghost use Rattle.ns_applier.specs.Judging.{allocations_pass, eviction_passes, node_passes};
-ghost use Rattle.ns_applier.specs.Passing.{end_passes, left_quota_passes, left_room_passes};
+ghost use Rattle.ns_applier.specs.Passing.{NoRoomPasses, end_passes, left_quota_passes, left_room_passes};
 ghost use Rattle.ns_types.specs.Working.Parts.{lives_at};
 ghost use Rattle.ns_tables.specs.World.{world_of};
 
@@ -67,15 +67,34 @@ fn evicts_any(placements: &[Placement]) -> bool {
         .any(|placement| !placement.evictions.as_slice().is_empty())
 }
 
+/// Whether an index may pass its bound because the plan ends an allocation and evaluations wake. If the plan ends none, that is
+/// not looked at.
+fn ends_may_wake(tables: &Tables, plan: &Plan) -> bool
+    ensures { result ≡ false → any_last_index (world_of tables.now) ≡ false }
+{
+    !ends_any(plan) || wakes_may_pass(tables)
+}
+
+/// Whether a counter may pass its bound by room on a node.
+fn rooms_may_pass(tables: &Tables, wakes: bool) -> bool
+    requires { wakes ≡ false → any_last_index (world_of tables.now) ≡ false }
+    ensures { result ≡ false → NoRoomPasses (world_of tables.now) }
+{
+    wakes || tables.pools.may_be_at_bound()
+}
+
 /// The tables, prepared for looking at the counters that releases raise. Contracts see the world.
 ///
 /// If no blocked evaluation is of a namespace whose index is at its bound, no evaluation that wakes passes an index.
-/// That is looked at once, and only for a plan that ends an allocation. Then a release costs a look-up. Only if an
-/// index may pass its bound, a release costs a walk over the blocked evaluations.
+/// That is looked at once, and only for a plan that ends an allocation. Then the release of a quota costs a look-up, and room
+/// on a node costs nothing unless a pool's release number ever was at its bound. Only if an index may pass its bound, a release
+/// costs a walk over the blocked evaluations.
 #[derive(Drop)]
 pub struct Headroom<'a> {
     tables: &'a Tables,
     wakes: bool,
+    /// Whether a counter may pass its bound by room on a node.
+    rooms: bool,
 }
 
 impl<'a> Model for Headroom<'a> {
@@ -83,6 +102,7 @@ impl<'a> Model for Headroom<'a> {
     ghost use Rattle.std.specs.Coded.{codes};
     ghost use Rattle.std.specs.FinMap.{code};
     ghost use Rattle.ns_counters.specs.Bounds.{any_last_index};
+    ghost use Rattle.ns_applier.specs.Passing.{NoRoomPasses};
     ghost use Rattle.ns_types.specs.State.Rows.{World};
     ghost use Rattle.ns_tables.specs.World.{world_of};
 
@@ -92,7 +112,8 @@ impl<'a> Model for Headroom<'a> {
 
     ghost view = { λ h. world_of h.tables.now };
 
-    ghost invariant = { λ h. h.wakes ≡ false → any_last_index (world_of h.tables.now) ≡ false };
+    ghost invariant = { λ h. (h.wakes ≡ false → any_last_index (world_of h.tables.now) ≡ false)
+        × (h.rooms ≡ false → NoRoomPasses (world_of h.tables.now)) };
 }
 
 impl<'a> Headroom<'a> {
@@ -101,9 +122,11 @@ impl<'a> Headroom<'a> {
     pub fn new(tables: &'a Tables, plan: &Plan) -> Headroom<'a>
         ensures { result ≡ world_of tables.now }
     {
+        let wakes = ends_may_wake(tables, plan);
         Headroom {
             tables,
-            wakes: !ends_any(plan) || wakes_may_pass(tables),
+            wakes,
+            rooms: rooms_may_pass(tables, wakes),
         }
     }
 
@@ -172,6 +195,9 @@ impl<'a> Headroom<'a> {
     fn left_room_passes(&self, row: &Allocation) -> bool
         ensures { result ≡ left_room_passes self.now self.now row.now }
     {
+        if !self.rooms {
+            return false;
+        }
         match self.tables.node(&row.pool, &row.node) {
             Some(node) => is_free(node) && self.room_passes(&row.pool, &node.offer),
             None => false,
