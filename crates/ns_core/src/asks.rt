@@ -40,8 +40,11 @@ impl Parts {
         requires reads { only_reads command.now ≡ true }
         ensures { MakesAsk namespace.now command.now self.now result self.now }
     {
-        let content = ns_jobs::read(&self.tables, &self.live, namespace, command)?;
-        Ok(self.reply(namespace, content))
+        let index = self.index(namespace);
+        match ns_jobs::read(&self.tables, &self.live, namespace, command) {
+            Ok(content) => Ok(Reply { index, content }),
+            Err(refusal) => Err(refusal),
+        }
     }
 
     /// Prepares the reply and the change of a command that writes, for each secret that has the right.
@@ -73,8 +76,13 @@ impl Parts {
         ensures index { IsIndexed self.new }
     {
         let prepared = self.prepare(namespace, command);
-        let content = self.make(prepared)?;
-        Ok(self.reply(namespace, content))
+        match self.make(prepared) {
+            Ok(content) => Ok(Reply {
+                index: self.index(namespace),
+                content,
+            }),
+            Err(refusal) => Err(refusal),
+        }
     }
 
     /// Makes the step of the command, or refuses it and leaves the state as it is.

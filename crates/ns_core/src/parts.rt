@@ -1,7 +1,7 @@
 //! All that a core holds: the access lists, the tables of the whole world, the index of live allocations, with the nodes that
 //! snapshots share, and the index of the queues.
 
-ghost use Rattle.std.specs.Prelude.{◌≡◌, IfOk, None, option_map};
+ghost use Rattle.std.specs.Prelude.{◌≡◌, IfOk, None, Ok, option_map};
 ghost use Rattle.std.specs.FinMap.{get};
 ghost use Rattle.ns_types.specs.Steps.{opening};
 ghost use Rattle.ns_core.specs.Answering.{MakesPrepared};
@@ -51,13 +51,13 @@ impl Parts {
         })
     }
 
-    /// Settles the change that was prepared for a step, or leaves the parts as they are.
-    pub fn make(&mut self, prepared: Result<Prepared, Refusal>) -> Result<Content, Refusal>
+    /// Settles the change, or leaves the parts as they are.
+    pub fn make_prepared(&mut self, prepared: Prepared) -> Result<Content, Refusal>
         requires { IsKept self.old }
-        ensures made { MakesPrepared prepared self.old result self.new }
+        ensures made { MakesPrepared (Ok prepared) self.old result self.new }
         ensures index { IsIndexed self.new }
     {
-        let Prepared { content, change } = prepared?;
+        let Prepared { content, change } = prepared;
         let concluded = conclude(&mut self.tables, &mut self.live, &mut self.turns, change);
         if let Err(refusal) = concluded {
             drop(content);
@@ -66,27 +66,26 @@ impl Parts {
         Ok(content)
     }
 
+    /// Settles the change that was prepared for a step, or leaves the parts as they are.
+    pub fn make(&mut self, prepared: Result<Prepared, Refusal>) -> Result<Content, Refusal>
+        requires { IsKept self.old }
+        ensures made { MakesPrepared prepared self.old result self.new }
+        ensures index { IsIndexed self.new }
+    {
+        match prepared {
+            Ok(prepared) => self.make_prepared(prepared),
+            Err(refusal) => Err(refusal),
+        }
+    }
+
     /// The namespace's index, if the namespace exists.
-    fn index(&self, namespace: &Text) -> Option<u64>
+    pub fn index(&self, namespace: &Text) -> Option<u64>
         ensures { result
             ≡ option_map (λ t. t.index) (get (world_of self.now).tenants namespace.now) }
     {
         match self.tables.tenants.get(namespace) {
             Some(tenant) => Some(tenant.index),
             None => None,
-        }
-    }
-
-    /// The reply to a command about a namespace, with the namespace's index.
-    pub fn reply(&self, namespace: &Text, content: Content) -> Reply
-        ensures { result ≡ record {
-          index = option_map (λ t. t.index) (get (world_of self.now).tenants namespace.now);
-          content = content;
-        } }
-    {
-        Reply {
-            index: self.index(namespace),
-            content,
         }
     }
 }

@@ -1,6 +1,6 @@
 //! Workers' steps over the parts.
 
-ghost use Rattle.std.specs.Prelude.{◌≡◌, IfOk, Some};
+ghost use Rattle.std.specs.Prelude.{◌≡◌, IfOk, Ok, Some};
 ghost use Rattle.ns_types.specs.declared.step.Step.TheVariants as Step;
 ghost use Rattle.ns_broker.specs.Snapping.{kept_at};
 ghost use Rattle.ns_core.specs.Answering.{MakesStep};
@@ -22,14 +22,26 @@ use ns_types::snapshot::Snapshot;
 use ns_types::text::Text;
 
 impl Parts {
+    /// Makes the step, or leaves the state as it is.
+    fn work_prepared(&mut self, prepared: Prepared) -> Result<Reply, Refusal>
+        requires { IsKept self.old }
+        ensures made { MakesWork (Ok prepared) self.old result self.new }
+        ensures index { IsIndexed self.new }
+    {
+        let content = self.make_prepared(prepared)?;
+        Ok(plain(content))
+    }
+
     /// Makes the step that was prepared, or leaves the state as it is.
     pub fn work(&mut self, prepared: Result<Prepared, Refusal>) -> Result<Reply, Refusal>
         requires { IsKept self.old }
         ensures made { MakesWork prepared self.old result self.new }
         ensures index { IsIndexed self.new }
     {
-        let content = self.make(prepared)?;
-        Ok(plain(content))
+        match prepared {
+            Ok(prepared) => self.work_prepared(prepared),
+            Err(refusal) => Err(refusal),
+        }
     }
 
     /// Makes the step in which a worker dequeues an evaluation, or leaves the state as it is.
@@ -58,7 +70,7 @@ impl Parts {
         ensures index { IsIndexed self.new }
     {
         let Snapped { prepared, snapshot } = snap(&self.tables, &mut self.live, worker, namespace)?;
-        let content = self.make(Ok(prepared))?;
+        let content = self.make_prepared(prepared)?;
         drop(content);
         Ok(snapshot)
     }
@@ -76,7 +88,7 @@ impl Parts {
         ensures index { IsIndexed self.new }
     {
         let prepared = submit(&self.tables, worker, namespace, planned)?;
-        self.work(Ok(prepared))
+        self.work_prepared(prepared)
     }
 
     /// Makes the step in which a worker's plan is applied, or leaves the state as it is.
@@ -102,7 +114,7 @@ impl Parts {
         ensures index { IsIndexed self.new }
     {
         let prepared = finish(&self.tables, worker, namespace, planned)?;
-        self.work(Ok(prepared))
+        self.work_prepared(prepared)
     }
 
     /// Makes the step in which a worker gives its evaluation back, or leaves the state as it is.

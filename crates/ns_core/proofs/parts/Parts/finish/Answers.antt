@@ -22,5 +22,5 @@ returns-clause-made c =
     let step = Step.Finish c.args.worker c.args.namespace.now in
     let x = c.in_ok-prepared.prepared in
     finished_by c.args.self.now c.requires.valid c.args.worker c.args.namespace.now c.args.planned.now x c.in_ok-prepared.ensures
-    (state_of c.work.new.self) c.work.result (c.work.ensures.made step refl refl
+    (state_of c.work_prepared.new.self) c.work_prepared.result (c.work_prepared.ensures.made step refl refl
     (finish_prepares c.args.self.now c.requires.valid c.args.worker c.args.namespace.now c.args.planned.now x c.in_ok-prepared.ensures))

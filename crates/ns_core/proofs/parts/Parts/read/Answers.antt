@@ -1,6 +1,5 @@
 use Rattle.std.specs.Prelude.{Ok, Err}
 use Rattle.std.proofs.Common.{sym, ap, ◌∙◌}
-use Rattle.std.proofs.lemmas.Result.{err_from_is_err_and}
 use Rattle.ns_types.specs.Steps.{said}
 use Rattle.ns_core.specs.Viewed.{state_of}
 use Rattle.ns_core.proofs.Reading.{ask_reads, uses_fit}
@@ -12,13 +11,11 @@ read-requires-clause-fits c = uses_fit (state_of c.args.self.now) c.requires.kep
 pub read-requires-clause-right : goal.read-requires-clause-right
 read-requires-clause-right c = c.requires.kept.index.live
 
-pub returns : goal.returns
-returns c = λ secret allowed. ask_reads (state_of c.args.self.now) c.args.namespace.now secret c.args.command.now c.requires.kept.valid
-    c.requires.reads allowed (Ok c.in_ok-content.content) c.in_ok-content.ensures
-    ∙ ap (λ reply. said (Ok reply) (state_of c.args.self.now)) (sym c.reply.ensures)
+pub returns-in-Ok : goal.returns-in-Ok
+returns-in-Ok c = λ secret allowed. ask_reads (state_of c.args.self.now) c.args.namespace.now secret c.args.command.now c.requires.kept.valid
+    c.requires.reads allowed (Ok c.in-Ok.content) c.in-Ok.ensures
+    ∙ ap (λ index. said (Ok (record { index = index; content = c.in-Ok.content })) (state_of c.args.self.now)) (sym c.index-index.ensures)
 
-pub returns-in_err-content : goal.returns-in_err-content
-returns-in_err-content c = λ secret allowed.
-    let p = err_from_is_err_and c.from_residual.result c.from_residual.ensures.1 in
-    rw (p.1, p.2) (ask_reads (state_of c.args.self.now) c.args.namespace.now secret c.args.command.now c.requires.kept.valid
-    c.requires.reads allowed (Err c.in_err-content.field-0.0) c.in_err-content.ensures)
+pub returns-in-Err : goal.returns-in-Err
+returns-in-Err c = λ secret allowed. ask_reads (state_of c.args.self.now) c.args.namespace.now secret c.args.command.now c.requires.kept.valid
+    c.requires.reads allowed (Err c.in-Err.refusal) c.in-Err.ensures

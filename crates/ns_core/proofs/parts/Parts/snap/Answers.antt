@@ -28,15 +28,15 @@ returns-clause-made c =
     let prepares = c.in_ok-prepared.ensures.snaps.0 in
     let made = c.in_ok-content.ensures.made (Step.Snap c.args.worker c.args.namespace.now) refl
     (snap_prepares c.args.self.now c.requires.valid c.args.worker c.args.namespace.now x prepares) in
-    made ∙ ap (λ (content : Content). said (Ok (record { index = None; content = content })) (state_of c.make.new.self))
+    made ∙ ap (λ (content : Content). said (Ok (record { index = None; content = content })) (state_of c.make_prepared.new.self))
     (says_its_number c.args.self.now c.requires.valid c.args.worker c.args.namespace.now x prepares c.in_ok-prepared.field-0.snapshot
-    c.in_ok-prepared.ensures.snaps.1 (record { index = None; content = c.in_ok-content.content }) (state_of c.make.new.self) made)
+    c.in_ok-prepared.ensures.snaps.1 (record { index = None; content = c.in_ok-content.content }) (state_of c.make_prepared.new.self) made)
 
 pub returns-clause-kept : goal.returns-clause-kept
 returns-clause-kept c =
     let x = c.in_ok-prepared.field-0.prepared in
     let prepares = c.in_ok-prepared.ensures.snaps.0 in
     still_kept c.args.self.now c.requires.valid c.args.worker c.args.namespace.now x prepares c.in_ok-prepared.field-0.snapshot
-    c.in_ok-prepared.ensures.snaps.1 (record { index = None; content = c.in_ok-content.content }) (state_of c.make.new.self)
+    c.in_ok-prepared.ensures.snaps.1 (record { index = None; content = c.in_ok-content.content }) (state_of c.make_prepared.new.self)
     (c.in_ok-content.ensures.made (Step.Snap c.args.worker c.args.namespace.now) refl
     (snap_prepares c.args.self.now c.requires.valid c.args.worker c.args.namespace.now x prepares))

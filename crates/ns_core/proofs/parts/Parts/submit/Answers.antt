@@ -19,5 +19,5 @@ returns-clause-made c =
     let step = Step.Submit c.args.worker c.args.namespace.now in
     let x = c.in_ok-prepared.prepared in
     handed_in c.args.self.now c.requires.valid c.args.worker c.args.namespace.now c.args.planned x c.in_ok-prepared.ensures
-    (state_of c.work.new.self) c.work.result (c.work.ensures.made step refl refl
+    (state_of c.work_prepared.new.self) c.work_prepared.result (c.work_prepared.ensures.made step refl refl
     (submit_prepares c.args.self.now c.requires.valid c.args.worker c.args.namespace.now c.args.planned x c.in_ok-prepared.ensures))
