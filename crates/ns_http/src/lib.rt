@@ -4,6 +4,7 @@
 mod counting;
 mod engine;
 mod head;
+mod head_text;
 mod header;
 mod input;
 mod output;

@@ -1,20 +1,17 @@
 //! Writes responses as bytes.
-ghost use Rattle.std.specs.Prelude.{◌≡◌, ◌<◌, ◌≤◌, ◌+◌, [], ◌++◌, length, IfOk, OnOk, OnErr, vec_len, vec_capacity, decimal, false};
-ghost use Rattle.ns_types.specs.Wire.Responses.{index_line, close_line, response_head};
+ghost use Rattle.std.specs.Prelude.{◌≡◌, ◌<◌, ◌≤◌, ◌+◌, [], ◌++◌, length, IfOk, OnOk, OnErr, vec_len, vec_capacity, false};
+ghost use Rattle.ns_types.specs.Wire.Responses.{response_head};
 ghost use Rattle.ns_http.specs.Counts.{HasGrown, IsOpen, IsWriteFault};
-ghost use Rattle.ns_http.specs.Output.{response_front, wire_of, WritesAll, WritesPart};
+ghost use Rattle.ns_http.specs.Output.{wire_of, WritesAll, WritesPart};
 
 use crate::counting::{Counted, is_interruption};
-use crate::response::{Outgoing, content_type, phrase};
-use itoa::Buffer;
+use crate::head_text::{HeadText, MAX_RESPONSE_HEAD, put_head};
+use crate::response::Outgoing;
 use std::alloc::{AllocError, Allocator};
 use std::io::Write;
 
 /// Room for the longest head of a response, and for a short body behind it.
 pub(crate) const OUTPUT_LEN: usize = 65_536;
-
-/// The most bytes that the head of a response takes.
-const MAX_RESPONSE_HEAD: usize = 512;
 
 /// How many interrupted writes of one text are made again.
 pub const INTERRUPTION_LIMIT: u64 = 65_536;
@@ -67,8 +64,6 @@ impl<A: Allocator> Output<A> {
         Ok(Output { bytes })
     }
 
-    /// Inlined, so that a constant is copied without a call.
-    #[inline(always)]
     fn put(&mut self, bytes: &[u8])
         requires { vec_len self.old.bytes + length bytes.now ≤ OUTPUT_LEN }
         ensures value { self.new.bytes.items ≡ self.old.bytes.items ++ bytes.now }
@@ -77,66 +72,15 @@ impl<A: Allocator> Output<A> {
         let _ = self.bytes.extend_from_slice(bytes);
     }
 
-    fn put_number(&mut self, n: u64)
-        requires { vec_len self.old.bytes + 20 ≤ OUTPUT_LEN }
-        ensures value { self.new.bytes.items ≡ self.old.bytes.items ++ decimal n }
-        ensures len { vec_len self.new.bytes ≤ vec_len self.old.bytes + 20 }
-    {
-        let mut buffer = Buffer::new();
-        self.put(buffer.format(n).as_bytes());
-    }
-
-    fn put_index(&mut self, index: Option<u64>)
-        requires { vec_len self.old.bytes + 40 ≤ OUTPUT_LEN }
-        ensures value { self.new.bytes.items ≡ self.old.bytes.items ++ index_line index }
-        ensures len { vec_len self.new.bytes ≤ vec_len self.old.bytes + 40 }
-    {
-        if let Some(index) = index {
-            self.put(b"\r\nX-Nomad-Index: ");
-            self.put_number(index);
-        }
-    }
-
-    fn put_close(&mut self, close: bool)
-        requires { vec_len self.old.bytes + 20 ≤ OUTPUT_LEN }
-        ensures value { self.new.bytes.items ≡ self.old.bytes.items ++ close_line close }
-        ensures len { vec_len self.new.bytes ≤ vec_len self.old.bytes + 20 }
-    {
-        if close {
-            self.put(b"\r\nConnection: close");
-        }
-    }
-
-    /// Writes the head up to the media type. For status 200 it is one piece.
-    fn put_front(&mut self, status: u16)
-        requires { vec_len self.old.bytes + 160 ≤ OUTPUT_LEN }
-        ensures value { self.new.bytes.items ≡ self.old.bytes.items ++ response_front status }
-        ensures len { vec_len self.new.bytes ≤ vec_len self.old.bytes + 160 }
-    {
-        if status == 200 {
-            self.put(b"HTTP/1.1 200 OK\r\nContent-Type: application/json");
-            return;
-        }
-        self.put(b"HTTP/1.1 ");
-        self.put_number(u64::from(status));
-        self.put(b" ");
-        self.put(phrase(status));
-        self.put(b"\r\nContent-Type: ");
-        self.put(content_type(status));
-    }
-
     fn put_head(&mut self, reply: &Outgoing<'_>, close: bool)
-        requires { vec_len self.old.bytes + 512 ≤ OUTPUT_LEN }
+        requires { vec_len self.old.bytes + MAX_RESPONSE_HEAD ≤ OUTPUT_LEN }
         ensures value { self.new.bytes.items ≡ self.old.bytes.items
             ++ response_head reply.now.status reply.now.index (length reply.now.body.now) close }
-        ensures len { vec_len self.new.bytes ≤ vec_len self.old.bytes + 512 }
+        ensures len { vec_len self.new.bytes ≤ vec_len self.old.bytes + MAX_RESPONSE_HEAD }
     {
-        self.put_front(reply.status);
-        self.put_index(reply.index);
-        self.put(b"\r\nContent-Length: ");
-        self.put_number(reply.body.len() as u64);
-        self.put_close(close);
-        self.put(b"\r\n\r\n");
+        let mut head = HeadText::new();
+        put_head(&mut head, reply, close);
+        self.put(head.as_str().as_bytes());
     }
 
     /// Sends what waits.
@@ -161,7 +105,7 @@ impl<A: Allocator> Output<A> {
         writer: &mut Counted<W>,
         body_len: usize,
     ) -> Result<(), WriteFault>
-        ensures room { OnOk result (vec_len self.new.bytes + 512 ≤ OUTPUT_LEN) }
+        ensures room { OnOk result (vec_len self.new.bytes + MAX_RESPONSE_HEAD ≤ OUTPUT_LEN) }
         ensures ok { OnOk result (Sends W.contents writer.old writer.new self.old self.new []) }
         ensures err { OnErr result
             (WritesPart W.contents writer.old writer.new (waiting self.old)) }

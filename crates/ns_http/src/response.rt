@@ -62,33 +62,33 @@ fn fault_refusal(fault: HeadFault) -> Refusal
 }
 
 /// The phrase that goes with the status.
-pub(crate) fn phrase(status: u16) -> &'static [u8]
+pub(crate) fn phrase(status: u16) -> &'static str
     ensures value { result.now ≡ phrase status }
     ensures len { length result.now ≤ 32 }
 {
     match status {
-        200 => b"OK",
-        400 => b"Bad Request",
-        403 => b"Forbidden",
-        404 => b"Not Found",
-        405 => b"Method Not Allowed",
-        409 => b"Conflict",
-        411 => b"Length Required",
-        413 => b"Content Too Large",
-        501 => b"Not Implemented",
-        503 => b"Service Unavailable",
-        _ => b"",
+        200 => "OK",
+        400 => "Bad Request",
+        403 => "Forbidden",
+        404 => "Not Found",
+        405 => "Method Not Allowed",
+        409 => "Conflict",
+        411 => "Length Required",
+        413 => "Content Too Large",
+        501 => "Not Implemented",
+        503 => "Service Unavailable",
+        _ => "",
     }
 }
 
 /// The media type of a body with the status.
-pub(crate) fn content_type(status: u16) -> &'static [u8]
+pub(crate) fn content_type(status: u16) -> &'static str
     ensures value { result.now ≡ content_type status }
     ensures len { length result.now ≤ 32 }
 {
     if status == 200 {
-        b"application/json"
+        "application/json"
     } else {
-        b"text/plain; charset=utf-8"
+        "text/plain; charset=utf-8"
     }
 }

@@ -10,6 +10,7 @@ ghost use Rattle.ns_json.specs.JobText.{Continues, joined, member_text, numbered
 ghost use Rattle.ns_json.specs.Rendering.{constraint_json, group_json, job_json, task_json};
 
 use crate::job_reply::{operand_text, target_text};
+use crate::text_buffer::TextBuffer;
 use itoa::Buffer;
 use json::Writer;
 use ns_types::job::{Constraint, Group, JobKind, Task};
@@ -18,11 +19,10 @@ use std::alloc::{AllocError, Global};
 
 /// Inlined, as what passes it constants is, so that these are copied without a call.
 #[inline(always)]
-fn push(out: &mut String, text: &str) -> Result<(), AllocError>
-    ensures { OnOk result (Continues (string_bytes out.old) (string_bytes out.new)
-        (text.now)) }
+fn push(out: &mut TextBuffer, text: &str) -> Result<(), AllocError>
+    ensures { OnOk result (Continues out.old out.new text.now) }
 {
-    out.push_str(text)
+    out.push(text)
 }
 
 /// Whether no byte of a JSON string with this text is escaped.
@@ -43,8 +43,8 @@ fn without_quotes(text: &str) -> &str
 }
 
 /// Adds the text as it stands in a JSON string in which some bytes are escaped.
-fn push_escaped(out: &mut String, alloc: Global, text: &str) -> Result<(), AllocError>
-    ensures { OnOk result (Continues (string_bytes out.old) (string_bytes out.new)
+fn push_escaped(out: &mut TextBuffer, alloc: Global, text: &str) -> Result<(), AllocError>
+    ensures { OnOk result (Continues out.old out.new
         (escape text.now)) }
 {
     let mut writer = Writer::new(Vec::new(alloc));
@@ -55,8 +55,8 @@ fn push_escaped(out: &mut String, alloc: Global, text: &str) -> Result<(), Alloc
 }
 
 /// Adds the text as it stands in a JSON string, without the quotes.
-fn push_text(out: &mut String, alloc: Global, text: &str) -> Result<(), AllocError>
-    ensures { OnOk result (Continues (string_bytes out.old) (string_bytes out.new)
+fn push_text(out: &mut TextBuffer, alloc: Global, text: &str) -> Result<(), AllocError>
+    ensures { OnOk result (Continues out.old out.new
         (escape text.now)) }
 {
     if is_plain(text) {
@@ -65,8 +65,8 @@ fn push_text(out: &mut String, alloc: Global, text: &str) -> Result<(), AllocErr
     push_escaped(out, alloc, text)
 }
 
-fn push_number(out: &mut String, n: u64) -> Result<(), AllocError>
-    ensures { OnOk result (Continues (string_bytes out.old) (string_bytes out.new)
+fn push_number(out: &mut TextBuffer, n: u64) -> Result<(), AllocError>
+    ensures { OnOk result (Continues out.old out.new
         (decimal n)) }
 {
     let mut buffer = Buffer::new();
@@ -75,8 +75,8 @@ fn push_number(out: &mut String, n: u64) -> Result<(), AllocError>
 
 /// Adds the text `before`, and the number.
 #[inline(always)]
-fn push_numbered(out: &mut String, before: &str, n: u64) -> Result<(), AllocError>
-    ensures { OnOk result (Continues (string_bytes out.old) (string_bytes out.new)
+fn push_numbered(out: &mut TextBuffer, before: &str, n: u64) -> Result<(), AllocError>
+    ensures { OnOk result (Continues out.old out.new
         (numbered before.now n)) }
 {
     push(out, before)?;
@@ -85,8 +85,13 @@ fn push_numbered(out: &mut String, before: &str, n: u64) -> Result<(), AllocErro
 
 /// Adds the text `before`, which ends with a quote, and the other text behind that quote.
 #[inline(always)]
-fn push_texted(out: &mut String, alloc: Global, before: &str, text: &str) -> Result<(), AllocError>
-    ensures { OnOk result (Continues (string_bytes out.old) (string_bytes out.new)
+fn push_texted(
+    out: &mut TextBuffer,
+    alloc: Global,
+    before: &str,
+    text: &str,
+) -> Result<(), AllocError>
+    ensures { OnOk result (Continues out.old out.new
         (spelled before.now text.now)) }
 {
     push(out, before)?;
@@ -95,11 +100,11 @@ fn push_texted(out: &mut String, alloc: Global, before: &str, text: &str) -> Res
 
 #[tactic(auto, unfolding(crate::specs::Rendering::constraint_json))]
 fn push_constraint(
-    out: &mut String,
+    out: &mut TextBuffer,
     alloc: Global,
     constraint: &Constraint,
 ) -> Result<(), AllocError>
-    ensures { OnOk result (Continues (string_bytes out.old) (string_bytes out.new)
+    ensures { OnOk result (Continues out.old out.new
         (compact_text (constraint_json constraint.now))) }
 {
     let target = target_text(alloc, &constraint.target)?;
@@ -112,11 +117,11 @@ fn push_constraint(
 
 /// Adds the constraints, each behind a comma.
 fn push_more_constraints(
-    out: &mut String,
+    out: &mut TextBuffer,
     alloc: Global,
     constraints: &[Constraint],
 ) -> Result<(), AllocError>
-    ensures { OnOk result (Continues (string_bytes out.old) (string_bytes out.new)
+    ensures { OnOk result (Continues out.old out.new
         (flat_map (λ x. 44 ∷ compact_text (constraint_json x)) constraints.now)) }
 {
     for constraint in constraints {
@@ -127,11 +132,11 @@ fn push_more_constraints(
 }
 
 fn push_constraints(
-    out: &mut String,
+    out: &mut TextBuffer,
     alloc: Global,
     constraints: &[Constraint],
 ) -> Result<(), AllocError>
-    ensures { OnOk result (Continues (string_bytes out.old) (string_bytes out.new)
+    ensures { OnOk result (Continues out.old out.new
         (joined (λ x. compact_text (constraint_json x)) constraints.now)) }
 {
     let [first, rest @ ..] = constraints else {
@@ -142,8 +147,8 @@ fn push_constraints(
 }
 
 #[tactic(auto, unfolding(crate::specs::Rendering::task_json))]
-fn push_task(out: &mut String, alloc: Global, task: &Task) -> Result<(), AllocError>
-    ensures { OnOk result (Continues (string_bytes out.old) (string_bytes out.new)
+fn push_task(out: &mut TextBuffer, alloc: Global, task: &Task) -> Result<(), AllocError>
+    ensures { OnOk result (Continues out.old out.new
         (compact_text (task_json task.now))) }
 {
     push_texted(out, alloc, "{\"Name\":\"", task.name.as_str())?;
@@ -153,8 +158,8 @@ fn push_task(out: &mut String, alloc: Global, task: &Task) -> Result<(), AllocEr
 }
 
 /// Adds the tasks, each behind a comma.
-fn push_more_tasks(out: &mut String, alloc: Global, tasks: &[Task]) -> Result<(), AllocError>
-    ensures { OnOk result (Continues (string_bytes out.old) (string_bytes out.new)
+fn push_more_tasks(out: &mut TextBuffer, alloc: Global, tasks: &[Task]) -> Result<(), AllocError>
+    ensures { OnOk result (Continues out.old out.new
         (flat_map (λ x. 44 ∷ compact_text (task_json x)) tasks.now)) }
 {
     for task in tasks {
@@ -164,8 +169,8 @@ fn push_more_tasks(out: &mut String, alloc: Global, tasks: &[Task]) -> Result<()
     Ok(())
 }
 
-fn push_tasks(out: &mut String, alloc: Global, tasks: &[Task]) -> Result<(), AllocError>
-    ensures { OnOk result (Continues (string_bytes out.old) (string_bytes out.new)
+fn push_tasks(out: &mut TextBuffer, alloc: Global, tasks: &[Task]) -> Result<(), AllocError>
+    ensures { OnOk result (Continues out.old out.new
         (joined (λ x. compact_text (task_json x)) tasks.now)) }
 {
     let [first, rest @ ..] = tasks else {
@@ -176,8 +181,8 @@ fn push_tasks(out: &mut String, alloc: Global, tasks: &[Task]) -> Result<(), All
 }
 
 #[tactic(auto, unfolding(crate::specs::Rendering::group_json))]
-fn push_group(out: &mut String, alloc: Global, group: &Group) -> Result<(), AllocError>
-    ensures { OnOk result (Continues (string_bytes out.old) (string_bytes out.new)
+fn push_group(out: &mut TextBuffer, alloc: Global, group: &Group) -> Result<(), AllocError>
+    ensures { OnOk result (Continues out.old out.new
         (compact_text (group_json group.now))) }
 {
     push_numbered(out, "{\"Count\":", group.count)?;
@@ -189,8 +194,8 @@ fn push_group(out: &mut String, alloc: Global, group: &Group) -> Result<(), Allo
 }
 
 /// Adds the groups, each behind a comma.
-fn push_more_groups(out: &mut String, alloc: Global, groups: &[Group]) -> Result<(), AllocError>
-    ensures { OnOk result (Continues (string_bytes out.old) (string_bytes out.new)
+fn push_more_groups(out: &mut TextBuffer, alloc: Global, groups: &[Group]) -> Result<(), AllocError>
+    ensures { OnOk result (Continues out.old out.new
         (flat_map (λ x. 44 ∷ compact_text (group_json x)) groups.now)) }
 {
     for group in groups {
@@ -200,8 +205,8 @@ fn push_more_groups(out: &mut String, alloc: Global, groups: &[Group]) -> Result
     Ok(())
 }
 
-fn push_groups(out: &mut String, alloc: Global, groups: &[Group]) -> Result<(), AllocError>
-    ensures { OnOk result (Continues (string_bytes out.old) (string_bytes out.new)
+fn push_groups(out: &mut TextBuffer, alloc: Global, groups: &[Group]) -> Result<(), AllocError>
+    ensures { OnOk result (Continues out.old out.new
         (joined (λ x. compact_text (group_json x)) groups.now)) }
 {
     let [first, rest @ ..] = groups else {
@@ -247,8 +252,8 @@ fn stop_text<'a>(stop: bool) -> &'a str
 
 /// Adds the members between the constraints and the groups.
 #[tactic(auto, unfolding(crate::specs::JobText::member_text))]
-fn push_members(out: &mut String, alloc: Global, job: &JobShown) -> Result<(), AllocError>
-    ensures { OnOk result (Continues (string_bytes out.old) (string_bytes out.new)
+fn push_members(out: &mut TextBuffer, alloc: Global, job: &JobShown) -> Result<(), AllocError>
+    ensures { OnOk result (Continues out.old out.new
         (member_text job.now)) }
 {
     let document = job.row.document.get();
@@ -265,8 +270,8 @@ fn push_members(out: &mut String, alloc: Global, job: &JobShown) -> Result<(), A
 }
 
 #[tactic(auto, unfolding(crate::specs::Rendering::job_json))]
-fn push_job(out: &mut String, alloc: Global, job: &JobShown) -> Result<(), AllocError>
-    ensures { OnOk result (Continues (string_bytes out.old) (string_bytes out.new)
+fn push_job(out: &mut TextBuffer, alloc: Global, job: &JobShown) -> Result<(), AllocError>
+    ensures { OnOk result (Continues out.old out.new
         (compact_text (job_json job.now))) }
 {
     let document = job.row.document.get();
@@ -284,7 +289,7 @@ fn push_job(out: &mut String, alloc: Global, job: &JobShown) -> Result<(), Alloc
 pub fn job_text(alloc: Global, job: &JobShown) -> Result<String, AllocError>
     ensures { IfOk result (λ s. string_bytes s ≡ compact_text (job_json job.now)) }
 {
-    let mut out = String::with_capacity(alloc, 512)?;
+    let mut out = TextBuffer::new(alloc);
     push_job(&mut out, alloc, job)?;
-    Ok(out)
+    out.into_string()
 }

@@ -9,6 +9,7 @@ pub mod member;
 pub mod part;
 mod registration;
 mod reply;
+mod text_buffer;
 
 pub use registration::{RegistrationDocument, read_registration};
 pub use reply::{ReplyRoom, render};

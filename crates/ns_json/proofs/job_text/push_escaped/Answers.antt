@@ -1,5 +1,5 @@
 use Rattle.std.proofs.Common.{List, ℕ, ap, subst, ◌∙◌}
-use Rattle.std.specs.Prelude.{OnOk, string_bytes}
+use Rattle.std.specs.Prelude.{OnOk}
 use Rattle.json.specs.Print.{escape}
 use Rattle.ns_json.specs.JobText.{Continues}
 use Rattle.ns_json.proofs.JobTexts.{written_alone}
@@ -11,5 +11,5 @@ returns c =
     written_alone c.args.text.now _ c.new-writer.result c.string.new.self
     c.into_inner.ensures.items c.in_ok-string.ensures.ok (c.string.ensures.room.0) c.new-writer.ensures.tokens
     (c.new-writer.ensures.before ∙ c.new.ensures.items) in
-    subst (λ (t : List ℕ). OnOk c.push.result (Continues (string_bytes c.args.out.now) (string_bytes c.push.new.out) t))
+    subst (λ (t : List ℕ). OnOk c.push.result (Continues c.args.out.now c.push.new.out t))
     (c.without_quotes.ensures (escape c.args.text.now) quoted) c.push.ensures

@@ -1,4 +1,4 @@
-use Rattle.std.proofs.Common.{take, ◌∷◌, string_bytes}
+use Rattle.std.proofs.Common.{take, ◌∷◌}
 use Rattle.std.specs.List.{flat_map}
 use Rattle.serde_json.specs.Written.{compact_text}
 use Rattle.ns_json.specs.JobText.{Continues}
@@ -6,5 +6,5 @@ use Rattle.ns_json.specs.Rendering.{group_json}
 use Rattle.ns_json.proofs.job_text.push_more_groups.Given as goal
 
 abbrev pub invariant-loop-group : goal.invariant-loop-group
-invariant-loop-group l = Continues (string_bytes l.initial.out) (string_bytes l.out)
+invariant-loop-group l = Continues l.initial.out l.out
     (flat_map (λ x. 44 ∷ compact_text (group_json x)) (take l.group-index l.groups))

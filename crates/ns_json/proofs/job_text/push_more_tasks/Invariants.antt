@@ -1,4 +1,4 @@
-use Rattle.std.proofs.Common.{take, ◌∷◌, string_bytes}
+use Rattle.std.proofs.Common.{take, ◌∷◌}
 use Rattle.std.specs.List.{flat_map}
 use Rattle.serde_json.specs.Written.{compact_text}
 use Rattle.ns_json.specs.JobText.{Continues}
@@ -6,5 +6,5 @@ use Rattle.ns_json.specs.Rendering.{task_json}
 use Rattle.ns_json.proofs.job_text.push_more_tasks.Given as goal
 
 abbrev pub invariant-loop-task : goal.invariant-loop-task
-invariant-loop-task l = Continues (string_bytes l.initial.out) (string_bytes l.out)
+invariant-loop-task l = Continues l.initial.out l.out
     (flat_map (λ x. 44 ∷ compact_text (task_json x)) (take l.task-index l.tasks))
