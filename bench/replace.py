@@ -7,13 +7,14 @@
 
 The nodes have room for the job once, so each allocation of the next version takes the room of one of the version before, which
 stops. The job is registered, placed and then registered again: over one connection of `nsd pipe --drive`, which does all steps
-one after the other, and then with `nsd serve --workers 1`, while another connection keeps reading the quotas. The longest of
-these reads waits for the longest step under the server's lock. Of five rounds of each the median counts, and the least and the
-most are printed beside it.
+one after the other, and then with `nsd serve --workers 1`, while another connection keeps reading the quotas. A read waits while
+a step has the server's lock, so the longest of them waits for Apply, and the next for the longest of the other steps. Together
+they wait at least as long as Snap and Apply take, but for the time between two reads, some 0.1 ms. Of five rounds of each the
+median counts, and the least and the most are printed beside it.
 
-At 16,000 allocations Snap and Apply are asked to take 40 ms, and any step 50 ms. The 40 ms are printed beside the whole, which
-also has the registration, the plan and the other steps. If a version was not placed whole, or the one before did not stop
-whole, the exit status is 1.
+At 16,000 allocations Snap and Apply are asked to take 40 ms together, and any step 50 ms. The whole also has the registration,
+the plan, which is made while no lock is held, and the other steps. If a version was not placed whole, or the one before did not
+stop whole, the exit status is 1.
 """
 
 import json
@@ -28,7 +29,8 @@ from served import Connection, Served
 
 ROUNDS = 5
 GROUP = 1_000
-ASKED = {"the whole": 40.0, "the longest read": 50.0}
+WHOLE, LONGEST, TWO = "the whole", "the longest read", "the two longest reads"
+ASKED = {WHOLE: "", LONGEST: ", asked at 16000: 50 ms", TWO: ", asked at 16000: 40 ms"}
 
 
 def job(thousands, version):
@@ -62,13 +64,13 @@ USED = request("GET", "/v1/node/pool/default/nodes")
 
 
 def driven(thousands, limited):
-    """The seconds of the replacement over one connection, and whether all was done."""
+    """The seconds of the replacement over one connection, by what they are of, and whether all was done."""
     server = Server()
     server.ask(nodes(thousands) + tenant(thousands, limited) + [job(thousands, 1)])
     seconds = server.timed([job(thousands, 2)])
     is_right = is_replaced(server.ask([ROWS]), server.ask([USED]), thousands)
     server.end()
-    return seconds, is_right
+    return {WHOLE: seconds}, is_right
 
 
 def body(reply):
@@ -91,24 +93,24 @@ def await_run(connection, number):
 
 
 class Reader(threading.Thread):
-    """Reads the quotas again and again, and keeps the number of reads and the longest time of one."""
+    """Reads the quotas again and again, and keeps the number of reads and the two longest times of one, the longest first."""
 
     def __init__(self, port):
         super().__init__()
         self.connection = Connection(port)
-        self.longest, self.reads, self.is_over = 0.0, 0, False
+        self.longest, self.reads, self.is_over = [0.0, 0.0], 0, False
 
     def run(self):
         read = request("GET", "/v1/quotas")
         while not self.is_over:
             start = time.perf_counter()
             self.connection.ask(read)
-            self.longest = max(self.longest, time.perf_counter() - start)
+            self.longest = sorted([*self.longest, time.perf_counter() - start], reverse=True)[:2]
             self.reads += 1
 
 
 def served(thousands, limited):
-    """The longest read beside the replacement, in seconds, and whether all was done."""
+    """The seconds of the longest reads beside the replacement, by what they are of, and whether all was done."""
     server = Served(["--log-limit", "100000000", "--workers", "1"])
     connection = Connection(server.port)
     connection.all(nodes(thousands) + tenant(thousands, limited) + [job(thousands, 1)])
@@ -122,17 +124,16 @@ def served(thousands, limited):
     await_run(connection, 2)
     is_right = is_replaced(body(connection.ask(ROWS)), body(connection.ask(USED)), thousands)
     server.end()
-    return reader.longest, is_right and reader.reads > 100
+    return {LONGEST: reader.longest[0], TWO: sum(reader.longest)}, is_right and reader.reads > 100
 
 
-def told(what, thousands, measure, limited):
-    """Prints the median of the rounds beside the time that is asked for. Returns whether each round did its work."""
+def measured(thousands, measure, limited):
+    """Prints the median of the rounds for each time, beside what is asked. Returns whether each round did its work."""
     rounds = [measure(thousands, limited) for _ in range(ROUNDS)]
-    taken = statistics.median(seconds for seconds, _ in rounds) * 1e3
-    asked = ASKED[what]
-    least, most = (end(seconds for seconds, _ in rounds) * 1e3 for end in (min, max))
-    print(f"{thousands * GROUP} replaced: {what} took {taken:.1f} ms ({least:.1f} to {most:.1f}), "
-          f"asked at 16000: {asked:.0f} ms", flush=True)
+    for what in rounds[0][0]:
+        taken = sorted(seconds[what] * 1e3 for seconds, _ in rounds)
+        print(f"{thousands * GROUP} replaced: {what} took {statistics.median(taken):.1f} ms "
+              f"({taken[0]:.1f} to {taken[-1]:.1f}){ASKED[what]}", flush=True)
     return all(is_right for _, is_right in rounds)
 
 
@@ -147,8 +148,7 @@ def main(words):
     if not os.path.exists("nsd"):
         print("there is no ./nsd here: build the program first", file=sys.stderr)
         return 2
-    done = [told(what, thousands, measure, limited) for thousands in sizes
-            for what, measure in (("the whole", driven), ("the longest read", served))]
+    done = [measured(thousands, measure, limited) for thousands in sizes for measure in (driven, served)]
     if not all(done):
         print("that is not what the input asks for", file=sys.stderr)
     return 0 if all(done) else 1
