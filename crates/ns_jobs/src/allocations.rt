@@ -17,6 +17,7 @@ use ns_types::allocation::Allocation;
 use ns_types::id::IdKind;
 use ns_types::refusal::Refusal;
 use ns_types::reply::{AllocationShown, Content};
+use ns_types::shared::Shared;
 use ns_types::step::AskCommand;
 use ns_types::text::Text;
 use std::alloc::{AllocError, Global};
@@ -66,6 +67,7 @@ impl Listed for Allocation {
 
 /// The reply to the read of an allocation. `NotFound`: the namespace has no such allocation.
 pub(crate) fn read_allocation(
+    alloc: Global,
     namespace: &Text,
     tenant: &TenantRows,
     number: u64,
@@ -76,6 +78,7 @@ pub(crate) fn read_allocation(
         return Err(Refusal::NotFound);
     };
     let shown = row.show(namespace, number)?;
+    let shown = Shared::new(alloc, shown)?;
     Ok(Content::Allocation(shown))
 }
 

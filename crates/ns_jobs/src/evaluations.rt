@@ -16,6 +16,7 @@ use ns_types::evaluation::Evaluation;
 use ns_types::id::IdKind;
 use ns_types::refusal::Refusal;
 use ns_types::reply::{Content, EvaluationShown};
+use ns_types::shared::Shared;
 use ns_types::step::AskCommand;
 use ns_types::text::Text;
 use std::alloc::{AllocError, Global};
@@ -65,6 +66,7 @@ impl Listed for Evaluation {
 
 /// The reply to the read of an evaluation. `NotFound`: the namespace has no such evaluation.
 pub(crate) fn read_evaluation(
+    alloc: Global,
     namespace: &Text,
     tenant: &TenantRows,
     number: u64,
@@ -75,6 +77,7 @@ pub(crate) fn read_evaluation(
         return Err(Refusal::NotFound);
     };
     let shown = row.show(namespace, number)?;
+    let shown = Shared::new(alloc, shown)?;
     Ok(Content::Evaluation(shown))
 }
 

@@ -15,18 +15,21 @@ use ns_live_index::Live;
 use ns_tables::{Tables, TenantRows};
 use ns_types::refusal::Refusal;
 use ns_types::reply::{Content, NamespaceShown};
+use ns_types::shared::Shared;
 use ns_types::step::AskCommand;
 use ns_types::text::Text;
 use std::alloc::{AllocError, Global};
 
 /// The reply to the read of the namespace's record.
-fn read_namespace(namespace: &Text, tenant: &TenantRows) -> Result<Content, Refusal>
+fn read_namespace(alloc: Global, namespace: &Text, tenant: &TenantRows) -> Result<Content, Refusal>
     ensures { SaysIn namespace.now AskCommand.ReadNamespace tenant.now result }
 {
-    Ok(Content::Namespace(NamespaceShown {
+    let shown = NamespaceShown {
         name: namespace.clone()?,
         row: tenant.namespace.clone()?,
-    }))
+    };
+    let shown = Shared::new(alloc, shown)?;
+    Ok(Content::Namespace(shown))
 }
 
 /// The reply to the read of events.
@@ -61,15 +64,15 @@ fn read_in(
     match command {
         AskCommand::ListJobs(prefix) => list_jobs(alloc, namespace, tenant, prefix),
         AskCommand::ReadJob(id) => read_job(namespace, tenant, id),
-        AskCommand::ReadEvaluation(number) => read_evaluation(namespace, tenant, *number),
-        AskCommand::ReadAllocation(number) => read_allocation(namespace, tenant, *number),
+        AskCommand::ReadEvaluation(number) => read_evaluation(alloc, namespace, tenant, *number),
+        AskCommand::ReadAllocation(number) => read_allocation(alloc, namespace, tenant, *number),
         AskCommand::JobEvaluations(_) | AskCommand::ListEvaluations(_) => {
             Ok(list_evaluations(alloc, namespace, tenant, command)?)
         }
         AskCommand::JobAllocations(_) | AskCommand::ListAllocations(_) => {
             Ok(list_allocations(alloc, namespace, tenant, command)?)
         }
-        AskCommand::ReadNamespace => read_namespace(namespace, tenant),
+        AskCommand::ReadNamespace => read_namespace(alloc, namespace, tenant),
         AskCommand::QuotaUsage(quota) => quota_usage(tables, live, tenant, quota),
         AskCommand::Events(index) => Ok(events_from(alloc, namespace, tenant, *index)?),
         _ => unreachable!(),

@@ -38,11 +38,11 @@ fn body_text(alloc: Global, content: &Content) -> Result<String, AllocError>
 {
     match content {
         Content::Jobs(jobs) => text_of(alloc, jobs),
-        Content::Evaluation(evaluation) => text_of(alloc, evaluation),
+        Content::Evaluation(evaluation) => text_of(alloc, evaluation.get()),
         Content::Evaluations(evaluations) => text_of(alloc, evaluations),
-        Content::Allocation(allocation) => text_of(alloc, allocation),
+        Content::Allocation(allocation) => text_of(alloc, allocation.get()),
         Content::Allocations(allocations) => text_of(alloc, allocations),
-        Content::Namespace(namespace) => text_of(alloc, namespace),
+        Content::Namespace(namespace) => text_of(alloc, namespace.get()),
         Content::Namespaces(namespaces) => text_of(alloc, namespaces),
         Content::Quota(quota) => text_of(alloc, quota),
         Content::Quotas(quotas) => text_of(alloc, quotas),

@@ -11,6 +11,7 @@ use crate::records::{Namespace, Pool, Quota};
 use crate::refusal::Refusal;
 use crate::resources::Resources;
 use crate::rows::Rows;
+use crate::shared::Shared;
 use crate::text::Text;
 use std::alloc::{Allocator, Global};
 
@@ -84,7 +85,7 @@ pub struct TokenShown {
     pub policies: Rows<Text>,
 }
 
-/// What a reply has beside the index.
+/// What a reply has beside the index. The longest rows are shared, so that each move of a reply copies less.
 pub enum Content {
     /// The number of the evaluation that was made, its index, and the job's modify index.
     Registered(u64, u64, u64),
@@ -92,11 +93,11 @@ pub enum Content {
     Stopped(u64, u64),
     Job(JobShown),
     Jobs(Rows<JobShown>),
-    Evaluation(EvaluationShown),
+    Evaluation(Shared<EvaluationShown>),
     Evaluations(Rows<EvaluationShown>),
-    Allocation(AllocationShown),
+    Allocation(Shared<AllocationShown>),
     Allocations(Rows<AllocationShown>),
-    Namespace(NamespaceShown),
+    Namespace(Shared<NamespaceShown>),
     Namespaces(Rows<NamespaceShown>),
     Quota(QuotaShown),
     Quotas(Rows<QuotaShown>),
