@@ -1,6 +1,6 @@
 //! The text of a job in replies: the fixed parts are constants, and the rest is copied right from the job's row.
 
-ghost use Rattle.std.specs.Prelude.{◌≡◌, ℕ, List, [], ◌∷◌, ◌++◌, OnOk, IfOk, codes, decimal, string_bytes};
+ghost use Rattle.std.specs.Prelude.{◌≡◌, ℕ, List, [], ◌∷◌, ◌++◌, OnOk, IfOk, IfSome, codes, decimal, string_bytes};
 ghost use Rattle.std.specs.List.{flat_map, list_all};
 ghost use Rattle.json.specs.Print.{escape};
 ghost use Rattle.json.specs.Run.{is_plain};
@@ -25,13 +25,17 @@ fn push(out: &mut TextBuffer, text: &str) -> Result<(), AllocError>
     out.push(text)
 }
 
-/// Whether no byte of a JSON string with this text is escaped.
+/// Whether no byte of a JSON string with this text is escaped. A loop, as most texts are shorter than a group of bytes that
+/// `all` looks at together.
 fn is_plain(text: &str) -> bool
     ensures { result ≡ list_all is_plain text.now }
 {
-    text.as_bytes()
-        .iter()
-        .all(|b| *b != b'"' && *b != b'\\' && *b >= 32)
+    for b in text.as_bytes() {
+        if *b == b'"' || *b == b'\\' || *b < 32 {
+            return false;
+        }
+    }
+    true
 }
 
 /// The text between its quotes.
@@ -65,10 +69,33 @@ fn push_text(out: &mut TextBuffer, alloc: Global, text: &str) -> Result<(), Allo
     push_escaped(out, alloc, text)
 }
 
+/// The number of one digit.
+#[tactic(auto, using(std::proofs::lemmas::Fmt::decimal_digit))]
+fn digit<'a>(n: u64) -> Option<&'a str>
+    ensures { IfSome result (λ text. text.now ≡ decimal n) }
+{
+    match n {
+        0 => Some("0"),
+        1 => Some("1"),
+        2 => Some("2"),
+        3 => Some("3"),
+        4 => Some("4"),
+        5 => Some("5"),
+        6 => Some("6"),
+        7 => Some("7"),
+        8 => Some("8"),
+        9 => Some("9"),
+        _ => None,
+    }
+}
+
 fn push_number(out: &mut TextBuffer, n: u64) -> Result<(), AllocError>
     ensures { OnOk result (Continues out.old out.new
         (decimal n)) }
 {
+    if let Some(text) = digit(n) {
+        return push(out, text);
+    }
     let mut buffer = Buffer::new();
     push(out, buffer.format(n))
 }

@@ -8,7 +8,7 @@ use std::alloc::{AllocError, Global};
 use std::marker::Model;
 
 /// How many bytes stand in the buffer itself.
-const ROOM: usize = 512;
+const ROOM: usize = 384;
 
 /// A text that grows, which contracts see as its bytes. The last pieces stand in the buffer itself, where a piece is copied
 /// without a look at memory; when they have no more room there, they move to a string.
@@ -63,8 +63,9 @@ impl TextBuffer {
     pub(crate) fn into_string(self) -> Result<String, AllocError>
         ensures { IfOk result (λ s. string_bytes s ≡ self) }
     {
-        let TextBuffer { mut moved, last } = self;
-        moved.push_str(last.as_str())?;
+        let mut text = self;
+        text.moved.push_str(text.last.as_str())?;
+        let TextBuffer { moved, .. } = text;
         Ok(moved)
     }
 }
