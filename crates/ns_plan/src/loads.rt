@@ -47,13 +47,17 @@ fn is_named(nodes: &[Shared<PoolNode>], name: &Text, place: usize) -> bool
     }
 }
 
-/// The place of the node with that name, which is looked for at `near` first. Else it costs a binary search, and a walk only if
-/// that fails.
+/// The place of the node with that name, which is looked for at `near` and behind it first. Else it costs a binary search, and a
+/// walk only if that fails.
 fn place_of(nodes: &[Shared<PoolNode>], name: &Text, near: usize) -> Option<usize>
     ensures { IsPlaceOf nodes.now name.now result }
 {
     if is_named(nodes, name, near) {
         return Some(near);
+    }
+    let next = near.saturating_add(1);
+    if is_named(nodes, name, next) {
+        return Some(next);
     }
     let place = guess(nodes, name);
     if is_named(nodes, name, place) {
@@ -115,8 +119,8 @@ fn present_loads<V: View>(view: &V, snapshot: &Snapshot) -> [Resources; 1000]
     loads
 }
 
-/// Takes the allocation of the stop at the place off the load of its node, which is looked for at `near` first: stops that were
-/// placed one after the other are often on nodes that follow each other.
+/// Takes the allocation of the stop at the place off the load of its node, which is looked for at `near` and behind it first:
+/// allocations that were placed one after the other are often on one node, or on nodes that follow each other.
 fn take_off<V: View>(
     view: &V,
     snapshot: &Snapshot,
@@ -135,7 +139,7 @@ fn take_off<V: View>(
 {
     if let Some((node, size)) = taken(view, snapshot, stops, place, *near) {
         loads[node] = less(loads[node], size);
-        *near = node + 1;
+        *near = node;
     }
 }
 
