@@ -7,10 +7,11 @@
 # PROGRAM is the built program: crates/nsd/out/nsd if none is given. WORDS are given to `nsd serve` as well: with
 # `--rotate 100000` its log is given out, as it is where a server runs for long. wrk sends requests to both over 4 connections that
 # stay open, on this machine, in turn, three times for SECONDS each (5 if none are given). Both have 4 threads for connections:
-# nginx 4 processes of one thread. It prints last the median of each, the quotient of the two, and by how much each read made the
-# memory of `nsd serve` grow. Each read is an entry of the log, of some 700 bytes: 15 seconds at 100,000 a second take 1 GB. So the
-# log's limit has to be more than the requests of all three turns, or reads are answered 503 and nothing is measured. 10,000,000
-# entries would take 7 GB. Packages of Debian: wrk, nginx-light, curl.
+# nginx 4 processes of one thread. It prints last the median of each, the quotient of the two, what a request took of either in
+# processor time and in sleeps of a thread, and by how much each read made the memory of `nsd serve` grow. Each read is an entry of
+# the log, of some 700 bytes: 15 seconds at 100,000 a second take 1 GB. So the log's limit has to be more than the requests of all
+# three turns, or reads are answered 503 and nothing is measured. 10,000,000 entries would take 7 GB. Packages of Debian: wrk,
+# nginx-light, curl, procps.
 set -eu
 root=$(CDPATH='' cd -- "$(dirname -- "$0")/.." && pwd)
 program=${1:-$root/crates/nsd/out/nsd}
@@ -24,7 +25,7 @@ trap 'kill $server $nginx 2>/dev/null || true; wait; rm -rf "$folder"' EXIT
 trap 'exit 1' HUP INT TERM
 
 [ -x "$program" ] || { echo "there is no program $program: ./nsd --help builds it" >&2; exit 1; }
-for tool in wrk curl; do
+for tool in wrk curl pgrep; do
     command -v $tool > "$folder/which" || { echo "$tool is not installed" >&2; exit 1; }
 done
 
@@ -96,6 +97,30 @@ ask() {
 # The bytes of memory that the server has.
 memory() { awk '$1 == "VmRSS:" { printf "%d\n", $2 * 1024 }' "/proc/$server/status"; }
 
+# What the threads of the process and of its children took so far: ticks in the program, ticks in the kernel, and how often they slept.
+taken() {
+    for process in "$1" $(pgrep -P "$1"); do
+        for thread in "/proc/$process/task"/*; do
+            sed 's/.*) //' "$thread/stat"
+            sed -n 's/^voluntary_ctxt_switches:/slept/p' "$thread/status"
+        done
+    done | awk '$1 == "slept" { slept += $2; next } { here += $12; kernel += $13 } END { print here, kernel, slept }'
+}
+
+# The requests per second at the address of this process, and how many there were, as `ask` says, and what they took of it.
+measure() {
+    took=$(taken "$2")
+    said=$(ask "$1")
+    echo "$said $took $(taken "$2")"
+}
+
+# What each request took, from the lines of `measure`.
+each() {
+    awk -v name="$1" -v tick="$(getconf CLK_TCK)" '{ many += $2; here += $6 - $3; kernel += $7 - $4; slept += $8 - $5 }
+        END { micro = 1000000 / tick / many
+            printf "%s, each request: %.2f us in the program, %.2f us in the kernel, %.2f sleeps\n", name, here * micro, kernel * micro, slept / many }' "$2"
+}
+
 median() { sort -n "$1" | sed -n 2p | cut -d ' ' -f 1; }
 
 echo "processors $(getconf _NPROCESSORS_ONLN), load before $(cut -d ' ' -f 1-3 /proc/loadavg)"
@@ -103,18 +128,20 @@ start_server "$@"
 if command -v nginx > "$folder/which"; then start_nginx; fi
 before=$(memory)
 for _ in 1 2 3; do
-    ask "$address" >> "$folder/ours"
+    measure "$address" "$server" >> "$folder/ours"
     echo "nsd serve, requests a second: $(tail -n 1 "$folder/ours" | cut -d ' ' -f 1)"
     [ -n "$nginx" ] || continue
-    ask "127.0.0.1:$beside" >> "$folder/theirs"
+    measure "127.0.0.1:$beside" "$nginx" >> "$folder/theirs"
     echo "nginx, requests a second: $(tail -n 1 "$folder/theirs" | cut -d ' ' -f 1)"
 done
 awk -v grown="$(($(memory) - before))" '{ many += $2 }
     END { printf "nsd serve took %d bytes of memory for each of %d entries of its log\n", grown / many, many }' "$folder/ours"
+each 'nsd serve' "$folder/ours"
 ours=$(median "$folder/ours")
 if [ -z "$nginx" ]; then
     echo "median $ours; nginx is not installed, so it is compared with nothing"
 else
+    each nginx "$folder/theirs"
     theirs=$(median "$folder/theirs")
     awk -v ours="$ours" -v theirs="$theirs" \
         'BEGIN { printf "median %s of nsd, %s of nginx (a constant body of 313 bytes): the quotient is %.2f\n", ours, theirs, ours / theirs }'
