@@ -5,7 +5,7 @@
     python3 bench/growth.py nodes           the same with 1,000 nodes in its own pool, beside 0 and 10,000 in others
     python3 bench/growth.py namespaces      a job is registered, placed and read in the first and the last of 10,000 namespaces
     python3 bench/growth.py crowd           the same under a quota, and stopped, beside 0 and 9,000 namespaces, each with a blocked job
-    python3 bench/growth.py history         a job is registered for the 10th and for the 10,000th time, with --drive and without
+    python3 bench/growth.py history         a job is registered for the 10th and for the 16,000th time, with --drive and without
     python3 bench/growth.py totals          reads of what a quota has in use and of a node's load, of one allocation and of 9,001
     python3 bench/growth.py names           9,999 namespaces are put in the order of their names, and against it
     python3 bench/growth.py small           10,000 jobs of one allocation in 10 namespaces
@@ -30,7 +30,7 @@ NAMESPACES = 10_000
 CROWD = 9_000
 READS = 300_000
 EARLY = 10
-LATE = 10_000
+LATE = 16_000
 
 
 def tenant(name, pool=None):
