@@ -2,6 +2,7 @@
 
     python3 bench/gate_minutes.py                   all tests
     python3 bench/gate_minutes.py --processors 2    the same on two processors, as the smallest machine that they have to pass on
+    python3 bench/gate_minutes.py --first-build     the first build alone
     python3 bench/gate_minutes.py ns_http           these crates, with the crates that they stand on
 
 It clones the last commit into a folder of its own and runs `rt ci --anew` there, which takes nothing from earlier runs on the
@@ -18,6 +19,7 @@ import collections
 import os
 import pathlib
 import resource
+import shutil
 import subprocess
 import sys
 import tempfile
@@ -45,6 +47,14 @@ def below_nsd(lines):
             found.add(name)
             left += stands_on[name]
     return found
+
+
+def leave_first_build(tree, first):
+    """Takes all out of the tree that `./nsd` does not need for the first build: other crates than `first`, and wrong bodies."""
+    lines = (tree / "crates.txt").read_text().splitlines(keepends=True)
+    (tree / "crates.txt").write_text("".join(line for line in lines if line.partition(":")[0] in first))
+    for crate in (tree / "crates").iterdir():
+        shutil.rmtree(crate / "must-fail" if crate.name in first else crate, ignore_errors=True)
 
 
 def words_of(process):
@@ -124,6 +134,7 @@ def print_minutes(taken, total, first):
 def main():
     words = argparse.ArgumentParser()
     words.add_argument("--processors", type=int, default=len(os.sched_getaffinity(0)))
+    words.add_argument("--first-build", action="store_true")
     words.add_argument("names", nargs="*")
     words = words.parse_args()
     os.sched_setaffinity(0, sorted(os.sched_getaffinity(0))[: words.processors])
@@ -135,6 +146,8 @@ def main():
         asked = ["git", "rev-parse", "--short=8", "HEAD"]
         commit = subprocess.run(asked, cwd=tree, check=True, capture_output=True, text=True).stdout.strip()
         first = below_nsd((tree / "crates.txt").read_text().splitlines())
+        if words.first_build:
+            leave_first_build(tree, first)
         taken, total, by_clock, status = run(tree, room, words.names)
     print_minutes(taken, total, first)
     print(f"{total / 60:7.1f} in all, {by_clock / 60:.1f} by the clock on {words.processors} processors, over {commit}")
