@@ -1,11 +1,15 @@
 pub mod Access
 pub mod Additions
+pub mod Calling
 pub mod Choices
 pub mod CommandLemmas
 pub mod Effect
 pub mod Elements
 pub mod Endings
+pub mod Finding
 pub mod Index
+pub mod Matching
+pub mod Meanings
 pub mod OrderedLemmas
 pub mod PairLemmas
 pub mod Plans

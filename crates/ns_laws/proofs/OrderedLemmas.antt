@@ -1,5 +1,6 @@
 -- The first entry that passes, of entries ordered by number, has the least number of those that pass.
-use Rattle.std.specs.Prelude.{◌≡◌, ℕ, ◌<◌, ◌≤◌, Bool, true, false, cond, T, ◌&&◌, List, [], ◌∷◌, map, filter, Option, Some, None, option_map, find}
+use Rattle.std.specs.Prelude.{◌≡◌, ℕ, ◌<◌, ◌≤◌, Bool, true, false, cond, T, ◌&&◌, ◌||◌, List, [], ◌∷◌, map, filter, Option, Some, None, is_some}
+use Rattle.std.specs.Prelude.{option_map, find}
 use Rattle.std.proofs.Common.{refl, sym, ap, subst, ◌∙◌, arith, Ordering, Less}
 use Rattle.std.specs.FinMap.{FinMap, IsAntisymmetric, get, entries, entries_sorted, get-entries, from_entries, get-from_entries}
 use Rattle.std.specs.FinMap.Entries as Entries
@@ -21,20 +22,30 @@ use Rattle.ns_types.proofs.Tables.{each_row, less_by}
 use Rattle.ns_laws.specs.Nodes as law
 use Rattle.ns_laws.specs.Queue as queue
 
+-- ---- the first element that passes
+
+pub found_holds : {A : Type 0} (P : A → Type 0) (p : A → Bool) (es : List A) (e : A) → Each P es → find p es ≡ Some e → (p e ≡ true) × P e
+found_holds P p [] e h is = absurd (none-some e is)
+found_holds P p (x ∷ es) e h is = by (p x) refl is (found_holds P p es e h.1)
+  where
+    by : (b : Bool) → p x ≡ b → cond b (Some x) (find p es) ≡ Some e → (find p es ≡ Some e → (p e ≡ true) × P e) → (p e ≡ true) × P e
+    by true f is go = let same = same_Some x e is in (ap p (sym same) ∙ f, subst P same h.0)
+    by false f is go = go is
+
+pub found_if_any : {A : Type 0} (p : A → Bool) (es : List A) → is_some (find p es) ≡ list_any p es
+found_if_any p [] = refl
+found_if_any p (x ∷ es) = by (p x) (found_if_any p es)
+  where
+    by : (b : Bool) → is_some (find p es) ≡ list_any p es → is_some (cond b (Some x) (find p es)) ≡ (b || list_any p es)
+    by true rest = refl
+    by false rest = rest
+
 -- ---- entries in order
 
 module _ {X : Type 0} where
   pub above : (k : ℕ) (es : List (ℕ × X)) → T (Entries.below_all nat_cmp k es) → Each (λ e. k < e.0) es
   above k [] h = tt
   above k (e ∷ es) h = (ranked k e.0 Less (sym (less_by _ (first _ _ h))), above k es (second _ _ h))
-
-  found_holds : (P : ℕ × X → Type 0) (p : ℕ × X → Bool) (es : List (ℕ × X)) (e : ℕ × X) → Each P es → find p es ≡ Some e → (p e ≡ true) × P e
-  found_holds P p [] e h is = absurd (none-some e is)
-  found_holds P p (x ∷ es) e h is = by (p x) refl is (found_holds P p es e h.1)
-    where
-      by : (b : Bool) → p x ≡ b → cond b (Some x) (find p es) ≡ Some e → (find p es ≡ Some e → (p e ≡ true) × P e) → (p e ≡ true) × P e
-      by true f is go = let same = same_Some x e is in (ap p (sym same) ∙ f, subst P same h.0)
-      by false f is go = go is
 
   first_least : (p : ℕ × X → Bool) (es : List (ℕ × X)) (e : ℕ × X) → T (Entries.is_sorted nat_cmp es) → find p es ≡ Some e →
       Each (λ x. p x ≡ true → e.0 ≤ x.0) es

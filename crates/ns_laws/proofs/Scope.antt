@@ -3,3 +3,4 @@ pub mod Asks
 pub mod OwnSteps
 pub mod Reach
 pub mod Sharing
+pub mod Unshared

@@ -1,6 +1,6 @@
 -- What live allocations take together stays small.
 use Rattle.std.specs.Prelude.{◌≡◌, ◌<◌, ◌^◌, ℕ}
-use Rattle.std.proofs.Common.{arith}
+use Rattle.std.proofs.Common.{arith, refl}
 use Rattle.ns_types.proofs.Amounts.{every}
 use Rattle.ns_types.specs.State.Resources.{quantity}
 use Rattle.ns_types.specs.declared.resources.Resources.{Resources}
@@ -23,3 +23,9 @@ quota_use_is_small s quota valid = quota_small s.world quota valid.world
 
 pub node_load_is_small : law.NodeLoadIsSmall
 node_load_is_small s pool node valid = load_small s.world pool node valid.world
+
+pub quantities_are_fields : law.QuantitiesAreFields
+quantities_are_fields a = (refl, refl, refl)
+
+pub limits_are_fields : law.LimitsAreFields
+limits_are_fields l = (refl, refl, refl)

@@ -24,3 +24,7 @@ pub mod Limits
 pub mod Words
 pub mod Wire
 pub mod Requests
+pub mod Calls
+pub mod Statuses
+pub mod Lookups
+pub mod Patterns

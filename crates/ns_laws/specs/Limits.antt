@@ -20,10 +20,12 @@ use Rattle.ns_types.specs.declared.step.AdminCommand.{AdminCommand}
 use Rattle.ns_types.specs.declared.step.AskCommand.{AskCommand}
 use Rattle.ns_types.specs.declared.step.NewToken.{NewToken}
 use Rattle.ns_types.specs.declared.step.NodeCommand.{NodeCommand}
+use Rattle.ns_types.specs.declared.step.Step.{Step}
 use Rattle.ns_types.specs.Asking.Good.{IsGoodNodeCommand, is_good_admin, is_good_ask}
 use Rattle.ns_types.specs.State.Limits.{is_good_constraint, is_good_document, is_good_group, is_good_task}
 use Rattle.ns_types.specs.State.Lists.{Each}
 use Rattle.ns_types.specs.State.Names.{Name, name_cmp}
+use Rattle.ns_types.specs.Within.{IsGoodStep}
 use Rattle.ns_laws.specs.Names.{IsMadeOf, IsOfPool, plain, plain_or_underscore, printable}
 
 -- ---- jobs
@@ -181,3 +183,20 @@ pub record IsTokenWithin (new : NewToken) : Type 0 where
 -- policies, none twice.
 abbrev pub TokenLimits : Type 0
 TokenLimits = (new : NewToken) → IsTrue (is_good_admin (AdminCommand.CreateToken new)) ↔ IsTokenWithin new
+
+-- ---- all other steps
+
+-- the step registers a job, puts a record or a node, or creates a token
+abbrev pub Writes : Step → Type 0
+Writes (Step.Ask ns secret (AskCommand.Register r)) = Unit {0}
+Writes (Step.Admin secret (AdminCommand.PutNamespace name n)) = Unit {0}
+Writes (Step.Admin secret (AdminCommand.PutQuota name q)) = Unit {0}
+Writes (Step.Admin secret (AdminCommand.PutPool name p)) = Unit {0}
+Writes (Step.Admin secret (AdminCommand.PutPolicy name p)) = Unit {0}
+Writes (Step.Admin secret (AdminCommand.CreateToken new)) = Unit {0}
+Writes (Step.Node pool secret (NodeCommand.PutNode name o)) = Unit {0}
+Writes _ = ⊥
+
+-- Every other step is within the limits: a name that it looks up may be any text.
+abbrev pub OthersHaveNoLimits : Type 0
+OthersHaveNoLimits = (step : Step) → (Writes step → ⊥) → IsGoodStep step

@@ -9,7 +9,7 @@ use Rattle.ns_types.specs.declared.snapshot.Snapshot.{Snapshot}
 use Rattle.ns_types.specs.Working.Worker.{Worker}
 use Rattle.ns_types.specs.State.Names.{Name}
 use Rattle.ns_types.specs.State.Rows.{World, Tenant, is_open, is_held}
-use Rattle.ns_types.specs.Access.Sharing.{permits, is_apart}
+use Rattle.ns_types.specs.Access.Sharing.{permits, has_pool, shares, is_apart}
 
 -- A namespace with a list of allowed pools may use its default pool and the pools of the list, and no others.
 abbrev pub ConfinedToItsPools : Type 0
@@ -20,6 +20,28 @@ ConfinedToItsPools = (namespace : Namespace) (allowed : List Name) (pool : Name)
 abbrev pub ElseAllButDenied : Type 0
 ElseAllButDenied = (namespace : Namespace) (pool : Name) → namespace.allowed ≡ None
     → IsTrue (permits namespace pool) ↔ (Contains namespace.denied pool → ⊥)
+
+-- The server says that a namespace may use a pool exactly if the namespace exists and may use it. The pool need not exist.
+abbrev pub HasPoolIfPermitted : Type 0
+HasPoolIfPermitted = (w : World) (ns pool : Name) → IsTrue (has_pool w ns pool)
+    ↔ ((t : Tenant) × (get w.tenants ns ≡ Some t) × IsTrue (permits t.namespace pool))
+
+-- The namespace has a list of allowed pools, no other namespace may use a pool that it may use, and none names its quota.
+pub record UsesAlone (w : World) (ns : Name) (t : Tenant) : Type 0 where
+  pub confined : (allowed : List Name) × (t.namespace.allowed ≡ Some allowed)
+  pub pools : (other : Name) (o : Tenant) (pool : Name) → get w.tenants other ≡ Some o → other ≢ ns →
+      IsTrue (permits t.namespace pool) → IsFalse (permits o.namespace pool)
+  pub quota : (other : Name) (o : Tenant) (quota : Name) → get w.tenants other ≡ Some o → other ≢ ns →
+      t.namespace.quota ≡ Some quota → o.namespace.quota ≢ Some quota
+
+-- The server says of a namespace that it does not share exactly if it uses its pools and its quota alone.
+abbrev pub SharesUnlessAlone : Type 0
+SharesUnlessAlone = (w : World) (ns : Name) (t : Tenant) → get w.tenants ns ≡ Some t →
+    IsFalse (shares w ns) ↔ UsesAlone w ns t
+
+-- The server says of a namespace that does not exist that it shares.
+abbrev pub AbsentShares : Type 0
+AbsentShares = (w : World) (ns : Name) → get w.tenants ns ≡ None → IsTrue (shares w ns)
 
 -- A namespace that has its pools and its quotas to itself has a list of allowed pools.
 abbrev pub ApartIsConfined : Type 0

@@ -1,7 +1,8 @@
--- Laws of sums: what live allocations use together stays far below 2^64.
-use Rattle.std.specs.Prelude.{ℕ, sum_by}
+-- Laws of sums: what live allocations use together stays far below 2^64. Also: which fields amounts and limits have.
+use Rattle.std.specs.Prelude.{◌≡◌, ℕ, sum_by}
 use Rattle.std.specs.FinMap.{entries}
-use Rattle.ns_types.specs.State.Resources.{each_resource, quantity}
+use Rattle.ns_types.specs.State.Resources.{Cpu, Disk, Memory, each_resource, limit_on, quantity}
+use Rattle.ns_types.specs.declared.resources.Limits.{Limits}
 use Rattle.ns_types.specs.declared.resources.Resources.{Resources}
 use Rattle.ns_types.specs.State.Names.{Name}
 use Rattle.ns_types.specs.State.Rows.{State, World, is_live}
@@ -26,3 +27,11 @@ QuotaUseIsSmall = (s : State) (quota : Name) → IsValid s → IsSmall (quota_us
 -- In a valid state the live allocations on a node together use less than 2^55 of each resource.
 abbrev pub NodeLoadIsSmall : Type 0
 NodeLoadIsSmall = (s : State) (pool node : Name) → IsValid s → IsSmall (node_load s.world pool node)
+
+-- An amount has as much of a resource as its field of that name says.
+abbrev pub QuantitiesAreFields : Type 0
+QuantitiesAreFields = (a : Resources) → (quantity Cpu a ≡ a.cpu) × (quantity Memory a ≡ a.memory) × (quantity Disk a ≡ a.disk)
+
+-- A quota limits a resource as its field of that name says.
+abbrev pub LimitsAreFields : Type 0
+LimitsAreFields = (l : Limits) → (limit_on Cpu l ≡ l.cpu) × (limit_on Memory l ≡ l.memory) × (limit_on Disk l ≡ l.disk)

@@ -5,13 +5,30 @@ use Rattle.ns_types.specs.Steps.{after}
 use Rattle.ns_types.specs.State.Names.{Key, Name, has_key}
 use Rattle.ns_types.specs.State.Rows.{State, World}
 use Rattle.ns_types.specs.Validity.{IsValid}
-use Rattle.ns_types.specs.Working.Looks.{worker_at}
+use Rattle.ns_types.specs.Working.Looks.{first_plan, row_of, served_ready, worker_at}
 use Rattle.ns_types.specs.Working.Worker.{Worker}
 use Rattle.ns_laws.specs.Queue.{IsFirstOfGreatest}
+
+-- The evaluation that the server shows as the next one to take is the first of those ready with the greatest priority.
+abbrev pub NextIsShown : Type 0
+NextIsShown = (w : World) (key : Key) → (served_ready w ≡ Some key) ↔ IsFirstOfGreatest w w.ready key
+
+-- The plan that the server shows as the next one to apply is the first of the submitted ones with the greatest priority.
+abbrev pub NextPlanIsShown : Type 0
+NextPlanIsShown = (w : World) (key : Key) → (first_plan w ≡ Some key) ↔ IsFirstOfGreatest w w.plans key
 
 -- the worker is busy for no namespace
 abbrev pub IsIdle : World → ℕ → Type 0
 IsIdle w number = (ns : Name) → worker_at w number ns ≡ None
+
+-- The server shows no row of a worker exactly if the worker is idle.
+abbrev pub IdleIsShown : Type 0
+IdleIsShown = (w : World) (number : ℕ) → (row_of w number ≡ None) ↔ IsIdle w number
+
+-- The row that the server shows of a busy worker is the worker's in the namespace that it shows.
+abbrev pub BusyIsShown : Type 0
+BusyIsShown = (w : World) (number : ℕ) (ns : Name) (worker : Worker) → row_of w number ≡ Some (ns, worker)
+    → worker_at w number ns ≡ Some worker
 
 -- it is one of the 64 workers, it is idle, and of those ready with the greatest priority the evaluation is the first
 abbrev pub MayTake : World → ℕ → Key → Type 0

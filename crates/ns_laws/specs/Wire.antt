@@ -7,14 +7,15 @@ use Rattle.std.specs.Str.Parse.{digits_value}
 use Rattle.ns_types.specs.declared.refusal.Member.{Member}
 use Rattle.ns_types.specs.declared.refusal.Refusal.{Refusal}
 use Rattle.ns_types.specs.declared.reply.HeadFault.{HeadFault}
+use Rattle.ns_types.specs.declared.reply.Rendered.{Rendered}
 use Rattle.ns_types.specs.declared.step.Step.{Step}
-use Rattle.ns_types.specs.State.Rows.{State}
+use Rattle.ns_types.specs.State.Rows.{State, World}
 use Rattle.ns_types.specs.Steps.{after, said}
-use Rattle.ns_types.specs.Wire.Http.{Header, IsMessage, Message, Whole, Refused, asks_close, body_len}
+use Rattle.ns_types.specs.Wire.Http.{Asked, Header, IsMessage, Message, Whole, Refused, asked_by, asks_close, body_len}
 use Rattle.ns_types.specs.Wire.Http.{eq_ignore_case, is_last, lists_close, print_message, token_of}
 use Rattle.ns_types.specs.Wire.Member.{member_name}
 use Rattle.ns_types.specs.Wire.Refused.{refused}
-use Rattle.ns_types.specs.Wire.Responses.{Exchange, refusal_of, wire, wires}
+use Rattle.ns_types.specs.Wire.Responses.{Answers, Exchange, refusal_of, wire, wires}
 
 -- ---- the names of headers
 
@@ -188,3 +189,28 @@ DoneOnWire = (index : ℕ) (body : List ℕ)
 -- The responses stand in the order of their requests, one after the other.
 abbrev pub ResponsesInOrder : Type 0
 ResponsesInOrder = (some more : List Exchange) → wires (some ++ more) ≡ wires some ++ wires more
+
+-- ---- conversations
+
+-- a handler that gives each request, in each state, one reply and one next state
+abbrev pub Handler : Type 0
+Handler = World → Asked → Rendered × World
+
+abbrev pub Handles : Handler → World → Asked → Rendered → World → Type 0
+Handles handler w request reply next = handler w request ≡ (reply, next)
+
+-- A whole request is answered by the handler, in the state that the ones before it left.
+abbrev pub WholeIsHandled : Type 0
+WholeIsHandled = (handler : Handler) (w next : World) (m : Message) (reply : Rendered) →
+    Answers (Handles handler) w ((Whole m, reply) ∷ []) next ↔ (handler w (asked_by m) ≡ (reply, next))
+
+-- A request whose head is refused gets its refusal, and leaves the state.
+abbrev pub RefusedHeadIsNotHandled : Type 0
+RefusedHeadIsNotHandled = (handler : Handler) (w next : World) (fault : HeadFault) (reply : Rendered) →
+    Answers (Handles handler) w ((Refused fault, reply) ∷ []) next ↔ (reply ≡ refusal_of fault) × (next ≡ w)
+
+-- A conversation can be cut anywhere: its first exchanges lead to some state, and the rest goes on from there.
+abbrev pub ConversationSplits : Type 0
+ConversationSplits = (handler : Handler) (w next : World) (first rest : List Exchange) →
+    Answers (Handles handler) w (first ++ rest) next
+    ↔ (mid : World) × Answers (Handles handler) w first mid × Answers (Handles handler) mid rest next

@@ -2,13 +2,16 @@
 //! nothing. `isolation` says what holds of a namespace that has its pools and its quotas to itself.
 #![tactic(auto)]
 
+pub mod calls;
 pub mod effects;
 pub mod ending;
 pub mod indexes;
 pub mod isolation;
 pub mod limits;
+pub mod lookups;
 pub mod names;
 pub mod nodes;
+pub mod patterns;
 pub mod placement;
 pub mod planning;
 pub mod queue;
@@ -21,6 +24,7 @@ pub mod rights;
 pub mod secrets;
 pub mod serving;
 pub mod sharing;
+pub mod statuses;
 pub mod steps;
 pub mod sums;
 pub mod surplus;

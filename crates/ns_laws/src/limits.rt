@@ -12,6 +12,7 @@ ghost use Rattle.ns_laws.specs.Limits.{
   PoolLimits,
   PolicyLimits,
   TokenLimits,
+  OthersHaveNoLimits,
 };
 
 /// A task is within the limits exactly if it has a name and asks for 1 to 2,147,483,647 of CPU and of memory.
@@ -77,4 +78,10 @@ pub fn policy_limits()
 /// policies, none twice.
 pub fn token_limits()
     ensures { TokenLimits }
+{}
+
+/// A step that registers no job, puts no record and no node, and creates no token is within the limits: a name that it looks up
+/// may be any text.
+pub fn others_have_no_limits()
+    ensures { OthersHaveNoLimits }
 {}

@@ -1,6 +1,7 @@
 //! Laws of pools and quotas: which a namespace may use, and which it has to itself.
 
 ghost use Rattle.ns_laws.specs.Sharing.{
+  AbsentShares,
   ApartIsConfined,
   ApartKeepsToItsPools,
   ApartNamesItsQuotas,
@@ -9,6 +10,8 @@ ghost use Rattle.ns_laws.specs.Sharing.{
   ApartUsesItsPools,
   ConfinedToItsPools,
   ElseAllButDenied,
+  HasPoolIfPermitted,
+  SharesUnlessAlone,
 };
 
 /// A namespace with a list of allowed pools may use its default pool and the pools of the list, and no others.
@@ -19,6 +22,22 @@ pub fn confined_to_its_pools()
 /// A namespace without a list of allowed pools may use exactly the pools that it does not deny.
 pub fn else_all_but_denied()
     ensures { ElseAllButDenied }
+{}
+
+/// The server says that a namespace may use a pool exactly if the namespace exists and may use it. The pool need not exist.
+pub fn has_pool_if_permitted()
+    ensures { HasPoolIfPermitted }
+{}
+
+/// The server says of a namespace that it does not share exactly if it has a list of allowed pools, no other namespace may use a
+/// pool that it may use, and none names its quota.
+pub fn shares_unless_alone()
+    ensures { SharesUnlessAlone }
+{}
+
+/// The server says of a namespace that does not exist that it shares.
+pub fn absent_shares()
+    ensures { AbsentShares }
 {}
 
 /// A namespace that has its pools and its quotas to itself has a list of allowed pools.

@@ -1,4 +1,4 @@
-//! Laws of the wire: where a request ends, when its connection closes, and the bytes of the response.
+//! Laws of the wire: where a request ends, when its connection closes, the bytes of the response, and conversations.
 
 ghost use Rattle.ns_laws.specs.Wire.{
   HeaderNames,
@@ -19,6 +19,9 @@ ghost use Rattle.ns_laws.specs.Wire.{
   HeadFaultsOnWire,
   DoneOnWire,
   ResponsesInOrder,
+  WholeIsHandled,
+  RefusedHeadIsNotHandled,
+  ConversationSplits,
 };
 
 /// Two names of headers are the same exactly if they are, character by character, but for upper and lower case of the
@@ -114,4 +117,19 @@ pub fn done_on_wire()
 /// Responses are sent one after the other, in the order of their requests.
 pub fn responses_in_order()
     ensures { ResponsesInOrder }
+{}
+
+/// A whole request is answered by the handler, in the state that the ones before it left.
+pub fn whole_is_handled()
+    ensures { WholeIsHandled }
+{}
+
+/// A request whose head is refused gets its refusal, and leaves the state.
+pub fn refused_head_is_not_handled()
+    ensures { RefusedHeadIsNotHandled }
+{}
+
+/// A conversation can be cut anywhere: its first exchanges lead to some state, and the rest goes on from there.
+pub fn conversation_splits()
+    ensures { ConversationSplits }
 {}

@@ -1,6 +1,6 @@
 -- What is within the limits.
 use Rattle.std.specs.Prelude.{◌≡◌, ◌≢◌, ◌↔◌, ◌⊎◌, ℕ, ◌+◌, ◌≤◌, Bool, true, false, ◌&&◌, ◌||◌, not, List, [], ◌∷◌}
-use Rattle.std.specs.Prelude.{IfSome, Option, Some, None, T, codes, is_none, length, map, nat_le}
+use Rattle.std.specs.Prelude.{IfSome, IsTrue, Option, Some, None, T, codes, is_none, length, map, nat_le}
 use Rattle.std.specs.FinMap.{entries, entries_sorted, entries-from_sorted, from_entries, from_sorted, get-from_entries, get-from_sorted, same_map}
 use Rattle.std.specs.FinMap.Entries.{below_all, is_sorted}
 use Rattle.std.specs.List.{AllPairs, list_all}
@@ -9,6 +9,11 @@ use Rattle.std.specs.Ordering.{is_lt}
 use Rattle.std.proofs.Common.{inl, inr, refl, sym, ap, subst, ◌∙◌, arith, length-append}
 use Rattle.std.proofs.lemmas.Bool.{and_from, and_parts, false_from_ne_true, le-leb, leb-true, not_from_false, or_cases, or_from, or_left, or_parts}
 use Rattle.std.proofs.lemmas.Bool.{or_right, not-true}
+use Rattle.ns_types.specs.declared.step.AdminCommand.{AdminCommand}
+use Rattle.ns_types.specs.declared.step.AskCommand.{AskCommand}
+use Rattle.ns_types.specs.declared.step.NodeCommand.{NodeCommand}
+use Rattle.ns_types.specs.declared.step.Step.{Step}
+use Rattle.ns_types.specs.Asking.Good.{IsGoodNodeCommand, is_good_admin, is_good_ask}
 use Rattle.ns_types.specs.declared.job.Constraint.{Constraint}
 use Rattle.ns_types.specs.declared.job.Group.{Group}
 use Rattle.ns_types.specs.declared.job.Target.{Target}
@@ -520,3 +525,27 @@ token_limits new = (to, from)
     from : IsTokenWithin new → (is_name NameKind.Secret new.secret && good_new new) ≡ true
     from w = and_from (is_name NameKind.Secret new.secret) (good_new new) ((texts_of_secrets new.secret).1 w.secret)
         (four_all ((text 256 new.name).1 w.name) (le-leb (length new.policies) 64 w.few) (policies.1 w.named) ((names_apart new.policies).1 w.apart))
+
+-- ---- all other steps
+
+pub others_have_no_limits : law.OthersHaveNoLimits
+others_have_no_limits (Step.Ask ns secret command) writes = by command writes
+  where
+    by : (command : AskCommand) → (law.Writes (Step.Ask ns secret command) → ⊥) → IsTrue (is_good_ask command)
+    by (AskCommand.Register r) writes = absurd (writes tt)
+    by _ writes = refl
+others_have_no_limits (Step.Admin secret command) writes = by command writes
+  where
+    by : (command : AdminCommand) → (law.Writes (Step.Admin secret command) → ⊥) → IsTrue (is_good_admin command)
+    by (AdminCommand.PutNamespace name n) writes = absurd (writes tt)
+    by (AdminCommand.PutQuota name q) writes = absurd (writes tt)
+    by (AdminCommand.PutPool name p) writes = absurd (writes tt)
+    by (AdminCommand.PutPolicy name p) writes = absurd (writes tt)
+    by (AdminCommand.CreateToken new) writes = absurd (writes tt)
+    by _ writes = refl
+others_have_no_limits (Step.Node pool secret command) writes = by command writes
+  where
+    by : (command : NodeCommand) → (law.Writes (Step.Node pool secret command) → ⊥) → IsGoodNodeCommand command
+    by (NodeCommand.PutNode name o) writes = absurd (writes tt)
+    by _ writes = tt
+others_have_no_limits _ writes = tt

@@ -98,7 +98,7 @@ dequeued_is_taken number ns n s s' reply made = work_does (Step.Dequeue number n
 
 -- ---- Submit
 
-snapped : (phase : Phase) → is_snapped phase ≡ true → phase ≡ Phase.Snapped
+pub snapped : (phase : Phase) → is_snapped phase ≡ true → phase ≡ Phase.Snapped
 snapped Phase.Took e = not_both e refl
 snapped Phase.Snapped e = refl
 snapped Phase.Submitted e = not_both e refl

@@ -1,10 +1,11 @@
 -- When a worker may take an evaluation, and when a plan may be applied.
 use Rattle.std.specs.Prelude.{◌≡◌, ◌≢◌, ◌<◌, ℕ, suc, Bool, true, false, cond, not, ◌&&◌, ◌||◌}
-use Rattle.std.specs.Prelude.{List, [], ◌∷◌, ◌++◌, Option, Some, None, is_some, nat_lt, Ok, Err}
+use Rattle.std.specs.Prelude.{List, [], ◌∷◌, ◌++◌, Option, Some, None, is_some, nat_lt, option_map, find, Ok, Err}
 use Rattle.std.proofs.Common.{refl, sym, ap, ◌∙◌, inl, inr, arith}
 use Rattle.std.proofs.lemmas.Bool.{or_right}
 use Rattle.std.proofs.lemmas.Bool.Decides.{leb_tells}
-use Rattle.std.specs.FinMap.{get, contains_key}
+use Rattle.std.specs.FinMap.{get, contains_key, entries}
+use Rattle.std.specs.List.{list_any}
 use Rattle.std.specs.Option.{option_map_or, option_and_then}
 use Rattle.ns_types.specs.declared.evaluation.Evaluation.{Evaluation}
 use Rattle.ns_types.specs.declared.refusal.Refusal.{Refusal}
@@ -18,18 +19,22 @@ use Rattle.ns_types.specs.Settling.Outcome.{Outcome, NotEnabled, Refused, Done, 
 use Rattle.ns_types.specs.State.Names.{Key, Name, has_key, same_key}
 use Rattle.ns_types.specs.State.Rows.{State, World, Tenant}
 use Rattle.ns_types.specs.Steps.{after, act, said, concluded, is_past_bound, settled, reply_of}
+use Rattle.ns_types.specs.State.Tables.{any_row}
 use Rattle.ns_types.specs.Validity.{IsSound, IsSoundWorker, keeps}
 use Rattle.ns_types.specs.Working.Commit.{apply, apply_for, applied, commit}
+use Rattle.ns_types.specs.Working.Looks.{row_of, worker_at}
 use Rattle.ns_types.specs.Working.Queue.{served, is_served}
 use Rattle.ns_types.specs.Working.Work.{dequeue, dequeue_in, is_idle, is_submitted, taken, workers_end}
 use Rattle.ns_types.specs.Working.Worker.{Worker}
-use Rattle.ns_types.proofs.Lists.{not_both}
+use Rattle.ns_types.proofs.Lists.{each, not_both}
 use Rattle.ns_types.proofs.Named.{first_of_both, second_of_both, names, one_name, same_key_refl}
 use Rattle.ns_types.proofs.Once.{key_is}
-use Rattle.ns_types.proofs.Tables.{any_row-none, none_of_any}
-use Rattle.ns_types.proofs.Tests.{is_no, not_Some}
+use Rattle.ns_types.proofs.Tables.{any_row-none, each_row, none_of_any}
+use Rattle.ns_types.proofs.Tests.{is_no, is_yes, not_Some, same_Some, some_mapped}
 use Rattle.ns_laws.specs.Queue.{IsFirstOfGreatest}
-use Rattle.ns_laws.specs.Turns.{IsIdle, MayTake, NextIsTaken, HasFirstPlan, NextPlanIsApplied}
+use Rattle.ns_laws.specs.Turns.{BusyIsShown, IdleIsShown, IsIdle, MayTake, NextIsShown, NextIsTaken}
+use Rattle.ns_laws.specs.Turns.{HasFirstPlan, NextPlanIsApplied, NextPlanIsShown}
+use Rattle.ns_laws.proofs.OrderedLemmas.{found_holds, found_if_any}
 use Rattle.ns_laws.proofs.Wakes.Queue.{served_is_first, first_is_served}
 
 -- ---- what is in turn
@@ -90,6 +95,12 @@ next_of w keys key e = by (served w keys) refl e
 next_served : (w : World) (keys : List Key) (key : Key) → IsFirstOfGreatest w keys key → is_served w keys key ≡ true
 next_served w keys key first = ap (λ o. option_map_or (same_key key) o false) (first_is_served w keys key first) ∙ same_key_refl key
 
+pub next_is_shown : NextIsShown
+next_is_shown w key = (served_is_first w w.ready key, first_is_served w w.ready key)
+
+pub next_plan_is_shown : NextPlanIsShown
+next_plan_is_shown w key = (served_is_first w w.plans key, first_is_served w w.plans key)
+
 in_list : (before later : List Key) (key : Key) → has_key (before ++ key ∷ later) key ≡ true
 in_list [] later key = ap (λ b. b || has_key later key) (same_key_refl key)
 in_list (x ∷ before) later key = or_right (same_key key x) _ (in_list before later key)
@@ -113,6 +124,52 @@ idle_of w number idle ns = by (get w.tenants ns) refl
 is_idle_of : (w : World) (number : ℕ) → IsIdle w number → is_idle w number ≡ true
 is_idle_of w number idle = ap not (any_row-none names one_name (λ _ t. contains_key t.workers number) w.tenants
     (λ ns t is. ap is_some (sym (ap (option_and_then (λ (t : Tenant). get t.workers number)) is) ∙ idle ns)))
+
+-- ---- what is shown of a worker
+
+with_name : ℕ → Name × Tenant → Option (Name × Worker)
+with_name number e = option_map (λ worker. (e.0, worker)) (get e.1.workers number)
+
+holds : ℕ → Name × Tenant → Bool
+holds number e = contains_key e.1.workers number
+
+shown_if_busy : (w : World) (number : ℕ) → is_some (row_of w number) ≡ not (is_idle w number)
+unfolding any_row with_name holds
+shown_if_busy w number = by (find (holds number) (entries w.tenants)) refl ∙ found_if_any (holds number) (entries w.tenants)
+    ∙ twice (list_any (holds number) (entries w.tenants))
+  where
+    twice : (b : Bool) → b ≡ not (not b)
+    twice true = refl
+    twice false = refl
+
+    by : (o : Option (Name × Tenant)) → find (holds number) (entries w.tenants) ≡ o →
+        is_some (option_and_then (with_name number) (find (holds number) (entries w.tenants))) ≡ is_some (find (holds number) (entries w.tenants))
+    by None is = ap (λ o. is_some (option_and_then (with_name number) o)) is ∙ ap is_some (sym is)
+    by (Some e) is = ap (λ o. is_some (option_and_then (with_name number) o)) is ∙ some_mapped (λ worker. (e.0, worker)) (get e.1.workers number)
+        ∙ (found_holds (λ _. Unit {0}) (holds number) (entries w.tenants) e (each (λ _. Unit {0}) (λ _. tt) (entries w.tenants)) is).0 ∙ ap is_some (sym is)
+
+pub idle_is_shown : IdleIsShown
+idle_is_shown w number = (
+  λ e. idle_of w number (is_yes (is_idle w number) (sym (shown_if_busy w number) ∙ ap is_some e)),
+  λ idle. no_row (row_of w number) (shown_if_busy w number ∙ ap not (is_idle_of w number idle)),
+)
+
+pub busy_is_shown : BusyIsShown
+unfolding with_name holds
+busy_is_shown w number ns worker is = by (find (holds number) (entries w.tenants)) refl
+  where
+    found : (e : Name × Tenant) → get w.tenants e.0 ≡ Some e.1 → (o : Option Worker) → get e.1.workers number ≡ o →
+        option_map {U = Name × Worker} (λ worker. (e.0, worker)) o ≡ Some (ns, worker) → worker_at w number ns ≡ Some worker
+    found e at None has shown = absurd (not_Some _ shown)
+    found e at (Some x) has shown = let same = same_Some _ _ shown in
+        ap (λ name. option_and_then (λ (t : Tenant). get t.workers number) (get w.tenants name)) (sym (ap (λ (p : Name × Worker). p.0) same))
+        ∙ ap (option_and_then (λ (t : Tenant). get t.workers number)) at ∙ has ∙ ap (λ (p : Name × Worker). Some p.1) same
+
+    by : (o : Option (Name × Tenant)) → find (holds number) (entries w.tenants) ≡ o → worker_at w number ns ≡ Some worker
+    by None none = absurd (not_Some _ (sym (ap (option_and_then (with_name number)) none) ∙ is))
+    by (Some e) one = found e (found_holds (λ e. get w.tenants e.0 ≡ Some e.1) (holds number) (entries w.tenants) e
+        (each_row names one_name (λ k x. get w.tenants k ≡ Some x) w.tenants (λ k x at. at)) one).1
+        (get e.1.workers number) refl (sym (ap (option_and_then (with_name number)) one) ∙ is)
 
 below : (number : ℕ) → nat_lt number workers_end ≡ true → number < 64
 below number e = elim (leb_tells (suc number) 64) [ inl less ↦ less.1 | inr more ↦ not_both e more.0 ]

@@ -1,0 +1,126 @@
+-- What statuses mean, and which attributes a class has.
+use Rattle.std.specs.Prelude.{◌≡◌, ◌⊎◌, true, false, not, ◌&&◌, codes}
+use Rattle.std.proofs.Common.{refl, sym, ap, ◌∙◌, inl, inr}
+use Rattle.std.specs.List.{Contains}
+use Rattle.ns_types.specs.declared.allocation.ClientStatus.{ClientStatus}
+use Rattle.ns_types.specs.declared.allocation.DesiredStatus.{DesiredStatus}
+use Rattle.ns_types.specs.declared.evaluation.Status.{Status}
+use Rattle.ns_types.specs.declared.node.Attribute.{Attribute}
+use Rattle.ns_types.specs.declared.node.NodeStatus.{NodeStatus}
+use Rattle.ns_types.specs.State.Names.{same_name}
+use Rattle.ns_types.specs.State.Rows.{class_of, is_blocked, is_complete, is_held, is_live, is_open, is_pending, is_ready}
+use Rattle.ns_types.specs.State.Rows.{is_run, is_unique}
+use Rattle.ns_types.proofs.Lists.{not_both}
+use Rattle.ns_types.proofs.Named.{first_of_both, second_of_both, same_name_is, same_name_refl}
+use Rattle.ns_types.proofs.Tests.{is_no}
+use Rattle.ns_laws.specs.Statuses as law
+use Rattle.ns_laws.proofs.Elements.{contains_from, filter_has, has_filter, has_from}
+use Rattle.ns_laws.proofs.Matching.{both_true, prefixes_begin}
+
+-- ---- statuses
+
+to_run : (desired : DesiredStatus) → is_run desired ≡ true → desired ≡ DesiredStatus.Run
+to_run DesiredStatus.Run e = refl
+to_run DesiredStatus.Stop e = not_both e refl
+to_run DesiredStatus.Evict e = not_both e refl
+
+held : (client : ClientStatus) → is_held client ≡ true → (client ≡ ClientStatus.Pending) ⊎ (client ≡ ClientStatus.Running)
+held ClientStatus.Pending e = inl refl
+held ClientStatus.Running e = inr refl
+held ClientStatus.Complete e = not_both e refl
+held ClientStatus.Failed e = not_both e refl
+held ClientStatus.Lost e = not_both e refl
+
+held_is : (client : ClientStatus) → (client ≡ ClientStatus.Pending) ⊎ (client ≡ ClientStatus.Running) → is_held client ≡ true
+held_is client (inl e) = ap is_held e
+held_is client (inr e) = ap is_held e
+
+complete : (client : ClientStatus) → is_complete client ≡ true → client ≡ ClientStatus.Complete
+complete ClientStatus.Pending e = not_both e refl
+complete ClientStatus.Running e = not_both e refl
+complete ClientStatus.Complete e = refl
+complete ClientStatus.Failed e = not_both e refl
+complete ClientStatus.Lost e = not_both e refl
+
+ready : (status : NodeStatus) → is_ready status ≡ true → status ≡ NodeStatus.Ready
+ready NodeStatus.Ready e = refl
+ready NodeStatus.Down e = not_both e refl
+
+pub live_allocations : law.LiveAllocations
+live_allocations a = (
+  λ e. (to_run a.desired (first_of_both (is_run a.desired) (is_held a.client) e), held a.client (second_of_both (is_run a.desired) (is_held a.client) e)),
+  λ is. both_true (is_run a.desired) (is_held a.client) (ap is_run is.0) (held_is a.client is.1),
+)
+
+pub live_on_nodes : law.LiveOnNodes
+live_on_nodes pool node a = (
+  λ e. let at = second_of_both (is_live a) (same_name pool a.pool && same_name node a.node) e in (
+    first_of_both (is_live a) (same_name pool a.pool && same_name node a.node) e,
+    sym (same_name_is pool a.pool (first_of_both (same_name pool a.pool) (same_name node a.node) at)),
+    sym (same_name_is node a.node (second_of_both (same_name pool a.pool) (same_name node a.node) at)),
+  ),
+  λ is. both_true (is_live a) (same_name pool a.pool && same_name node a.node) is.0
+      (both_true (same_name pool a.pool) (same_name node a.node) (ap (same_name pool) is.1 ∙ same_name_refl pool) (ap (same_name node) is.2 ∙ same_name_refl node)),
+)
+
+pub done_allocations : law.DoneAllocations
+done_allocations a = (
+  λ e. (
+    to_run a.desired (first_of_both (is_run a.desired) (is_complete a.client) e),
+    complete a.client (second_of_both (is_run a.desired) (is_complete a.client) e),
+  ),
+  λ is. both_true (is_run a.desired) (is_complete a.client) (ap is_run is.0) (ap is_complete is.1),
+)
+
+pub open_evaluations : law.OpenEvaluations
+open_evaluations status = (to status, from)
+  where
+    to : (status : Status) → is_open status ≡ true → (status ≡ Status.Pending) ⊎ (status ≡ Status.Blocked)
+    to Status.Pending e = inl refl
+    to Status.Blocked e = inr refl
+    to Status.Complete e = not_both e refl
+    to Status.Failed e = not_both e refl
+    to Status.Canceled e = not_both e refl
+
+    from : (status ≡ Status.Pending) ⊎ (status ≡ Status.Blocked) → is_open status ≡ true
+    from (inl e) = ap is_open e
+    from (inr e) = ap is_open e
+
+pub pending_and_blocked : law.PendingAndBlocked
+pending_and_blocked status = ((pending status, ap is_pending), (blocked status, ap is_blocked))
+  where
+    pending : (status : Status) → is_pending status ≡ true → status ≡ Status.Pending
+    pending Status.Pending e = refl
+    pending Status.Blocked e = not_both e refl
+    pending Status.Complete e = not_both e refl
+    pending Status.Failed e = not_both e refl
+    pending Status.Canceled e = not_both e refl
+
+    blocked : (status : Status) → is_blocked status ≡ true → status ≡ Status.Blocked
+    blocked Status.Pending e = not_both e refl
+    blocked Status.Blocked e = refl
+    blocked Status.Complete e = not_both e refl
+    blocked Status.Failed e = not_both e refl
+    blocked Status.Canceled e = not_both e refl
+
+pub free_nodes : law.FreeNodes
+free_nodes node = (
+  λ e. (ready node.status (first_of_both (is_ready node.status) node.eligible e), second_of_both (is_ready node.status) node.eligible e),
+  λ is. both_true (is_ready node.status) node.eligible (ap is_ready is.0) is.1,
+)
+
+-- ---- classes
+
+pub unique_keys : law.UniqueKeys
+unique_keys = prefixes_begin (codes "unique.")
+
+pub classes_of_nodes : law.ClassesOfNodes
+classes_of_nodes node = (refl, λ a. (to a, from a))
+  where
+    to : (a : Attribute) → Contains (class_of node).attributes a → Contains node.offer.attributes a × (is_unique a.key ≡ false)
+    to a has = let kept = has_filter (λ (a : Attribute). not (is_unique a.key)) node.offer.attributes a (has_from _ a has.0 has.1 has.2) in
+        (contains_from node.offer.attributes a kept.0, is_no _ kept.1)
+
+    from : (a : Attribute) → Contains node.offer.attributes a × (is_unique a.key ≡ false) → Contains (class_of node).attributes a
+    from a is = contains_from (class_of node).attributes a (filter_has (λ (a : Attribute). not (is_unique a.key)) node.offer.attributes a
+        (has_from node.offer.attributes a is.0.0 is.0.1 is.0.2) (ap not is.1))

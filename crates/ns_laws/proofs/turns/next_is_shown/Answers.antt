@@ -1,0 +1,5 @@
+use Rattle.ns_laws.proofs.Work.Turns.{next_is_shown}
+use Rattle.ns_laws.proofs.turns.next_is_shown.Goals as goal
+
+pub returns : goal.returns
+returns c = next_is_shown
