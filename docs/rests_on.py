@@ -3,14 +3,15 @@
     python3 docs/rests_on.py ns_audit::laws::struck_run ns_pipe::connection::pipe
     python3 docs/rests_on.py --unused crates/ns_types/specs ns_audit::laws::struck_run ns_pipe::connection::pipe
     python3 docs/rests_on.py --check docs/READING.md ns_audit::laws::struck_run ns_pipe::connection::pipe
+    python3 docs/rests_on.py --unused crates/ns_types/specs ns_laws
 
-A law is a function, given by its crate, its module and its name. What is listed is what its `ensures` and `requires`
-name, what the definitions of these names name, and so on: definitions in `specs`, and the Rust types that they speak of
-with the `impl Model` that says what a contract sees of a type. The search ends at std and the crates of the kit, whose
-words come last. With `--unused FOLDER` the definitions in that folder follow on which none of the laws rests. With
-`--check PAGE` the rows of the page's tables, each of a file, its lines and the letters of the laws (`a` the first, `b` the
-second) that rest on it, are compared with what was found; of a file of Rust the lines of its types are counted. `--write`
-in place of `--check` also mends the numbers and letters of the rows that are there.
+A law is a function, given by its crate, its module and its name; a crate by itself stands for all its public functions. What
+is listed is what its `ensures` and `requires` name, what the definitions of these names name, and so on: definitions in
+`specs`, and the Rust types that they speak of with the `impl Model` that says what a contract sees of a type. The search ends
+at std and the crates of the kit, whose words come last. With `--unused FOLDER` the definitions in that folder follow on which
+none of the laws rests. With `--check PAGE` the rows of the page's tables, each of a file, its lines and the letters of the laws
+(`a` the first, `b` the second) that rest on it, are compared with what was found; of a file of Rust the lines of its types are
+counted. `--write` in place of `--check` also mends the numbers and letters of the rows that are there.
 
 Names are resolved by the `use` lines of each file. A bound variable that has the name of a definition counts as that
 definition, so a list may be too long. What an `impl` gives for a ghost member of a trait is not followed, and proofs are not
@@ -206,6 +207,15 @@ def law(spelled):
     return file, text[head.start():end.start()]
 
 
+def laws_of(crate):
+    """The public functions of a crate, as laws."""
+    top = CRATES / crate / "src"
+    for file in sorted(top.rglob("*.rt")):
+        modules = [part for part in file.relative_to(top).with_suffix("").parts if part not in ("lib", "mod")]
+        for name in re.findall(r"(?m)^pub fn (\w+)", file.read_text()):
+            yield "::".join([crate, *modules, name])
+
+
 def rests_on(laws):
     waiting = [item for file, text in map(law, laws) for item in named_in(file, text)]
     found, trusted = set(), set()
@@ -274,6 +284,7 @@ def main():
         option, place, words = words[0], Path(words[1]).resolve(), words[2:]
     if not words or words[0].startswith("-"):
         sys.exit(__doc__)
+    words = [law for word in words for law in ([word] if "::" in word else laws_of(word))]
     if option in ("--check", "--write"):
         sys.exit(0 if check(place, words, option == "--write") else 1)
     found, trusted = rests_on(words)
