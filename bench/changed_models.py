@@ -5,10 +5,10 @@
     python3 bench/changed_models.py --list 300        prints them, and checks none
 
 A change turns a test around, swaps `and` with `or` or `<` with `<=`, takes the next status of the same kind, adds one to a number,
-empties a member, or leaves a filter out, in one line of `crates/ns_types/specs`. The definitions, the lemmas and the laws are copied
-into a folder of their own, and all laws of `ns_laws` are checked there from their source, over each change by itself. The check ends
-at the first proof that fails, after some 50 seconds; the first check, over the definitions as they are, takes some minutes. RT_JOBS
-says how many run side by side.
+empties a member, leaves a filter out, or says of something that it is itself in place of what it is, in one line of
+`crates/ns_types/specs`. The definitions, the lemmas and the laws are copied into a folder of their own, and all laws of `ns_laws`
+are checked there from their source, over each change by itself. The check ends at the first proof that fails, after some 50
+seconds; the first check, over the definitions as they are, takes some minutes. RT_JOBS says how many run side by side.
 
 A change that is printed leaves all laws proved: either it means the same as before, or the laws have a hole. Reading tells which. A
 change that is refused is no sign that a law is false over it: the proof looks at the definition, and that is all. Prints last how
@@ -41,6 +41,7 @@ SWAPS = [
     (r"\bnat_lt\b", "nat_le"), (r"\bnat_le\b", "nat_lt"), (r" \+ 1\b", " + 2"), (r" - 1\b", " - 2"),
     (r"^filter \(.*\) (\S+)$", r"\1"), (r"\b(?:first_each \S+|sorted_names|reverse) ", ""),
     (r"(\S+) \+\+ (\S+|\([^()]*\)) ∷ \[\]", r"\2 ∷ \1"),
+    (r"\(([^()≡]+) ≡ [^()≡]+\)", r"(\1 ≡ \1)"), (r" < ", " ≤ "), (r" ≤ ", " < "),
 ]
 # A line of a record that gives a member its value, and what it would be without one.
 MEMBER = re.compile(r"( +)(\w+) = (.+);$")
@@ -51,8 +52,8 @@ EMPTY = {
     "false": "stop escapes has_dropped has_committed is_refused feasible",
 }
 # What a changed line may need of std that its file does not name yet.
-WORDS = {"||": "◌||◌", "&&": "◌&&◌", "∷": "◌∷◌", "[]": "[]", "not": "not", "nat_le": "nat_le", "nat_lt": "nat_lt", "None": "None",
-         "true": "true", "false": "false"}
+WORDS = {"||": "◌||◌", "&&": "◌&&◌", "∷": "◌∷◌", "<": "◌<◌", "≤": "◌≤◌"}
+WORDS |= {word: word for word in ("[]", "not", "nat_le", "nat_lt", "None", "true", "false")}
 
 Change = collections.namedtuple("Change", "file line old new")
 
@@ -106,13 +107,17 @@ def changes():
             yield from (Change(str(file), place, line, other) for other in dict.fromkeys(others) if other != line)
 
 
+def shown(change):
+    return f"{change.file}:{change.line + 1}\n  {change.old.strip()}\n  {change.new.strip()}"
+
+
 def make(change, tree):
     """Makes the change in the tree, and names what it needs."""
     file = pathlib.Path(tree, change.file)
     lines = file.read_text().split("\n")
     lines[change.line] = change.new
     uses = "\n".join(line for line in lines if line.startswith("use "))
-    words = set(re.findall(r"\|\||&&|∷|\[\]|\w+", change.new))
+    words = set(re.findall(r"\|\||&&|[∷<≤]|\[\]|\w+", change.new))
     lacking = [name for word, name in WORDS.items() if word in words and not re.search(rf"[{{ ]{re.escape(name)}[,}}]", uses)]
     if lacking:
         first = next(place for place, line in enumerate(lines) if line.startswith("use "))
@@ -147,8 +152,9 @@ def try_all(chosen, room):
     wrong_models.copy(f"{room}/tree")
     os.makedirs(f"{room}/kept")
     words = [*wrong_models.command(f"{room}/tree", f"{room}/kept", []), "--jobs", str(os.cpu_count())]
-    if subprocess.run(words, cwd=f"{room}/tree", stdout=subprocess.DEVNULL).returncode:
-        print("the laws are not proved as they stand")
+    check = subprocess.run(words, cwd=f"{room}/tree", capture_output=True, text=True)
+    if check.returncode:
+        print(f"the laws are not proved as they stand:\n{check.stdout[-2000:]}")
         return 1
     counts = collections.Counter()
     with concurrent.futures.ThreadPoolExecutor(int(os.environ.get("RT_JOBS") or os.cpu_count())) as pool:
@@ -156,7 +162,7 @@ def try_all(chosen, room):
             known = found in ("refused", "no definition", "unnoticed")
             counts[found if known else "no verdict"] += 1
             if found not in ("refused", "no definition"):
-                print(f"{change.file}:{change.line + 1}: {found.strip()}\n  {change.old.strip()}\n  {change.new.strip()}", flush=True)
+                print(f"{shown(change)}\n  {found.strip()}", flush=True)
     print(", ".join(f"{counts[it]} {it}" for it in ("refused", "no definition", "unnoticed", "no verdict")))
     return 1 if counts["no verdict"] else 0
 
@@ -172,7 +178,7 @@ def main():
     chosen = random.Random(words.seed).sample(made, min(words.count, len(made)))
     if words.list:
         for change in chosen:
-            print(f"{change.file}:{change.line + 1}\n  {change.old.strip()}\n  {change.new.strip()}")
+            print(shown(change))
         print(f"{len(chosen)} of {len(made)} changes")
         return 0
     with tempfile.TemporaryDirectory(prefix="changed-models-") as room:
