@@ -1,9 +1,9 @@
 -- Laws of requests as bytes: how long their heads may be, what is read of them, and which one is the last.
-use Rattle.std.specs.Prelude.{◌≡◌, ◌↔◌, ℕ, ◌≤◌, Bool, true, List, [], ◌∷◌, ◌++◌, Option, Some, None, codes, length, take}
+use Rattle.std.specs.Prelude.{◌≡◌, ◌≢◌, ◌↔◌, ℕ, ◌≤◌, Bool, true, List, [], ◌∷◌, ◌++◌, Option, Some, None, codes, length, take}
 use Rattle.httparse.specs.Grammar.{HasNoRequest, IsRequestHead, MayBecomeRequest, RequestHead, print_request}
 use Rattle.ns_types.specs.declared.reply.HeadFault.{HeadFault}
-use Rattle.ns_types.specs.Wire.Http.{Clean, Closed, End, IsHead, IsMessage, Message, Received, Refused, RefusesHead}
-use Rattle.ns_types.specs.Wire.Http.{Requests, Takes, Whole, asked_by, is_last, print_message}
+use Rattle.ns_types.specs.Wire.Http.{Clean, Closed, End, IsHead, IsMessage, IsPartial, Message, Partial, Received, Refused}
+use Rattle.ns_types.specs.Wire.Http.{RefusesHead, Requests, Takes, Whole, asked_by, is_last, print_message}
 
 -- A well-formed head is taken exactly if it has at most 16,384 bytes and at most 64 headers.
 abbrev pub HeadLimits : Type 0
@@ -62,3 +62,12 @@ LastOneCloses = (bytes rest : List ℕ) (before later : List Received) (x : Rece
 abbrev pub ClosedByTheLast : Type 0
 ClosedByTheLast = (bytes rest : List ℕ) (received : List Received) → Takes bytes received true rest
     → (before : List Received) × (x : Received) × (received ≡ before ++ x ∷ []) × (is_last x ≡ true)
+
+-- If the bytes end with a whole request, they are those of the requests, and nothing else.
+abbrev pub CleanEndLeavesNothing : Type 0
+CleanEndLeavesNothing = (bytes : List ℕ) (received : List Received) → Requests bytes received Clean → bytes ≡ printed received
+
+-- If they end inside a request, a part of that is left, which is not empty.
+abbrev pub PartialEndLeavesAPart : Type 0
+PartialEndLeavesAPart = (bytes : List ℕ) (received : List Received) → Requests bytes received Partial
+    → (rest : List ℕ) × (bytes ≡ printed received ++ rest) × IsPartial rest × (rest ≢ [])

@@ -9,6 +9,8 @@ ghost use Rattle.ns_laws.specs.Requests.{
   RefusedHeadIsLeft,
   LastOneCloses,
   ClosedByTheLast,
+  CleanEndLeavesNothing,
+  PartialEndLeavesAPart,
 };
 
 /// A well-formed head is taken exactly if it has at most 16,384 bytes and at most 64 headers.
@@ -51,4 +53,14 @@ pub fn last_one_closes()
 /// If the connection is closed, its last request closes it, or has a head that is refused.
 pub fn closed_by_the_last()
     ensures { ClosedByTheLast }
+{}
+
+/// If the bytes end with a whole request, they are those of the requests, and nothing else.
+pub fn clean_end_leaves_nothing()
+    ensures { CleanEndLeavesNothing }
+{}
+
+/// If the bytes end inside a request, a part of that is left, which is not empty.
+pub fn partial_end_leaves_a_part()
+    ensures { PartialEndLeavesAPart }
 {}

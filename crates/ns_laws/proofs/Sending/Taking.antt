@@ -1,6 +1,6 @@
 -- The requests of a connection, one after the other.
-use Rattle.std.specs.Prelude.{◌≡◌, ℕ, Bool, true, false, List, [], ◌∷◌, ◌++◌, MatchBool}
-use Rattle.std.proofs.Common.{refl, sym, ap, subst, ◌∙◌, append_assoc}
+use Rattle.std.specs.Prelude.{◌≡◌, ℕ, Bool, true, false, List, [], ◌∷◌, ◌++◌, MatchBool, length}
+use Rattle.std.proofs.Common.{refl, sym, ap, subst, ◌∙◌, append_assoc, append-nil, arith}
 use Rattle.ns_types.specs.State.Lists.{is_empty}
 use Rattle.ns_types.specs.Wire.Http.{Received, Refused, RefusesHead, Takes, Whole, closes, is_last, print_message}
 use Rattle.ns_types.proofs.Lists.{not_both}
@@ -65,3 +65,17 @@ closed_by_the_last bytes rest (Whole m ∷ received) taken = by (closes m) refl 
         Ends (Whole m ∷ received)
     by true is follows go = ([], Whole m, ap (λ r. Whole m ∷ r) follows.0, is)
     by false is follows go = let ends = go follows in (Whole m ∷ ends.0, ends.1, ap (λ r. Whole m ∷ r) ends.2, ends.3)
+
+-- ---- how the bytes end
+
+pub clean_end_leaves_nothing : law.CleanEndLeavesNothing
+clean_end_leaves_nothing bytes received read = bytes_are_the_requests bytes read.0 received false read.1
+    ∙ ap (λ rest. law.printed received ++ rest) read.2 ∙ append-nil (law.printed received)
+
+pub partial_end_leaves_a_part : law.PartialEndLeavesAPart
+partial_end_leaves_a_part bytes received read = (
+  read.0,
+  bytes_are_the_requests bytes read.0 received false read.1,
+  read.2.0,
+  λ none. absurd (omega (arith, read.2.1, ap length none)),
+)

@@ -1,9 +1,9 @@
 -- The orders of attributes and of classes.
-use Rattle.std.specs.Prelude.{◌≡◌, ◌≢◌, ◌⊎◌, Bool, true, false}
+use Rattle.std.specs.Prelude.{◌≡◌, ◌≢◌, ◌⊎◌, true}
 use Rattle.std.specs.Cmp.{IsTotalOrder, on_total, then_total, tied_itself}
 use Rattle.std.specs.FinMap.{IsAntisymmetric}
 use Rattle.std.specs.Ordering.{eq_by_cmp, is_eq, is_lt, ordering_reverse}
-use Rattle.std.proofs.Common.{Ordering, Equal, Greater, Less, inl, inr, refl, sym, ap, subst, ◌∙◌}
+use Rattle.std.proofs.Common.{Ordering, Equal, Greater, Less, inl, inr, refl, ap, subst, ◌∙◌}
 use Rattle.ns_types.specs.declared.node.Attribute.{Attribute}
 use Rattle.ns_types.specs.State.Names.{attribute_cmp, class_cmp}
 use Rattle.ns_types.proofs.Classes.{by_class, one_attribute, one_class}
