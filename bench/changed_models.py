@@ -145,6 +145,8 @@ def verdict(change, room, number):
                 check.kill()
                 break
     shutil.rmtree(own)
+    if last.startswith("logic=not-proved"):
+        found = "refused"
     return found or ("unnoticed" if check.returncode == 0 else last)
 
 
