@@ -3,26 +3,22 @@ use Rattle.std.specs.Prelude.{◌≡◌, ◌⊎◌, true, false, not, ◌&&◌, 
 use Rattle.std.proofs.Common.{refl, sym, ap, ◌∙◌, inl, inr}
 use Rattle.std.specs.List.{Contains}
 use Rattle.ns_types.specs.declared.allocation.ClientStatus.{ClientStatus}
-use Rattle.ns_types.specs.declared.allocation.DesiredStatus.{DesiredStatus}
 use Rattle.ns_types.specs.declared.evaluation.Status.{Status}
 use Rattle.ns_types.specs.declared.node.Attribute.{Attribute}
-use Rattle.ns_types.specs.declared.node.NodeStatus.{NodeStatus}
 use Rattle.ns_types.specs.State.Names.{same_name}
 use Rattle.ns_types.specs.State.Rows.{class_of, is_blocked, is_complete, is_held, is_live, is_open, is_pending, is_ready}
 use Rattle.ns_types.specs.State.Rows.{is_run, is_unique}
 use Rattle.ns_types.proofs.Lists.{not_both}
 use Rattle.ns_types.proofs.Named.{first_of_both, second_of_both, same_name_is, same_name_refl}
 use Rattle.ns_types.proofs.Tests.{is_no}
+use Rattle.ns_audit.proofs.Alone.Orderly.{blocked_is, pending_is}
 use Rattle.ns_laws.specs.Statuses as law
+use Rattle.ns_laws.proofs.Effect.Reports.{runs}
 use Rattle.ns_laws.proofs.Elements.{contains_from, filter_has, has_filter, has_from}
 use Rattle.ns_laws.proofs.Matching.{both_true, prefixes_begin}
+use Rattle.ns_laws.proofs.Plans.Planning.{ready_is}
 
 -- ---- statuses
-
-to_run : (desired : DesiredStatus) → is_run desired ≡ true → desired ≡ DesiredStatus.Run
-to_run DesiredStatus.Run e = refl
-to_run DesiredStatus.Stop e = not_both e refl
-to_run DesiredStatus.Evict e = not_both e refl
 
 held : (client : ClientStatus) → is_held client ≡ true → (client ≡ ClientStatus.Pending) ⊎ (client ≡ ClientStatus.Running)
 held ClientStatus.Pending e = inl refl
@@ -42,13 +38,9 @@ complete ClientStatus.Complete e = refl
 complete ClientStatus.Failed e = not_both e refl
 complete ClientStatus.Lost e = not_both e refl
 
-ready : (status : NodeStatus) → is_ready status ≡ true → status ≡ NodeStatus.Ready
-ready NodeStatus.Ready e = refl
-ready NodeStatus.Down e = not_both e refl
-
 pub live_allocations : law.LiveAllocations
 live_allocations a = (
-  λ e. (to_run a.desired (first_of_both (is_run a.desired) (is_held a.client) e), held a.client (second_of_both (is_run a.desired) (is_held a.client) e)),
+  λ e. (runs a.desired (first_of_both (is_run a.desired) (is_held a.client) e), held a.client (second_of_both (is_run a.desired) (is_held a.client) e)),
   λ is. both_true (is_run a.desired) (is_held a.client) (ap is_run is.0) (held_is a.client is.1),
 )
 
@@ -66,7 +58,7 @@ live_on_nodes pool node a = (
 pub done_allocations : law.DoneAllocations
 done_allocations a = (
   λ e. (
-    to_run a.desired (first_of_both (is_run a.desired) (is_complete a.client) e),
+    runs a.desired (first_of_both (is_run a.desired) (is_complete a.client) e),
     complete a.client (second_of_both (is_run a.desired) (is_complete a.client) e),
   ),
   λ is. both_true (is_run a.desired) (is_complete a.client) (ap is_run is.0) (ap is_complete is.1),
@@ -87,25 +79,11 @@ open_evaluations status = (to status, from)
     from (inr e) = ap is_open e
 
 pub pending_and_blocked : law.PendingAndBlocked
-pending_and_blocked status = ((pending status, ap is_pending), (blocked status, ap is_blocked))
-  where
-    pending : (status : Status) → is_pending status ≡ true → status ≡ Status.Pending
-    pending Status.Pending e = refl
-    pending Status.Blocked e = not_both e refl
-    pending Status.Complete e = not_both e refl
-    pending Status.Failed e = not_both e refl
-    pending Status.Canceled e = not_both e refl
-
-    blocked : (status : Status) → is_blocked status ≡ true → status ≡ Status.Blocked
-    blocked Status.Pending e = not_both e refl
-    blocked Status.Blocked e = refl
-    blocked Status.Complete e = not_both e refl
-    blocked Status.Failed e = not_both e refl
-    blocked Status.Canceled e = not_both e refl
+pending_and_blocked status = ((pending_is status, ap is_pending), (blocked_is status, ap is_blocked))
 
 pub free_nodes : law.FreeNodes
 free_nodes node = (
-  λ e. (ready node.status (first_of_both (is_ready node.status) node.eligible e), second_of_both (is_ready node.status) node.eligible e),
+  λ e. (ready_is node.status (first_of_both (is_ready node.status) node.eligible e), second_of_both (is_ready node.status) node.eligible e),
   λ is. both_true (is_ready node.status) node.eligible (ap is_ready is.0) is.1,
 )
 

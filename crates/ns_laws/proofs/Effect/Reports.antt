@@ -24,7 +24,7 @@ use Rattle.ns_laws.specs.Effects.{IsBatch, CallsForEvaluation, MakesNone}
 use Rattle.ns_laws.proofs.Effect.Evaluations.{row_rests, settled_keeps, settled_number}
 use Rattle.ns_laws.proofs.Effect.Rows.{settled_rows}
 
-runs : (d : DesiredStatus) → is_run d ≡ true → d ≡ DesiredStatus.Run
+pub runs : (d : DesiredStatus) → is_run d ≡ true → d ≡ DesiredStatus.Run
 runs DesiredStatus.Run e = refl
 runs DesiredStatus.Stop e = not_both e refl
 runs DesiredStatus.Evict e = not_both e refl

@@ -383,7 +383,7 @@ module _ (name : List ℕ) (node : Node) where
   meets_each : (cs : List Constraint) → list_all (holds name node) cs ≡ true → Each (λ c. law.Meets name node c.operand c.target c.value) cs
   meets_each cs e = each_map (λ c h. meets_by c.operand c.target c.value h) cs (each_from_all (holds name node) cs e)
 
-ready_is : (status : NodeStatus) → is_ready status ≡ true → status ≡ NodeStatus.Ready
+pub ready_is : (status : NodeStatus) → is_ready status ≡ true → status ≡ NodeStatus.Ready
 ready_is NodeStatus.Ready e = refl
 ready_is NodeStatus.Down e = not_both e refl
 

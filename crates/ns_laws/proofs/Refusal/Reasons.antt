@@ -12,7 +12,6 @@ use Rattle.ns_types.specs.declared.allocation.Allocation.{Allocation}
 use Rattle.ns_types.specs.declared.job.Job.{Job}
 use Rattle.ns_types.specs.declared.job.Registration.{Registration}
 use Rattle.ns_types.specs.declared.node.Node.{Node}
-use Rattle.ns_types.specs.declared.node.NodeStatus.{NodeStatus}
 use Rattle.ns_types.specs.declared.records.Namespace.{Namespace}
 use Rattle.ns_types.specs.declared.refusal.Member.{Member}
 use Rattle.ns_types.specs.declared.refusal.Refusal.{Refusal}
@@ -51,6 +50,7 @@ use Rattle.ns_laws.proofs.Refusal.Tests.{Exceeds, Has, Outside, Passing, Row, de
 use Rattle.ns_laws.proofs.Refusal.Tests.{decides_named, decides_names, decides_needs, decides_option, decides_outside, decides_rows, decides_same}
 use Rattle.ns_laws.proofs.Refusal.Tests.{may_not_become, no_successor, same_client_is}
 use Rattle.ns_audit.proofs.RightsLemmas.{denied_without}
+use Rattle.ns_laws.proofs.Plans.Planning.{ready_is}
 use Rattle.ns_laws.proofs.Scope.Sharing.{found_in, has_contained}
 use Rattle.ns_audit.proofs.StepLemmas.{same_answer, not_refused, not_said}
 use Rattle.ns_laws.proofs.Access.Tokens.{row_of_secret, secret_is}
@@ -135,10 +135,6 @@ present : {A : Type 0} (o : Option A) → is_some o ≡ true → Has (λ (x : A)
 present None e = not_both e refl
 present (Some x) e = record { thing = x; is_thing = refl; holds = tt }
 
-is_ready_node : (status : NodeStatus) → is_ready status ≡ true → status ≡ NodeStatus.Ready
-is_ready_node NodeStatus.Ready e = refl
-is_ready_node NodeStatus.Down e = not_both e refl
-
 -- ---- each refusal has a reason
 
 module _ (s : State) where
@@ -213,7 +209,7 @@ module _ (s : State) where
         (λ e. HasReason.no_room (LacksRoom.nodes p is ((decides_full p.nodes name most_nodes).0 e))) (λ _. tt))
     pool_why (NodeCommand.DeleteNode name) = holds_found _ (get p.nodes name) _ (λ e. missing_node (NodeCommand.DeleteNode name) (node_here name None e))
         (λ node at. holds_unless _ (is_ready node.status) Refusal.InUse _
-        (λ e. HasReason.in_use (IsInUse.delete_node node (node_here name (Some node) at) (is_ready_node node.status e))) (λ _. tt))
+        (λ e. HasReason.in_use (IsInUse.delete_node node (node_here name (Some node) at) (ready_is node.status e))) (λ _. tt))
     pool_why (NodeCommand.SetStatus name status) =
         holds_found _ (get p.nodes name) _ (λ e. missing_node (NodeCommand.SetStatus name status) (node_here name None e)) (λ node at. tt)
     pool_why (NodeCommand.SetEligible name eligible) =
