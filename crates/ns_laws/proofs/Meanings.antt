@@ -1,11 +1,18 @@
 -- What statuses mean, and which attributes a class has.
-use Rattle.std.specs.Prelude.{◌≡◌, ◌⊎◌, true, false, not, ◌&&◌, codes}
+use Rattle.std.specs.Prelude.{◌≡◌, ◌⊎◌, ℕ, true, false, not, ◌&&◌, Option, Some, None, codes}
 use Rattle.std.proofs.Common.{refl, sym, ap, ◌∙◌, inl, inr}
+use Rattle.std.specs.FinMap.{get}
 use Rattle.std.specs.List.{Contains}
+use Rattle.std.specs.Option.{option_map_or}
+use Rattle.ns_types.specs.declared.allocation.Allocation.{Allocation}
 use Rattle.ns_types.specs.declared.allocation.ClientStatus.{ClientStatus}
 use Rattle.ns_types.specs.declared.evaluation.Status.{Status}
+use Rattle.ns_types.specs.declared.evaluation.Trigger.{Trigger}
+use Rattle.ns_types.specs.declared.job.Job.{Job}
+use Rattle.ns_types.specs.declared.job.JobKind.{JobKind}
 use Rattle.ns_types.specs.declared.node.Attribute.{Attribute}
-use Rattle.ns_types.specs.State.Names.{same_name}
+use Rattle.ns_types.specs.Settling.Making.{evaluation_of, new_evaluation}
+use Rattle.ns_types.specs.State.Names.{Name, same_name}
 use Rattle.ns_types.specs.State.Rows.{class_of, is_blocked, is_complete, is_held, is_live, is_open, is_pending, is_ready}
 use Rattle.ns_types.specs.State.Rows.{is_run, is_unique}
 use Rattle.ns_types.proofs.Lists.{not_both}
@@ -86,6 +93,27 @@ free_nodes node = (
   λ e. (ready_is node.status (first_of_both (is_ready node.status) node.eligible e), second_of_both (is_ready node.status) node.eligible e),
   λ is. both_true (is_ready node.status) node.eligible (ap is_ready is.0) is.1,
 )
+
+-- ---- new evaluations
+
+fresh : (job : Name) (kind : JobKind) (priority : ℕ) (pool : Name) (trigger : Trigger) → law.IsFresh (new_evaluation job kind priority pool trigger)
+fresh job kind priority pool trigger = record {
+  is_pending = refl;
+  no_nacks = refl;
+  follows_none = refl;
+  no_follower = refl;
+  no_quota = refl;
+  no_escape = refl;
+  no_class = refl;
+}
+
+pub new_evaluations : law.NewEvaluations
+new_evaluations = (λ job document trigger. fresh job document.kind document.priority document.pool trigger, λ t a trigger. by a trigger (get t.jobs a.job))
+  where
+    by : (a : Allocation) (trigger : Trigger) (o : Option Job) → law.IsFresh (option_map_or (λ job. evaluation_of a.job job.document trigger) o
+        (new_evaluation a.job JobKind.Service a.priority a.pool trigger))
+    by a trigger None = fresh a.job JobKind.Service a.priority a.pool trigger
+    by a trigger (Some job) = fresh a.job job.document.kind job.document.priority job.document.pool trigger
 
 -- ---- classes
 

@@ -1,15 +1,19 @@
--- Laws of what statuses mean, and of the class of a node.
-use Rattle.std.specs.Prelude.{◌≡◌, ◌↔◌, ◌⊎◌, ◌++◌, ℕ, List, IsTrue, IsFalse, codes}
+-- Laws of what statuses mean, of new evaluations, and of the class of a node.
+use Rattle.std.specs.Prelude.{◌≡◌, ◌↔◌, ◌⊎◌, ◌++◌, ℕ, List, [], None, IsTrue, IsFalse, codes}
 use Rattle.std.specs.List.{Contains}
 use Rattle.ns_types.specs.declared.allocation.Allocation.{Allocation}
 use Rattle.ns_types.specs.declared.allocation.ClientStatus.{ClientStatus}
 use Rattle.ns_types.specs.declared.allocation.DesiredStatus.{DesiredStatus}
+use Rattle.ns_types.specs.declared.evaluation.Evaluation.{Evaluation}
 use Rattle.ns_types.specs.declared.evaluation.Status.{Status}
+use Rattle.ns_types.specs.declared.evaluation.Trigger.{Trigger}
+use Rattle.ns_types.specs.declared.job.Document.{Document}
 use Rattle.ns_types.specs.declared.node.Attribute.{Attribute}
 use Rattle.ns_types.specs.declared.node.Node.{Node}
 use Rattle.ns_types.specs.declared.node.NodeStatus.{NodeStatus}
+use Rattle.ns_types.specs.Settling.Making.{evaluation_for, evaluation_of}
 use Rattle.ns_types.specs.State.Names.{Name}
-use Rattle.ns_types.specs.State.Rows.{class_of, is_blocked, is_done, is_free, is_live, is_live_on, is_open}
+use Rattle.ns_types.specs.State.Rows.{Tenant, class_of, is_blocked, is_done, is_free, is_live, is_live_on, is_open}
 use Rattle.ns_types.specs.State.Rows.{is_pending, is_unique}
 
 -- An allocation is live exactly if it is to run, and its client says that it is pending or running.
@@ -48,3 +52,18 @@ UniqueKeys = (key : Name) → IsTrue (is_unique key) ↔ (rest : List ℕ) × (k
 abbrev pub ClassesOfNodes : Type 0
 ClassesOfNodes = (node : Node) → ((class_of node).name ≡ node.offer.class)
     × ((a : Attribute) → Contains (class_of node).attributes a ↔ Contains node.offer.attributes a × IsFalse (is_unique a.key))
+
+-- the evaluation was never given back, follows none and is followed by none, and was never blocked
+pub record IsFresh (e : Evaluation) : Type 0 where
+  pub is_pending : e.status ≡ Status.Pending
+  pub no_nacks : e.nacks ≡ 0
+  pub follows_none : e.previous ≡ None
+  pub no_follower : e.follower ≡ None
+  pub no_quota : e.quota ≡ None
+  pub no_escape : IsFalse e.escapes
+  pub no_class : e.infeasible ≡ []
+
+-- An evaluation that is made for a job, or for the job of an allocation, begins so.
+abbrev pub NewEvaluations : Type 0
+NewEvaluations = ((job : Name) (document : Document) (trigger : Trigger) → IsFresh (evaluation_of job document trigger))
+    × ((t : Tenant) (a : Allocation) (trigger : Trigger) → IsFresh (evaluation_for t a trigger))

@@ -1,4 +1,4 @@
-//! Laws of what statuses mean, and of the class of a node.
+//! Laws of what statuses mean, of new evaluations, and of the class of a node.
 
 ghost use Rattle.ns_laws.specs.Statuses.{
   ClassesOfNodes,
@@ -6,6 +6,7 @@ ghost use Rattle.ns_laws.specs.Statuses.{
   FreeNodes,
   LiveAllocations,
   LiveOnNodes,
+  NewEvaluations,
   OpenEvaluations,
   PendingAndBlocked,
   UniqueKeys,
@@ -49,4 +50,10 @@ pub fn unique_keys()
 /// A node's class has the node's class name, and those of its attributes that are not unique to it.
 pub fn classes_of_nodes()
     ensures { ClassesOfNodes }
+{}
+
+/// An evaluation that is made for a job, or for the job of an allocation, is pending. It was never given back, follows none and is
+/// followed by none, and was never blocked.
+pub fn new_evaluations()
+    ensures { NewEvaluations }
 {}
