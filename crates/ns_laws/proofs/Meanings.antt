@@ -1,5 +1,6 @@
 -- What statuses mean, and which attributes a class has.
-use Rattle.std.specs.Prelude.{◌≡◌, ◌⊎◌, ℕ, true, false, not, ◌&&◌, Option, Some, None, codes}
+use Rattle.std.specs.Prelude.{◌≡◌, ◌<◌, ◌⊎◌, ℕ, suc, true, false, not, ◌&&◌, ◌||◌, Option, Some, None, codes, nat_lt}
+use Rattle.std.proofs.lemmas.Bool.{leb-true, le-leb, or_right}
 use Rattle.std.proofs.Common.{refl, sym, ap, ◌∙◌, inl, inr}
 use Rattle.std.specs.FinMap.{get}
 use Rattle.std.specs.List.{Contains}
@@ -15,9 +16,10 @@ use Rattle.ns_types.specs.Settling.Making.{evaluation_of, new_evaluation}
 use Rattle.ns_types.specs.State.Names.{Name, same_name}
 use Rattle.ns_types.specs.State.Rows.{class_of, is_blocked, is_complete, is_held, is_live, is_open, is_pending, is_ready}
 use Rattle.ns_types.specs.State.Rows.{is_run, is_unique}
+use Rattle.ns_types.specs.Steps.{greatest, is_tenant_past_bound}
 use Rattle.ns_types.proofs.Lists.{not_both}
 use Rattle.ns_types.proofs.Named.{first_of_both, second_of_both, same_name_is, same_name_refl}
-use Rattle.ns_types.proofs.Tests.{is_no}
+use Rattle.ns_types.proofs.Tests.{either_of, is_no}
 use Rattle.ns_audit.proofs.Alone.Orderly.{blocked_is, pending_is}
 use Rattle.ns_laws.specs.Statuses as law
 use Rattle.ns_laws.proofs.Effect.Reports.{runs}
@@ -114,6 +116,34 @@ new_evaluations = (λ job document trigger. fresh job document.kind document.pri
         (new_evaluation a.job JobKind.Service a.priority a.pool trigger))
     by a trigger None = fresh a.job JobKind.Service a.priority a.pool trigger
     by a trigger (Some job) = fresh a.job job.document.kind job.document.priority job.document.pool trigger
+
+-- ---- bounds
+
+above : (n : ℕ) → nat_lt greatest n ≡ true → greatest < n
+above n e = leb-true (suc greatest) n e
+
+pub namespaces_past_bound : law.NamespacesPastBound
+namespaces_past_bound t = (
+  λ e. by (either_of (nat_lt greatest t.index || nat_lt greatest t.evaluation_number) (nat_lt greatest t.allocation_number) e),
+  from,
+)
+  where
+    first : (nat_lt greatest t.index ≡ true) ⊎ (nat_lt greatest t.evaluation_number ≡ true) →
+        (greatest < t.index) ⊎ (greatest < t.evaluation_number) ⊎ (greatest < t.allocation_number)
+    first (inl e) = inl (above t.index e)
+    first (inr e) = inr (inl (above t.evaluation_number e))
+
+    by : ((nat_lt greatest t.index || nat_lt greatest t.evaluation_number) ≡ true) ⊎ (nat_lt greatest t.allocation_number ≡ true) →
+        (greatest < t.index) ⊎ (greatest < t.evaluation_number) ⊎ (greatest < t.allocation_number)
+    by (inl e) = first (either_of (nat_lt greatest t.index) (nat_lt greatest t.evaluation_number) e)
+    by (inr e) = inr (inr (above t.allocation_number e))
+
+    from : (greatest < t.index) ⊎ (greatest < t.evaluation_number) ⊎ (greatest < t.allocation_number) → is_tenant_past_bound t ≡ true
+    from (inl more) = ap (λ b. b || nat_lt greatest t.evaluation_number || nat_lt greatest t.allocation_number) (le-leb (suc greatest) t.index more)
+    from (inr (inl more)) = ap (λ b. b || nat_lt greatest t.allocation_number) (or_right (nat_lt greatest t.index) (nat_lt greatest t.evaluation_number)
+        (le-leb (suc greatest) t.evaluation_number more))
+    from (inr (inr more)) = or_right (nat_lt greatest t.index || nat_lt greatest t.evaluation_number) (nat_lt greatest t.allocation_number)
+        (le-leb (suc greatest) t.allocation_number more)
 
 -- ---- classes
 

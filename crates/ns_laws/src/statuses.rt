@@ -6,6 +6,7 @@ ghost use Rattle.ns_laws.specs.Statuses.{
   FreeNodes,
   LiveAllocations,
   LiveOnNodes,
+  NamespacesPastBound,
   NewEvaluations,
   OpenEvaluations,
   PendingAndBlocked,
@@ -56,4 +57,9 @@ pub fn classes_of_nodes()
 /// followed by none, and was never blocked.
 pub fn new_evaluations()
     ensures { NewEvaluations }
+{}
+
+/// A namespace is past a bound exactly if its index, the number of its evaluations or that of its allocations is.
+pub fn namespaces_past_bound()
+    ensures { NamespacesPastBound }
 {}
