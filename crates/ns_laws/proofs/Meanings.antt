@@ -1,5 +1,5 @@
 -- What statuses mean, and which attributes a class has.
-use Rattle.std.specs.Prelude.{◌≡◌, ◌<◌, ◌⊎◌, ℕ, suc, true, false, not, ◌&&◌, ◌||◌, Option, Some, None, codes, nat_lt}
+use Rattle.std.specs.Prelude.{◌≡◌, ◌≤◌, ◌^◌, ◌⊎◌, ℕ, suc, true, false, not, ◌&&◌, ◌||◌, Option, Some, None, codes, nat_lt}
 use Rattle.std.proofs.lemmas.Bool.{leb-true, le-leb, or_right}
 use Rattle.std.proofs.Common.{refl, sym, ap, ◌∙◌, inl, inr}
 use Rattle.std.specs.FinMap.{get}
@@ -61,7 +61,8 @@ live_on_nodes pool node a = (
     sym (same_name_is node a.node (second_of_both (same_name pool a.pool) (same_name node a.node) at)),
   ),
   λ is. both_true (is_live a) (same_name pool a.pool && same_name node a.node) is.0
-      (both_true (same_name pool a.pool) (same_name node a.node) (ap (same_name pool) is.1 ∙ same_name_refl pool) (ap (same_name node) is.2 ∙ same_name_refl node)),
+      (both_true (same_name pool a.pool) (same_name node a.node) (ap (same_name pool) is.1 ∙ same_name_refl pool)
+      (ap (same_name node) is.2 ∙ same_name_refl node)),
 )
 
 pub done_allocations : law.DoneAllocations
@@ -119,7 +120,7 @@ new_evaluations = (λ job document trigger. fresh job document.kind document.pri
 
 -- ---- bounds
 
-above : (n : ℕ) → nat_lt greatest n ≡ true → greatest < n
+above : (n : ℕ) → nat_lt greatest n ≡ true → 2 ^ 64 ≤ n
 above n e = leb-true (suc greatest) n e
 
 pub namespaces_past_bound : law.NamespacesPastBound
@@ -129,16 +130,16 @@ namespaces_past_bound t = (
 )
   where
     first : (nat_lt greatest t.index ≡ true) ⊎ (nat_lt greatest t.evaluation_number ≡ true) →
-        (greatest < t.index) ⊎ (greatest < t.evaluation_number) ⊎ (greatest < t.allocation_number)
+        (2 ^ 64 ≤ t.index) ⊎ (2 ^ 64 ≤ t.evaluation_number) ⊎ (2 ^ 64 ≤ t.allocation_number)
     first (inl e) = inl (above t.index e)
     first (inr e) = inr (inl (above t.evaluation_number e))
 
     by : ((nat_lt greatest t.index || nat_lt greatest t.evaluation_number) ≡ true) ⊎ (nat_lt greatest t.allocation_number ≡ true) →
-        (greatest < t.index) ⊎ (greatest < t.evaluation_number) ⊎ (greatest < t.allocation_number)
+        (2 ^ 64 ≤ t.index) ⊎ (2 ^ 64 ≤ t.evaluation_number) ⊎ (2 ^ 64 ≤ t.allocation_number)
     by (inl e) = first (either_of (nat_lt greatest t.index) (nat_lt greatest t.evaluation_number) e)
     by (inr e) = inr (inr (above t.allocation_number e))
 
-    from : (greatest < t.index) ⊎ (greatest < t.evaluation_number) ⊎ (greatest < t.allocation_number) → is_tenant_past_bound t ≡ true
+    from : (2 ^ 64 ≤ t.index) ⊎ (2 ^ 64 ≤ t.evaluation_number) ⊎ (2 ^ 64 ≤ t.allocation_number) → is_tenant_past_bound t ≡ true
     from (inl more) = ap (λ b. b || nat_lt greatest t.evaluation_number || nat_lt greatest t.allocation_number) (le-leb (suc greatest) t.index more)
     from (inr (inl more)) = ap (λ b. b || nat_lt greatest t.allocation_number) (or_right (nat_lt greatest t.index) (nat_lt greatest t.evaluation_number)
         (le-leb (suc greatest) t.evaluation_number more))

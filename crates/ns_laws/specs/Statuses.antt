@@ -1,5 +1,5 @@
 -- Laws of what statuses mean, of new evaluations, and of the class of a node.
-use Rattle.std.specs.Prelude.{◌≡◌, ◌<◌, ◌↔◌, ◌⊎◌, ◌++◌, ℕ, List, [], None, IsTrue, IsFalse, codes}
+use Rattle.std.specs.Prelude.{◌≡◌, ◌≤◌, ◌^◌, ◌↔◌, ◌⊎◌, ◌++◌, ℕ, List, [], None, IsTrue, IsFalse, codes}
 use Rattle.std.specs.List.{Contains}
 use Rattle.ns_types.specs.declared.allocation.Allocation.{Allocation}
 use Rattle.ns_types.specs.declared.allocation.ClientStatus.{ClientStatus}
@@ -13,7 +13,7 @@ use Rattle.ns_types.specs.declared.node.Node.{Node}
 use Rattle.ns_types.specs.declared.node.NodeStatus.{NodeStatus}
 use Rattle.ns_types.specs.Settling.Making.{evaluation_for, evaluation_of}
 use Rattle.ns_types.specs.State.Names.{Name}
-use Rattle.ns_types.specs.Steps.{greatest, is_tenant_past_bound}
+use Rattle.ns_types.specs.Steps.{is_tenant_past_bound}
 use Rattle.ns_types.specs.State.Rows.{Tenant, class_of, is_blocked, is_done, is_free, is_live, is_live_on, is_open}
 use Rattle.ns_types.specs.State.Rows.{is_pending, is_unique}
 
@@ -69,7 +69,7 @@ abbrev pub NewEvaluations : Type 0
 NewEvaluations = ((job : Name) (document : Document) (trigger : Trigger) → IsFresh (evaluation_of job document trigger))
     × ((t : Tenant) (a : Allocation) (trigger : Trigger) → IsFresh (evaluation_for t a trigger))
 
--- A namespace is past a bound exactly if its index, the number of its evaluations or that of its allocations is.
+-- A namespace is past a bound exactly if its index, evaluation number or allocation number is 2^64 or more.
 abbrev pub NamespacesPastBound : Type 0
 NamespacesPastBound = (t : Tenant) → IsTrue (is_tenant_past_bound t)
-    ↔ (greatest < t.index) ⊎ (greatest < t.evaluation_number) ⊎ (greatest < t.allocation_number)
+    ↔ (2 ^ 64 ≤ t.index) ⊎ (2 ^ 64 ≤ t.evaluation_number) ⊎ (2 ^ 64 ≤ t.allocation_number)

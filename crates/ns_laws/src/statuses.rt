@@ -59,7 +59,7 @@ pub fn new_evaluations()
     ensures { NewEvaluations }
 {}
 
-/// A namespace is past a bound exactly if its index, the number of its evaluations or that of its allocations is.
+/// A namespace is past a bound exactly if its index, evaluation number or allocation number is 2^64 or more.
 pub fn namespaces_past_bound()
     ensures { NamespacesPastBound }
 {}
