@@ -148,14 +148,14 @@ module _ (s : State) (number : ℕ) (ns : Name) (planned : Snapshot) where
   foreign_plan _ (RefusesPlan.foreign x turn other) e = (x, turn.0, snapped x.phase turn.1, other)
   foreign_plan _ (RefusesPlan.empty x turn kept nothing) e = not_both e refl
 
-  ending : (worker : Worker) (phase : Phase) → worker.phase ≡ phase → is_ending phase worker.tries ≡ true → law.MayEnd worker
+  ending : (worker : Worker) (phase : Phase) → worker.phase ≡ phase → is_ending phase worker.tries ≡ true → law.MightEnd worker
   ending worker Phase.Took is e = not_both e refl
   ending worker Phase.Snapped is e = inl is
   ending worker Phase.Submitted is e = not_both e refl
   ending worker Phase.Applied is e = inr (inl is)
   ending worker Phase.Dropped is e = inr (inr (is, eqb-true worker.tries 0 e))
 
-  foreign_finish : (refusal : Refusal) → RefusesFinish s.world number ns planned refusal → is_foreign refusal ≡ true → ForeignIn law.MayEnd
+  foreign_finish : (refusal : Refusal) → RefusesFinish s.world number ns planned refusal → is_foreign refusal ≡ true → ForeignIn law.MightEnd
   unfolding is_foreign
   foreign_finish _ (RefusesFinish.idle none) e = not_both e refl
   foreign_finish _ (RefusesFinish.out_of_turn x is late) e = not_both e refl

@@ -58,12 +58,12 @@ OwnFinishIsRefusedOnlySo = (s : State) (number : ℕ) (ns : Name) (planned : Sna
     → RefusesFinish s.world number ns planned refusal → after (Step.Finish number ns) s ≡ None
 
 -- the worker has taken a snapshot and not submitted since, all of its plan was applied, or it has no tries left
-abbrev pub MayEnd : Worker → Type 0
-MayEnd worker = (worker.phase ≡ Phase.Snapped) ⊎ (worker.phase ≡ Phase.Applied)
+abbrev pub MightEnd : Worker → Type 0
+MightEnd worker = (worker.phase ≡ Phase.Snapped) ⊎ (worker.phase ≡ Phase.Applied)
     ⊎ ((worker.phase ≡ Phase.Dropped) × (worker.tries ≡ 0))
 
 -- A finish is refused as foreign only while the worker might end its evaluation, and only if it keeps another snapshot.
 abbrev pub ForeignFinishOnlySo : Type 0
 ForeignFinishOnlySo = (s : State) (number : ℕ) (ns : Name) (planned : Snapshot)
     → RefusesFinish s.world number ns planned Refusal.Foreign
-    → (worker : Worker) × (worker_at s.world number ns ≡ Some worker) × MayEnd worker × KeepsOther worker planned
+    → (worker : Worker) × (worker_at s.world number ns ≡ Some worker) × MightEnd worker × KeepsOther worker planned
